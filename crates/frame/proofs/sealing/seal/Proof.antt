@@ -1,0 +1,45 @@
+use mathlib.Core.Path.{sym, ap, _∙_}
+use Prim.Native.Nat.{ℕ}
+use native.Mathlib.Omega.{arith}
+use lib.Seq.{length-take-le}
+use Rattle.words.specs.Number.{bytesOf}
+use Rattle.words.specs.Place.{written, written-past}
+use Rattle.frame.specs.Sealing.{sealed}
+use borrow.Author.Needs.{needs}
+use Rattle.frame.proofs.sealing.seal.Statement.{statement}
+use Rattle.frame.proofs.sealing.seal.Tie as tie
+
+slice-reshare-prefix-crc16 : tie.Need-slice-reshare-prefix-crc16
+slice-reshare-prefix-crc16 c = search needs
+
+slice-aggregate-crc16 : tie.Need-slice-aggregate-crc16
+slice-aggregate-crc16 c = sym (length-take-le (c .before .before .before .args .n) (c .before .before .before .args .out .now) (omega arith))
+
+crc16-requires : tie.Need-crc16-requires
+crc16-requires c κs = search needs
+
+put-u16-requires : tie.Need-put-u16-requires
+put-u16-requires c κs = search needs
+
+same-length : tie.Need-same-length
+same-length c = search needs
+
+returns : tie.Need-returns
+unfolding sealed
+returns c = c .before .before .put-u16 .ensures ∙ ap (λ (x : ℕ). written (c .before .before .before .before .before .before .before .before .args .out .now) (c .before .before .before .before .before .before .before .before .args .n) (bytesOf 2 x)) (c .before .before .before .before .crc16 .ensures)
+
+returns-2 : tie.Need-returns-2
+unfolding sealed
+returns-2 c = sym (written-past _ _ _ (c .if1 .left))
+
+pub seal-spec : {M : Type 1} → statement M
+seal-spec =
+    tie.close
+    (tie.spec
+    slice-reshare-prefix-crc16
+    slice-aggregate-crc16
+    crc16-requires
+    put-u16-requires
+    same-length
+    returns
+    returns-2)
