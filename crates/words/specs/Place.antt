@@ -6,7 +6,7 @@ use Prim.Native.Nat.{ℕ, zero, suc, _+_, _*_, _/_, _%_, _^_, _≤_, _<_}
 use native.Mathlib.Nat.{add-zero, add-suc, suc-add, zero-add, not-suc-le-zero}
 use native.Mathlib.Omega.{arith}
 use lib.ListN.{length, getD, take, drop, set, length-set, drop-of-length-le}
-use lib.Seq.{sets, sets-eq, take-set-le, drop-set-lt, take-nil, take-at, drop-at, drop-drop, length-take-le, getD-set-same, getD-set-other, set-out}
+use lib.Seq.{sets, sets-eq, take-set-le, drop-set-lt, take-nil, take-at, drop-at, drop-drop, drop-append-add, length-take-le, getD-set-same, getD-set-other, set-out}
 use Rattle.words.specs.Number.{number, bytesOf, length-bytesOf, number-bytesOf, bytesOf-low, bytesOf-split, number-split}
 
 -- the byte at place i
@@ -35,6 +35,10 @@ written-append s i [] ys = rw add-zero
 written-append s i (x ∷ xs) ys =
     written-append (set s i x) (suc i) xs ys
     ∙ ap (λ (k : ℕ). written (written (set s i x) (suc i) xs) k ys) (suc-add i (length xs) ∙ sym (add-suc i (length xs)))
+
+pub written-cons : (s : List ℕ) (i a b : ℕ) (bs : List ℕ)
+    → written s i (a ∷ b ∷ bs) ≡ written (written s i (a ∷ [])) (i + 1) (b ∷ bs)
+written-cons s i a b bs = written-append s i (a ∷ []) (b ∷ bs)
 
 -- written bytes are those of the kit's run of stores
 pub written-sets : (s : List ℕ) (i : ℕ) (bs : List ℕ) → written s i bs ≡ sets s i bs
@@ -111,6 +115,20 @@ numberAt-written s i k n h =
     ap (λ (m : ℕ). number (take m (drop i (written s i (bytesOf k n))))) (sym (length-bytesOf k n))
     ∙ ap number (part-written s i (bytesOf k n) (rw length-bytesOf h))
     ∙ number-bytesOf k n
+
+-- ---- bytes put one behind the other
+
+pub numberAt-front : (k n : ℕ) (rest : List ℕ) → numberAt (bytesOf k n ++ rest) 0 k ≡ n % 256 ^ k
+unfolding numberAt
+numberAt-front k n rest = ap number (take-at (bytesOf k n) rest k (length-bytesOf k n)) ∙ number-bytesOf k n
+
+pub numberAt-behind : (xs rest : List ℕ) (i k : ℕ) → numberAt (xs ++ rest) (length xs + i) k ≡ numberAt rest i k
+unfolding numberAt
+numberAt-behind xs rest i k = ap (λ (l : List ℕ). number (take k l)) (drop-append-add xs rest i)
+
+pub numberAt-behind-bytes : (j n : ℕ) (rest : List ℕ) (i k : ℕ) → numberAt (bytesOf j n ++ rest) (j + i) k ≡ numberAt rest i k
+numberAt-behind-bytes j n rest i k =
+    ap (λ (m : ℕ). numberAt (bytesOf j n ++ rest) (m + i) k) (sym (length-bytesOf j n)) ∙ numberAt-behind (bytesOf j n) rest i k
 
 -- ---- a number of j + k bytes is one of j bytes and, above it, one of k
 

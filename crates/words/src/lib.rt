@@ -4,6 +4,7 @@
 // written through the same functions, and `specs/Part.antt` says what the whole buffer then holds.
 ghost use mathlib.Core.Path.{_≡_};
 ghost use mathlib.Core.List.{[], _∷_};
+ghost use lib.ListN.{drop};
 ghost use Rattle.words.specs.Number.{bytesOf};
 ghost use Rattle.words.specs.Place.{byteAt, numberAt, written};
 
@@ -35,6 +36,16 @@ pub fn u32_at(s: &[u8], at: usize) -> u32
     } else {
         0
     }
+}
+
+// The part of a slice from a place on: nothing where that lies past the end.
+pub fn tail(s: &[u8], at: usize) -> &[u8]
+    ensures { λ r. ⌜ now r ≡ drop at (now (s .entry)) ⌝ }
+{
+    if at < s.len() {
+        return &s[at..];
+    }
+    &s[..0]
 }
 
 pub fn put_byte(out: &mut [u8], at: usize, byte: u8)

@@ -1,0 +1,37 @@
+-- `calendar::time::second_after` meets its contract: a second later on the same day; where the minute and the second are the last of the hour, an hour after the hour began.
+-- Assumes nothing.
+use Prim.Native.Nat.{_+_}
+use mathlib.Core.Path.{sym, _∙_}
+use native.Mathlib.Omega.{arith}
+use borrow.Author.Needs.{needs}
+use Rattle.calendar.specs.Time.{secondNumber}
+use Rattle.calendar.specs.TimeLaws.{time-ranges, is-time, later-that-day, same-sum}
+use Rattle.calendar.proofs.time.second_after.Statement.{statement}
+use Rattle.calendar.proofs.time.second_after.Tie as tie
+
+add-t4 : tie.Need-add-t4
+add-t4 c = search needs
+
+returns : tie.Need-returns
+returns c = let s = c .before .before .before .before in let t = s .args .t in let r = time-ranges t (s .pre) in
+    sym (later-that-day t 1 (t .hour) (t .minute) (t .second + 1) (s .pre) (r .hour-below) (r .minute-below) (omega arith) (omega arith))
+
+add-t6 : tie.Need-add-t6
+add-t6 c = search needs
+
+returns-2 : tie.Need-returns-2
+returns-2 c = let s = c .before .before .before .before .before .before in let t = s .args .t in let r = time-ranges t (s .pre) in
+    sym (later-that-day t 1 (t .hour) (t .minute + 1) 0 (s .pre) (r .hour-below) (omega arith) (omega arith) (omega arith))
+
+hour-after-requires : tie.Need-hour-after-requires
+hour-after-requires c κs = let s = c .before .before .before .before .before in let r = time-ranges (s .args .t) (s .pre) in
+    is-time _ (record { date = r .date; hour-below = r .hour-below; minute-below = omega arith; second-below = omega arith })
+
+returns-3 : tie.Need-returns-3
+unfolding secondNumber
+returns-3 c = let s = c .before .before .before .before .before .before in let t = s .args .t in let r = time-ranges t (s .pre) in
+    c .hour-after .ensures ∙ sym (same-sum t _ 1 3600 (s .pre) (is-time _ (record { date = r .date; hour-below = r .hour-below; minute-below = omega arith; second-below = omega arith })) (omega arith))
+
+pub second-after-spec : {M : Type 1} → statement M
+second-after-spec =
+    tie.close (tie.spec add-t4 returns add-t6 returns-2 hour-after-requires returns-3)

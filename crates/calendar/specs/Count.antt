@@ -1,0 +1,86 @@
+-- Counting off by lengths: pieces of unequal length, as a calendar's months, laid end to end.
+use Prim.Native.Nat.{ℕ, zero, suc, _+_, _-_, _≤_, _<_}
+use native.Mathlib.Omega.{arith}
+use mathlib.Core.Path.{_≡_, refl}
+use mathlib.Core.Bool.{Bool, true, false, cond}
+use lib.Dec.{ltb}
+use borrow.Author.Tests.{ltb-true, ltb-false, lt-ltb, le-ltb}
+
+-- a place in a row of pieces: the piece's number from 0, and how far into the piece
+pub record Place : Type 0 where
+  pub piece : ℕ
+  pub rest : ℕ
+
+-- where piece k begins: the lengths of all pieces before it
+unfoldable pub starts : (ℕ → ℕ) → ℕ → ℕ
+starts len zero = 0
+starts len (suc k) = starts len k + len k
+
+-- the place n steps past the start of piece k, where whole pieces are counted off, fuel of them at most
+unfoldable pub countOff : (ℕ → ℕ) → ℕ → ℕ → ℕ → Place
+countOff len zero k n = record { piece = k; rest = n }
+countOff len (suc fuel) k n = cond (ltb n (len k)) (record { piece = k; rest = n }) (countOff len fuel (suc k) (n - len k))
+
+-- p is the place n steps past the start, in one of the first N pieces
+pub record Lies (len : ℕ → ℕ) (N n : ℕ) (p : Place) : Type 0 where
+  pub piece-below : p .piece < N
+  pub rest-below : p .rest < len (p .piece)
+  pub total : starts len (p .piece) + p .rest ≡ n
+
+module _ (len : ℕ → ℕ) where
+  -- a later piece begins no earlier
+  pub starts-mono : (j k : ℕ) → j ≤ k → starts len j ≤ starts len k
+  unfolding starts
+  starts-mono j zero h = let e : j ≡ 0 = omega arith in rw e (omega arith)
+  starts-mono j (suc k) h = go (ltb j (suc k)) refl (starts-mono j k)
+    where
+      go : (b : Bool) → ltb j (suc k) ≡ b → (j ≤ k → starts len j ≤ starts len k) → starts len j ≤ starts len (suc k)
+      go true e rec = let p : starts len j ≤ starts len k = rec (omega (arith, ltb-true j (suc k) e)) in omega arith
+      go false e rec = let q : j ≡ suc k = omega (arith, ltb-false j (suc k) e) in rw q (omega arith)
+
+  -- a piece ends before a later one begins
+  pub ends-before : (k N : ℕ) → k < N → starts len k + len k ≤ starts len N
+  unfolding starts
+  ends-before k N h = starts-mono (suc k) N h
+
+  counted-from : (fuel j k r : ℕ) → j ≤ k → k < j + fuel → r < len k → countOff len fuel j (starts len k - starts len j + r) ≡ record { piece = k; rest = r }
+  unfolding starts countOff
+  counted-from zero j k r hj hk hr = absurd (omega arith)
+  counted-from (suc fuel) j k r hj hk hr = go (ltb j k) refl (counted-from fuel (suc j) k r)
+    where
+      go : (b : Bool) → ltb j k ≡ b
+          → (suc j ≤ k → k < suc j + fuel → r < len k → countOff len fuel (suc j) (starts len k - starts len (suc j) + r) ≡ record { piece = k; rest = r })
+          → countOff len (suc fuel) j (starts len k - starts len j + r) ≡ record { piece = k; rest = r }
+      go true e rec =
+          let hlt : suc j ≤ k = ltb-true j k e in
+          let m : starts len j + len j ≤ starts len k = starts-mono (suc j) k hlt in
+          let s : starts len k - starts len j + r - len j ≡ starts len k - (starts len j + len j) + r = omega arith in
+          rw (le-ltb (starts len k - starts len j + r) (len j) (omega arith), s) (rec hlt (omega arith) hr)
+      go false e rec =
+          let q : j ≡ k = omega (arith, ltb-false j k e) in
+          let s : starts len k - starts len k + r ≡ r = omega arith in
+          rw (q, s, lt-ltb r (len k) hr)
+
+  -- counting off finds the place that is meant
+  pub counted : (N n : ℕ) (p : Place) → Lies len N n p → countOff len N 0 n ≡ p
+  unfolding starts
+  counted N n p l =
+      let s : n ≡ starts len (p .piece) - 0 + p .rest = omega (arith, l .total) in
+      rw s (counted-from N 0 (p .piece) (p .rest) (omega arith) (omega (arith, l .piece-below)) (l .rest-below))
+
+  located : (N n : ℕ) → n < starts len N → (p : Place) × Lies len N n p
+  unfolding starts
+  located zero n h = absurd (omega arith)
+  located (suc N) n h = go (ltb n (starts len N)) refl (located N n)
+    where
+      go : (b : Bool) → ltb n (starts len N) ≡ b → (n < starts len N → (p : Place) × Lies len N n p) → (p : Place) × Lies len (suc N) n p
+      go true e rec =
+          let w = rec (ltb-true n (starts len N) e) in
+          (w .0, record { piece-below = omega (arith, w .1 .piece-below); rest-below = w .1 .rest-below; total = w .1 .total })
+      go false e rec =
+          let ge = ltb-false n (starts len N) e in
+          (record { piece = N; rest = n - starts len N }, record { piece-below = omega arith; rest-below = omega arith; total = omega arith })
+
+  -- counting off always finds a place, where there is one
+  pub counts-off : (N n : ℕ) → n < starts len N → Lies len N n (countOff len N 0 n)
+  counts-off N n h = let w = located N n h in rw (counted N n (w .0) (w .1)) (w .1)

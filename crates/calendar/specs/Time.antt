@@ -1,0 +1,65 @@
+-- Times of 2000 to 2099 as a count of seconds. Source: document 01, "Clock": second, minute and hour, one byte each, with the date.
+use Prim.Native.Nat.{ℕ, _+_, _*_, _-_, _/_, _%_}
+use mathlib.Core.Bool.{Bool, cond, _&&_}
+use lib.Dec.{ltb, leb}
+use Rattle.calendar.specs.Date.{centuryDays, isDate, dayNumber, monthNumber, dateOf}
+use Rattle.calendar.specs.declared.date.Date.{Date}
+use Rattle.calendar.specs.declared.date.DateAnswer.{DateAnswer}
+use Rattle.calendar.specs.declared.time.DateTime.{DateTime}
+use Rattle.calendar.specs.declared.time.TimeAnswer.{TimeAnswer}
+use Rattle.calendar.specs.declared.time.TimeAnswer.the-variants.{At, NotATime, OutOfRange}
+use Rattle.calendar.specs.declared.time.Order.{Order}
+use Rattle.calendar.specs.declared.time.Order.the-variants.{Before, Same, After}
+
+-- whether six bytes are a time
+unfoldable pub isTime : DateTime → Bool
+isTime t = isDate (t .date) && ltb (t .hour) 24 && ltb (t .minute) 60 && ltb (t .second) 60
+
+-- seconds since 2000-01-01 00:00:00
+unfoldable pub secondNumber : DateTime → ℕ
+secondNumber t = ((dayNumber (t .date) * 24 + t .hour) * 60 + t .minute) * 60 + t .second
+
+-- the seconds of the hundred years
+abbrev pub centurySeconds : ℕ
+centurySeconds = centuryDays * 86400
+
+-- the time of a second number
+unfoldable pub timeOf : ℕ → DateTime
+timeOf n = record { date = dateOf (n / 86400); hour = n % 86400 / 3600; minute = n % 3600 / 60; second = n % 60 }
+
+-- the time of a second number, where the hundred years have it
+unfoldable pub timeAt : ℕ → TimeAnswer
+timeAt n = cond (ltb n centurySeconds) (At (timeOf n)) OutOfRange
+
+-- the time n seconds before second number m
+unfoldable pub timeBack : ℕ → ℕ → TimeAnswer
+timeBack m n = cond (leb n m) (timeAt (m - n)) OutOfRange
+
+-- the time n seconds after t
+unfoldable pub secondsLater : DateTime → ℕ → TimeAnswer
+secondsLater t n = cond (isTime t) (timeAt (secondNumber t + n)) NotATime
+
+-- the time n seconds before t
+unfoldable pub secondsEarlier : DateTime → ℕ → TimeAnswer
+secondsEarlier t n = cond (isTime t) (timeBack (secondNumber t) n) NotATime
+
+-- which of two times comes first
+unfoldable pub orderOf : DateTime → DateTime → Order
+orderOf a b =
+    cond (isTime a && isTime b)
+    (cond (ltb (secondNumber a) (secondNumber b)) Before (cond (ltb (secondNumber b) (secondNumber a)) After Same))
+    Order.NotATime
+
+-- a time of day on a day that a date's answer gives
+unfoldable pub onDay : DateAnswer → ℕ → ℕ → ℕ → TimeAnswer
+onDay (DateAnswer.On d) h m s = At (record { date = d; hour = h; minute = m; second = s })
+onDay DateAnswer.NotADate h m s = NotATime
+onDay DateAnswer.OutOfRange h m s = OutOfRange
+
+-- a date as a number that grows with it, where each month counts as 31 days
+unfoldable pub dateKey : Date → ℕ
+dateKey d = monthNumber d * 31 + (d .day - 1)
+
+-- a time as a number that grows with it
+unfoldable pub sortKey : DateTime → ℕ
+sortKey t = ((dateKey (t .date) * 24 + t .hour) * 60 + t .minute) * 60 + t .second

@@ -1,0 +1,11 @@
+use Rattle.figures.specs.Power.{totalOf}
+use mathlib.Core.Path.{refl}
+use Rattle.figures.proofs.power.Phases.total.Statement.{statement}
+use Rattle.figures.proofs.power.Phases.total.Tie as tie
+
+returns : tie.Need-returns
+unfolding totalOf
+returns c = refl
+
+pub total-spec : {M : Type 1} → statement M
+total-spec = tie.close (tie.spec returns)

@@ -1,0 +1,24 @@
+use Rattle.figures.specs.Power.{powerBytes}
+use Rattle.words.specs.Place.{written}
+use Rattle.words.specs.Number.{bytesOf}
+use Prim.Native.Nat.{ℕ}
+use mathlib.Core.Path.{ap, _∙_}
+use borrow.Author.Needs.{needs}
+use Rattle.figures.proofs.power.put_power.Statement.{statement}
+use Rattle.figures.proofs.power.put_power.Tie as tie
+
+bits-of-requires : tie.Need-bits-of-requires
+bits-of-requires c κs = search needs
+
+put-u32-requires : tie.Need-put-u32-requires
+put-u32-requires c κs = search needs
+
+same-length : tie.Need-same-length
+same-length c = search needs
+
+returns : tie.Need-returns
+unfolding powerBytes
+returns c = c .before .before .put-u32 .ensures ∙ ap (λ (n : ℕ). written (c .before .before .before .before .before .before .args .out .now) (c .before .before .before .before .before .before .args .at) (bytesOf 4 n)) (c .before .before .before .bits-of .ensures)
+
+pub put-power-spec : {M : Type 1} → statement M
+put-power-spec = tie.close (tie.spec bits-of-requires put-u32-requires same-length returns)

@@ -1,0 +1,3 @@
+pub mod Telemetry
+pub mod Mask
+pub mod Power

@@ -1,0 +1,22 @@
+// The figures that the meter's parameters hold, and their bytes in a frame's data part.
+//
+// Each kind of figure is read from the front of a data part, and written to the front of one; what was written reads back as it
+// was. The bench meter writes and the reader reads through these same definitions.
+mod mask;
+mod power;
+mod telemetry;
+
+pub use mask::DisplayMask;
+pub use mask::display_mask;
+pub use mask::put_display_mask;
+pub use power::Phases;
+pub use power::Power;
+pub use power::Powers;
+pub use power::PowersAnswer;
+pub use power::power_of;
+pub use power::powers_of;
+pub use power::put_power;
+pub use power::put_powers;
+pub use telemetry::Telemetry;
+pub use telemetry::put_telemetry;
+pub use telemetry::telemetry_of;

@@ -1,0 +1,99 @@
+// Parameters 8 and 9: the powers of three phases and their total, as 32-bit floats.
+ghost use mathlib.Core.Path.{_≡_};
+ghost use Rattle.figures.specs.Power.{totalOf, powerOf, powersOf, bitsOf, powerBytes, powersBytes};
+ghost use Rattle.words.specs.Place.{written};
+
+// The phase powers of one reading.
+pub struct Phases {
+    pub a: f32,
+    pub b: f32,
+    pub c: f32,
+}
+
+// The phases and their total, as a reply has them.
+pub struct Powers {
+    pub total: f32,
+    pub phases: Phases,
+}
+
+// One power of a reply.
+pub enum Power {
+    Finite(f32),
+    NotFinite,
+}
+
+pub enum PowersAnswer {
+    Finite(Powers),
+    NotFinite,
+}
+
+impl Phases {
+    // The sum of the three, each addition rounded to 32 bits.
+    pub fn total(self) -> f32
+        ensures { λ r. ⌜ r ≡ totalOf self ⌝ }
+    {
+        (self.a + self.b) + self.c
+    }
+}
+
+// The bits of a float, without its sign, from which on it is an infinity or no number.
+const INFINITY: u32 = 0x7F80_0000;
+
+const SIGN: u32 = 0x8000_0000;
+
+// The power at a place of a data part.
+pub fn power_of(bytes: &[u8], at: usize) -> Power
+    ensures { λ r. ⌜ r ≡ powerOf (now (bytes .entry)) at ⌝ }
+{
+    let bits = words::u32_at(bytes, at);
+    if bits % SIGN < INFINITY {
+        Power::Finite(f32::from_bits(bits))
+    } else {
+        Power::NotFinite
+    }
+}
+
+pub fn powers_of(bytes: &[u8]) -> PowersAnswer
+    ensures { λ r. ⌜ r ≡ powersOf (now (bytes .entry)) ⌝ }
+{
+    let Power::Finite(total) = power_of(bytes, 0) else {
+        return PowersAnswer::NotFinite;
+    };
+    let Power::Finite(a) = power_of(bytes, 4) else {
+        return PowersAnswer::NotFinite;
+    };
+    let Power::Finite(b) = power_of(bytes, 8) else {
+        return PowersAnswer::NotFinite;
+    };
+    let Power::Finite(c) = power_of(bytes, 12) else {
+        return PowersAnswer::NotFinite;
+    };
+    PowersAnswer::Finite(Powers {
+        total: total,
+        phases: Phases { a: a, b: b, c: c },
+    })
+}
+
+// The bits of a float; of what is no number, those of a quiet one, since Rattle leaves them open.
+fn bits_of(x: f32) -> u32
+    ensures { λ r. ⌜ r ≡ bitsOf x ⌝ }
+{
+    if x != x { NO_NUMBER } else { f32::to_bits(x) }
+}
+
+const NO_NUMBER: u32 = 0x7FC0_0000;
+
+pub fn put_power(out: &mut [u8], at: usize, x: f32)
+    ensures { λ _. ⌜ now (out .exit) ≡ written (now (out .entry)) at (powerBytes x) ⌝ }
+{
+    words::put_u32(out, at, bits_of(x));
+}
+
+pub fn put_powers(out: &mut [u8], p: Phases)
+    ensures { λ _. ⌜ now (out .exit) ≡ written (now (out .entry)) 0 (powersBytes p) ⌝ }
+{
+    put_power(out, 0, p.total());
+    put_power(out, 4, p.a);
+    put_power(out, 8, p.b);
+    put_power(out, 12, p.c);
+}
