@@ -10,6 +10,7 @@ use Rattle.calendar.specs.declared.date.Date.{Date}
 use Rattle.calendar.specs.declared.date.DateAnswer.{DateAnswer}
 use Rattle.calendar.specs.declared.date.DateAnswer.the-variants.{On, NotADate, OutOfRange}
 
+-- whether d divides n
 abbrev pub divides : ℕ → ℕ → Bool
 divides d n = eqb (n % d) 0
 
@@ -33,13 +34,16 @@ lengthOf k = daysInMonth (k / 12) (k % 12 + 1)
 abbrev pub daysBefore : ℕ → ℕ
 daysBefore = starts lengthOf
 
--- the days of the hundred years
+-- the days of the hundred years: daysBefore 1200 (DateLaws, century)
 abbrev pub centuryDays : ℕ
 centuryDays = 36525
 
 -- whether three bytes are a date
 unfoldable pub isDate : Date → Bool
-isDate d = ltb (d .year) 100 && leb 1 (d .month) && leb (d .month) 12 && leb 1 (d .day) && leb (d .day) (daysInMonth (d .year) (d .month))
+isDate d =
+    ltb (d .year) 100
+    && leb 1 (d .month) && leb (d .month) 12
+    && leb 1 (d .day) && leb (d .day) (daysInMonth (d .year) (d .month))
 
 -- the number of a date's month
 abbrev pub monthNumber : Date → ℕ
@@ -53,7 +57,7 @@ dayNumber d = daysBefore (monthNumber d) + (d .day - 1)
 unfoldable pub dateAt : Place → Date
 dateAt p = record { year = p .piece / 12; month = p .piece % 12 + 1; day = p .rest + 1 }
 
--- the date of a day number: whole months are counted off, and what is left is the day
+-- the date of a day number: whole months, 1,200 at most, are counted off, and what is left is the day
 unfoldable pub dateOf : ℕ → Date
 dateOf n = dateAt (countOff lengthOf 1200 0 n)
 

@@ -1,5 +1,5 @@
 -- What follows from the definitions of dates: day numbers and dates correspond one to one, and the days later and earlier are so many
--- day numbers on and back. Assumes nothing.
+-- day numbers on and back.
 use Prim.Native.Nat.{ℕ, _+_, _*_, _-_, _/_, _%_, _≤_, _<_}
 use native.Mathlib.Omega.{arith}
 use native.Mathlib.Numerals.{add-one}
@@ -8,7 +8,7 @@ use mathlib.Core.Bool.{Bool, true, false, cond, _&&_, _||_, Bool·beq, and-false
 use lib.Dec.{ltb, leb, eqb}
 use lib.ListN.{getD, List·getD-eq-default}
 use borrow.Author.Tests.{ltb-true, ltb-false, leb-true, leb-false, eqb-true, lt-ltb, le-ltb, le-leb, ne-eqb}
-use Rattle.calendar.specs.Test.{both, chosen, everyBelow, below}
+use Rattle.decide.specs.Test.{both, chosen, everyBelow, below}
 use Rattle.calendar.specs.Count.{Place, Lies, starts, countOff, starts-mono, ends-before, counted, counts-off}
 use Rattle.calendar.specs.Date.{leap, monthLengths, daysInMonth, lengthOf, daysBefore, centuryDays, isDate, monthNumber, dayNumber, dateAt, dateOf, dateOn, dateBack, daysLater, daysEarlier}
 use Rattle.calendar.specs.declared.date.Date.{Date}

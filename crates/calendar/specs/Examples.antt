@@ -1,5 +1,5 @@
 -- Days to hold the definitions against, computed. Source: any calendar of the years named; the switch days of 2006 and 2024 are those of
--- the European Union. Assumes nothing.
+-- the European Union.
 use mathlib.Core.Path.{_≡_, refl}
 use mathlib.Core.Bool.{true, false}
 use Prim.Native.Nat.{ℕ}
@@ -27,26 +27,26 @@ no-leap-day : isDate (date 1 2 29) ≡ false
 unfolding isDate daysInMonth monthLengths leap
 no-leap-day = refl
 
--- 2001 began on the 366th day after 2000-01-01, and 2024-03-01 followed 2024-02-28 by two days
+-- 2001 began 366 days after 2000-01-01, and 2004-03-01 came two days after 2004-02-28
 new-year : dayNumber (date 1 1 1) ≡ 366
 unfolding dayNumber starts lengthOf daysInMonth monthLengths leap
 new-year = refl
 
-over-the-leap-day : daysLater (date 24 2 28) 2 ≡ On (date 24 3 1)
+over-the-leap-day : daysLater (date 4 2 28) 2 ≡ On (date 4 3 1)
 unfolding daysLater dateOn dateOf dateAt countOff isDate dayNumber starts lengthOf daysInMonth monthLengths leap
 over-the-leap-day = refl
 
--- the last second of 2024 is followed by the first of 2025, and that of 2099 by none
-second-of-2025 : secondsLater (time (date 24 12 31) 23 59 59) 1 ≡ At (time (date 25 1 1) 0 0 0)
+-- the last second of 2000 is followed by the first of 2001, and that of 2099 by none
+first-of-2001 : secondsLater (time (date 0 12 31) 23 59 59) 1 ≡ At (time (date 1 1 1) 0 0 0)
 unfolding secondsLater timeAt timeOf isTime secondNumber dateOf dateAt countOff isDate dayNumber starts lengthOf daysInMonth monthLengths leap
-second-of-2025 = refl
+first-of-2001 = refl
 
 last-second : secondsLater (time (date 99 12 31) 23 59 59) 1 ≡ OutOfRange
 unfolding secondsLater timeAt isTime secondNumber isDate dayNumber starts lengthOf daysInMonth monthLengths leap
 last-second = refl
 
--- 2024-07-04 was a Thursday
-thursday : weekday (dayNumber (date 24 7 4)) ≡ 4
+-- 2002-07-04 was a Thursday
+thursday : weekday (dayNumber (date 2 7 4)) ≡ 4
 unfolding dayNumber starts lengthOf daysInMonth monthLengths leap
 thursday = refl
 

@@ -1,9 +1,9 @@
-pub mod Count
 pub mod Date
-pub mod DateLaws
-pub mod Examples
-pub mod Sunday
-pub mod SundayLaws
-pub mod Test
 pub mod Time
+pub mod Sunday
+pub mod DateLaws
 pub mod TimeLaws
+pub mod SundayLaws
+pub mod Examples
+pub mod Steps
+pub mod Count

@@ -1,4 +1,4 @@
--- The last Sunday of a month. Source: document 01, "Seasons": summer begins on the last Sunday of March and ends on that of October. Assumes nothing.
+-- The last Sunday of a month. Source: document 01, "Seasons": summer begins on the last Sunday of March and ends on that of October.
 use Prim.Native.Nat.{ℕ, _+_, _-_, _%_}
 use mathlib.Core.Bool.{cond}
 use lib.Dec.{ltb}

@@ -1,4 +1,4 @@
--- The last Sunday is a Sunday, and the last of its month. Assumes nothing.
+-- The last Sunday is a Sunday, and the last of its month.
 use Prim.Native.Nat.{ℕ, _+_, _≤_, _<_}
 use native.Mathlib.Omega.{arith}
 use mathlib.Core.Path.{_≡_}

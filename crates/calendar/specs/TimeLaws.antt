@@ -1,16 +1,17 @@
 -- What follows from the definitions of times: second numbers and times correspond one to one, and the seconds later and earlier are so
--- many second numbers on and back. Assumes nothing.
+-- many second numbers on and back.
 use Prim.Native.Nat.{ℕ, _+_, _*_, _-_, _/_, _%_, _≤_, _<_}
 use native.Mathlib.Omega.{arith}
 use mathlib.Core.Path.{_≡_, refl, sym, _∙_, ap}
 use mathlib.Core.Bool.{Bool, true, false}
 use lib.Dec.{ltb, leb}
 use borrow.Author.Tests.{ltb-true, ltb-false, leb-true, leb-false, lt-ltb, le-ltb, le-leb, lt-leb}
-use Rattle.calendar.specs.Test.{both, chosen}
+use Rattle.decide.specs.Test.{both, chosen}
 use Rattle.calendar.specs.Count.{ends-before}
 use Rattle.calendar.specs.Date.{centuryDays, isDate, lengthOf, daysBefore, monthNumber, dayNumber, dateOf, dateOn, dateBack, daysLater, daysEarlier}
 use Rattle.calendar.specs.DateLaws.{DateIs, date-lies, date-of, date-of-number, number-below, date-on, length-range}
-use Rattle.calendar.specs.Time.{isTime, secondNumber, centurySeconds, timeOf, timeAt, timeBack, secondsLater, secondsEarlier, orderOf, onDay, dateKey, sortKey}
+use Rattle.calendar.specs.Time.{isTime, secondNumber, centurySeconds, timeOf, timeAt, timeBack, secondsLater, secondsEarlier, orderOf}
+use Rattle.calendar.specs.Steps.{onDay, dateKey, sortKey}
 use Rattle.calendar.specs.declared.date.Date.{Date}
 use Rattle.calendar.specs.declared.time.DateTime.{DateTime}
 use Rattle.calendar.specs.declared.time.TimeAnswer.the-variants.{At, NotATime, OutOfRange}
@@ -55,11 +56,10 @@ pub time-of-number : (t : DateTime) → isTime t ≡ true → timeOf (secondNumb
 unfolding timeOf secondNumber
 time-of-number t e =
     let r = time-ranges t e in
-    let n : ℕ = dayNumber (t .date) in
-    let q : secondNumber t / 86400 ≡ dayNumber (t .date) = omega (arith, r .hour-below, r .minute-below, r .second-below) in
-    let h : secondNumber t % 86400 / 3600 ≡ t .hour = omega (arith, r .hour-below, r .minute-below, r .second-below) in
-    let m : secondNumber t % 3600 / 60 ≡ t .minute = omega (arith, r .hour-below, r .minute-below, r .second-below) in
-    let s : secondNumber t % 60 ≡ t .second = omega (arith, r .hour-below, r .minute-below, r .second-below) in
+    let q : secondNumber t / 86400 ≡ dayNumber (t .date) = omega arith in
+    let h : secondNumber t % 86400 / 3600 ≡ t .hour = omega arith in
+    let m : secondNumber t % 3600 / 60 ≡ t .minute = omega arith in
+    let s : secondNumber t % 60 ≡ t .second = omega arith in
     let d : dateOf (secondNumber t / 86400) ≡ t .date = rw q (date-of-number (t .date) (r .date)) in
     λ i. record { date = d i; hour = h i; minute = m i; second = s i }
 

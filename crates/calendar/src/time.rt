@@ -1,7 +1,8 @@
 // Times: which bytes are one, the second and the hours around it, and which of two comes first.
 ghost use mathlib.Core.Path.{_≡_};
 ghost use mathlib.Core.Bool.{true};
-ghost use Rattle.calendar.specs.Time.{isTime, secondsLater, secondsEarlier, orderOf, onDay, sortKey};
+ghost use Rattle.calendar.specs.Time.{isTime, secondsLater, secondsEarlier, orderOf};
+ghost use Rattle.calendar.specs.Steps.{onDay, sortKey};
 use crate::date::Date;
 use crate::date::DateAnswer;
 use crate::date::is_date;

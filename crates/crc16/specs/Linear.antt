@@ -2,13 +2,14 @@
 -- Such a function is known by what it does to the powers of two, so two ways to compute one agree by a short computed test. That is for
 -- ways of computing the CRC that take more than a bit at a time. Document 01 asks for no particular way.
 use mathlib.Core.Path.{_≡_, refl, sym, ap, ap₂, _∙_, subst}
-use mathlib.Core.Bool.{Bool, true, false, _&&_}
-use mathlib.Core.Logic.{⊎-elim}
+use mathlib.Core.Bool.{true}
 use Prim.Native.Nat.{ℕ, zero, suc, _+_, _*_, _/_, _%_, _^_, _<_}
-use native.Mathlib.Nat.{le-of-suc-le-suc, not-suc-le-zero, eq-or-lt-of-le, add-zero, zero-mul, one-mul, mod-lt, zero-lt-suc, le-step, le-refl, mul-one}
+use native.Mathlib.Nat.{le-of-suc-le-suc, not-suc-le-zero, add-zero, zero-mul, one-mul, mod-lt, zero-lt-suc, le-step, le-refl, mul-one}
 use native.Mathlib.Numerals.{one-add}
 use native.Mathlib.Omega.{arith}
-use lib.Dec.{T, eqb, eqb→eq}
+use lib.Dec.{eqb}
+use borrow.Author.Tests.{eqb-true}
+use Rattle.decide.specs.Test.{everyBelow, below}
 use lib.Arith.{bin-ind, lt-one}
 use lib.Pow.{pow-pos, split, shr-lt}
 use lib.Bits.{bitXor, differ, xor-step, xor-zero-r, xor-self, xor-comm, xor-shr, xor-mod, xor-block, xor-shifted, shifted-half, shifted-even}
@@ -138,23 +139,6 @@ linear-parity c = record {
 
 -- ---- a linear function is known by what it does to the powers of two
 
--- The test p passes at each number below n.
-unfoldable pub everyBelow : (ℕ → Bool) → ℕ → Bool
-everyBelow p zero = true
-everyBelow p (suc n) = p n && everyBelow p n
-
-both : (a b : Bool) → T (a && b) → T a × T b
-both true b t = (tt, t)
-both false b t = absurd t
-
--- such a test, computed once, at any number below n
-pub at-below : (p : ℕ → Bool) (n : ℕ) → T (everyBelow p n) → (k : ℕ) → k < n → T (p k)
-unfolding everyBelow
-at-below p zero t k h = absurd (not-suc-le-zero h)
-at-below p (suc n) t k h =
-    let parts : T (p n) × T (everyBelow p n) = both (p n) (everyBelow p n) t in
-    ⊎-elim (λ e. subst (λ (m : ℕ). T (p m)) (sym e) (parts .0)) (at-below p n (parts .1) k) (eq-or-lt-of-le (le-of-suc-le-suc h))
-
 module _ {f g : ℕ → ℕ} (lf : Linear f) (lg : Linear g) where
   agree-zero : f 0 ≡ g 0
   agree-zero = linear-zero lf ∙ sym (linear-zero lg)
@@ -176,9 +160,9 @@ module _ {f g : ℕ → ℕ} (lf : Linear f) (lg : Linear g) where
       ap f (sym parts) ∙ lf .apart (top * 2 ^ n) rest ∙ ap₂ bitXor tops rests ∙ sym (lg .apart (top * 2 ^ n) rest) ∙ ap g parts
 
   -- the same from one computed test
-  pub linear-agree-test : (n : ℕ) → T (everyBelow (λ k. eqb (f (2 ^ k)) (g (2 ^ k))) n) → (x : ℕ) → x < 2 ^ n → f x ≡ g x
+  pub linear-agree-test : (n : ℕ) → everyBelow (λ k. eqb (f (2 ^ k)) (g (2 ^ k))) n ≡ true → (x : ℕ) → x < 2 ^ n → f x ≡ g x
   linear-agree-test n t =
-      linear-agree n (λ k h. eqb→eq (f (2 ^ k)) (g (2 ^ k)) (at-below (λ k. eqb (f (2 ^ k)) (g (2 ^ k))) n t k h))
+      linear-agree n (λ k h. eqb-true (f (2 ^ k)) (g (2 ^ k)) (below (λ k. eqb (f (2 ^ k)) (g (2 ^ k))) n t k h))
 
 -- ---- the CRC
 

@@ -1,3 +1,4 @@
+pub mod Clock
 pub mod Telemetry
 pub mod Mask
 pub mod Power

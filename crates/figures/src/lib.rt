@@ -2,10 +2,13 @@
 //
 // Each kind of figure is read from the front of a data part, and written to the front of one; what was written reads back as it
 // was. The bench meter writes and the reader reads through these same definitions.
+mod clock;
 mod mask;
 mod power;
 mod telemetry;
 
+pub use clock::date_time_of;
+pub use clock::put_date_time;
 pub use mask::DisplayMask;
 pub use mask::display_mask;
 pub use mask::put_display_mask;

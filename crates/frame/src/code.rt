@@ -1,4 +1,6 @@
 // The codes of the SS-301 operator's instruction 3.16.
+ghost use mathlib.Core.Path.{_≡_};
+ghost use Rattle.frame.specs.Code.{functionOf, parameterOf};
 
 // Functions (sections 4 and 5).
 pub const READ: u8 = 3;
@@ -10,7 +12,7 @@ pub const ZERO: u8 = 30;
 pub const UNLOCK: u8 = 31;
 
 pub const LOCK: u8 = 32;
-// The bit of a reply's function that says that the command was refused.
+// Added to the function of a reply whose result is not 0.
 pub const REFUSED: u8 = 128;
 
 // Parameters (Appendix A).
@@ -46,3 +48,59 @@ pub const UNKNOWN_PARAMETER: u8 = 2;
 pub const WRONG_ARGUMENT: u8 = 3;
 
 pub const NO_ACCESS: u8 = 4;
+
+pub enum Function {
+    Read,
+    Change,
+    Zero,
+    Unlock,
+    Lock,
+    Unknown,
+}
+
+pub enum Parameter {
+    ActivePower,
+    ReactivePower,
+    Address,
+    Telemetry,
+    SummerDate,
+    WinterDate,
+    Clock,
+    DisplayMask,
+    Slice,
+    Password,
+    SixSlices,
+    Unknown,
+}
+
+pub fn function_of(code: u8) -> Function
+    ensures { λ r. ⌜ r ≡ functionOf code ⌝ }
+{
+    match code {
+        READ => Function::Read,
+        CHANGE => Function::Change,
+        ZERO => Function::Zero,
+        UNLOCK => Function::Unlock,
+        LOCK => Function::Lock,
+        _ => Function::Unknown,
+    }
+}
+
+pub fn parameter_of(code: u8) -> Parameter
+    ensures { λ r. ⌜ r ≡ parameterOf code ⌝ }
+{
+    match code {
+        ACTIVE_POWER => Parameter::ActivePower,
+        REACTIVE_POWER => Parameter::ReactivePower,
+        ADDRESS => Parameter::Address,
+        TELEMETRY => Parameter::Telemetry,
+        SUMMER_DATE => Parameter::SummerDate,
+        WINTER_DATE => Parameter::WinterDate,
+        CLOCK => Parameter::Clock,
+        DISPLAY_MASK => Parameter::DisplayMask,
+        SLICE => Parameter::Slice,
+        PASSWORD => Parameter::Password,
+        SIX_SLICES => Parameter::SixSlices,
+        _ => Parameter::Unknown,
+    }
+}

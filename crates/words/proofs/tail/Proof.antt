@@ -6,33 +6,25 @@ use mathlib.Core.Path.{sym}
 use borrow.Author.Needs.{needs}
 use Rattle.words.proofs.tail.Statement.{statement}
 use Rattle.words.proofs.tail.Tie as tie
-use Rattle.words.proofs.tail.Reads as reads
-use Rattle.words.proofs.tail.Lts as lts
 
--- src/lib.rt:46:16
 sub-result : tie.Need-sub-result
 sub-result c = search needs
 
--- src/lib.rt:46:16
 part-result-start : tie.Need-part-result-start
 part-result-start c = search needs
 
--- src/lib.rt:46:16
 part-result-end : tie.Need-part-result-end
 part-result-end c = search needs
 
--- src/lib.rt:46:9
 returns : tie.Need-returns
 returns c =
     let s = c .before .before .args .s .now in
     let at = c .before .before .args .at in
     take-all (length s - at) (drop at s) (simp length-drop (omega arith))
 
--- src/lib.rt:48:5
 slice-aggregate-result : tie.Need-slice-aggregate-result
 slice-aggregate-result c = search needs
 
--- src/lib.rt:42:1
 returns-2 : tie.Need-returns-2
 returns-2 c = sym (drop-of-length-le _ (c .before .if1 .left))
 

@@ -1,5 +1,5 @@
--- `calendar::date::carried` meets its contract: the days up to the month reached and the rest are as many as at the start. The measure is the months left.
--- Assumes nothing.
+-- `calendar::date::carried` meets its contract: the days up to the month reached and the rest are as many as at the start. The
+-- measure is the months left.
 use Prim.Native.Nat.{_+_, _-_}
 use mathlib.Core.Path.{_≡_, refl, sym, _∙_, ap}
 use native.Mathlib.Omega.{arith}

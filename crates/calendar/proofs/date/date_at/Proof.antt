@@ -1,5 +1,5 @@
--- `calendar::date::date_at` meets its contract: the date is the definition's own, and its three numbers fit a byte.
--- Assumes nothing.
+-- `calendar::date::date_at` meets its contract: the date is the definition's own, and its three numbers fit a byte. Assumes
+-- nothing.
 use mathlib.Core.Path.{refl}
 use borrow.Author.Needs.{needs}
 use Rattle.calendar.specs.Date.{dateAt}

@@ -1,5 +1,4 @@
 -- `calendar::date::day_before` meets its contract: either the day before is of the same month, or the date is the first of one.
--- Assumes nothing.
 use mathlib.Core.Path.{sym, _∙_, ap}
 use native.Mathlib.Omega.{arith}
 use borrow.Author.Needs.{needs}

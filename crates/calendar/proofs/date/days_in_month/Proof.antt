@@ -1,5 +1,5 @@
--- `calendar::date::days_in_month` meets its contract: a year or month outside the calendar has no days, and in it 31 and 30 days take turns but for February.
--- Assumes nothing.
+-- `calendar::date::days_in_month` meets its contract: a year or month outside the calendar has no days, and in it 31 and 30 days
+-- take turns but for February.
 use mathlib.Core.Path.{_∙_, sym, ap}
 use native.Mathlib.Omega.{arith}
 use borrow.Author.Needs.{needs}

@@ -1,5 +1,4 @@
 -- `calendar::date::days_later` meets its contract: a date's days are those before its month and those before it in the month.
--- Assumes nothing.
 use mathlib.Core.Path.{sym, _∙_, ap}
 use native.Mathlib.Nat.{add-assoc}
 use borrow.Author.Needs.{needs}

@@ -1,5 +1,4 @@
 -- `calendar::date::february` meets its contract: the year is below 100, so the fourth years are the leap years.
--- Assumes nothing.
 use borrow.Author.Tests.{eq-eqb, ne-eqb}
 use Rattle.calendar.specs.DateLaws.{february}
 use Rattle.calendar.proofs.date.february.Statement.{statement}

@@ -1,5 +1,5 @@
--- `calendar::date::is_date` meets its contract: no month has a day 0, and only a month of the calendar has days at all.
--- Assumes nothing.
+-- `calendar::date::is_date` meets its contract: no month has a day 0, and only a month of the calendar has days at all. Assumes
+-- nothing.
 use mathlib.Core.Bool.{and-false}
 use mathlib.Core.Path.{_∙_, ap}
 use native.Mathlib.Omega.{arith}

@@ -1,5 +1,5 @@
--- `calendar::date::last_day_before` meets its contract: the month before ends a day earlier, and the first month has none before it.
--- Assumes nothing.
+-- `calendar::date::last_day_before` meets its contract: the month before ends a day earlier, and the first month has none before
+-- it.
 use Prim.Native.Nat.{_-_}
 use mathlib.Core.Path.{sym, _∙_, ap}
 use native.Mathlib.Omega.{arith}

@@ -1,5 +1,5 @@
--- `calendar::date::length_of` meets its contract: the month of a number is that of its year and its place in the year.
--- Assumes nothing.
+-- `calendar::date::length_of` meets its contract: the month of a number is that of its year and its place in the year. Assumes
+-- nothing.
 use borrow.Author.Needs.{needs}
 use Rattle.calendar.specs.Date.{lengthOf}
 use Rattle.calendar.proofs.date.length_of.Statement.{statement}

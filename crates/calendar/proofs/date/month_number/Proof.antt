@@ -1,5 +1,4 @@
 -- `calendar::date::month_number` meets its contract: a date's month counts from 1.
--- Assumes nothing.
 use borrow.Author.Needs.{needs}
 use Rattle.calendar.specs.DateLaws.{ranges}
 use Rattle.calendar.proofs.date.month_number.Statement.{statement}

@@ -1,5 +1,4 @@
 -- `calendar::date::previous_day` meets its contract: the answer of `day_before` is for dates alone.
--- Assumes nothing.
 use mathlib.Core.Path.{sym, _∙_}
 use borrow.Author.Needs.{needs}
 use Rattle.calendar.specs.Date.{daysEarlier}

@@ -1,5 +1,4 @@
 -- `calendar::sunday::last_sunday` meets its contract: the entry at twice the year and the column is that of the year and the month.
--- Assumes nothing.
 use Prim.Native.Nat.{_+_, _*_, _/_, _%_}
 use mathlib.Core.Path.{_≡_}
 use native.Mathlib.Omega.{arith}

@@ -1,5 +1,4 @@
 -- `calendar::sunday::table_entry` meets its contract: antt computes the last Sunday at each place of the table and compares.
--- Assumes nothing.
 use Prim.Native.Nat.{ℕ, _+_, _*_, _/_, _%_, _<_}
 use mathlib.Core.Bool.{Bool}
 use mathlib.Core.List.{List}
@@ -11,7 +10,7 @@ use borrow.Author.Tests.{eqb-true}
 use Rattle.calendar.specs.Count.{starts}
 use Rattle.calendar.specs.Date.{leap, monthLengths, daysInMonth, lengthOf, dayNumber}
 use Rattle.calendar.specs.Sunday.{lastSunday}
-use Rattle.calendar.specs.Test.{everyBelow, below, passed}
+use Rattle.decide.specs.Test.{everyBelow, below, passed}
 use Rattle.calendar.proofs.sunday.table_entry.Statement.{statement}
 use Rattle.calendar.proofs.sunday.table_entry.Tie as tie
 

@@ -1,5 +1,4 @@
 -- `calendar::time::compare` meets its contract: the answer of `compare_keys` is for times alone.
--- Assumes nothing.
 use mathlib.Core.Bool.{and-false}
 use mathlib.Core.Path.{sym, _∙_}
 use borrow.Author.Needs.{needs}

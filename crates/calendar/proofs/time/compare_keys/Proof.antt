@@ -1,5 +1,4 @@
 -- `calendar::time::compare_keys` meets its contract: the keys put times in the order of their seconds.
--- Assumes nothing.
 use mathlib.Core.Path.{sym}
 use native.Mathlib.Omega.{arith}
 use borrow.Author.Needs.{needs}

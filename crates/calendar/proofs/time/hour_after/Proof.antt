@@ -1,10 +1,9 @@
 -- `calendar::time::hour_after` meets its contract: an hour is 3,600 seconds, on the same day or over midnight.
--- Assumes nothing.
 use Prim.Native.Nat.{_+_}
 use mathlib.Core.Path.{sym, _∙_, ap}
 use native.Mathlib.Omega.{arith}
 use borrow.Author.Needs.{needs}
-use Rattle.calendar.specs.Time.{onDay}
+use Rattle.calendar.specs.Steps.{onDay}
 use Rattle.calendar.specs.TimeLaws.{time-ranges, later-that-day, later-next-day}
 use Rattle.calendar.proofs.time.hour_after.Statement.{statement}
 use Rattle.calendar.proofs.time.hour_after.Tie as tie

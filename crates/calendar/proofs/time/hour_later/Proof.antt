@@ -1,5 +1,4 @@
 -- `calendar::time::hour_later` meets its contract: the answer of `hour_after` is for times alone.
--- Assumes nothing.
 use mathlib.Core.Path.{sym, _∙_}
 use borrow.Author.Needs.{needs}
 use Rattle.calendar.specs.Time.{secondsLater}

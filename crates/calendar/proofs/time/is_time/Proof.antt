@@ -1,5 +1,4 @@
 -- `calendar::time::is_time` meets its contract: each test that fails is one of the definition's.
--- Assumes nothing.
 use mathlib.Core.Bool.{and-false, and-true}
 use native.Mathlib.Omega.{arith}
 use borrow.Author.Needs.{needs}

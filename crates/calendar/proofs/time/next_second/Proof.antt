@@ -1,5 +1,4 @@
 -- `calendar::time::next_second` meets its contract: the answer of `second_after` is for times alone.
--- Assumes nothing.
 use mathlib.Core.Path.{sym, _∙_}
 use borrow.Author.Needs.{needs}
 use Rattle.calendar.specs.Time.{secondsLater}

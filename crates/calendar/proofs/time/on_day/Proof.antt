@@ -1,7 +1,6 @@
 -- `calendar::time::on_day` meets its contract: by the cases of the answer.
--- Assumes nothing.
 use borrow.Author.Needs.{needs}
-use Rattle.calendar.specs.Time.{onDay}
+use Rattle.calendar.specs.Steps.{onDay}
 use Rattle.calendar.proofs.time.on_day.Statement.{statement}
 use Rattle.calendar.proofs.time.on_day.Tie as tie
 

@@ -1,5 +1,5 @@
--- `calendar::time::second_after` meets its contract: a second later on the same day; where the minute and the second are the last of the hour, an hour after the hour began.
--- Assumes nothing.
+-- `calendar::time::second_after` meets its contract: a second later on the same day; where the minute and the second are the last
+-- of the hour, an hour after the hour began.
 use Prim.Native.Nat.{_+_}
 use mathlib.Core.Path.{sym, _∙_}
 use native.Mathlib.Omega.{arith}

@@ -1,8 +1,8 @@
--- `calendar::time::sort_key` meets its contract: a time's month, day and clock time are small enough that the key fits.
--- Assumes nothing.
+-- `calendar::time::sort_key` meets its contract: a time's month, day and clock time are small enough that the key fits. Assumes
+-- nothing.
 use borrow.Author.Needs.{needs}
 use Rattle.calendar.specs.DateLaws.{ranges}
-use Rattle.calendar.specs.Time.{dateKey, sortKey}
+use Rattle.calendar.specs.Steps.{dateKey, sortKey}
 use Rattle.calendar.specs.TimeLaws.{time-ranges}
 use Rattle.calendar.proofs.time.sort_key.Statement.{statement}
 use Rattle.calendar.proofs.time.sort_key.Tie as tie

@@ -1,0 +1,1 @@
+// What follows from a test that passed: laws alone, and no code.

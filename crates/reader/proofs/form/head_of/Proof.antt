@@ -1,0 +1,51 @@
+use Rattle.reader.specs.Form.{headOf}
+use borrow.Author.Tests.{eq-eqb, ne-eqb}
+use mathlib.Core.Path.{sym}
+use borrow.Author.Needs.{needs}
+use Rattle.reader.proofs.form.head_of.Statement.{statement}
+use Rattle.reader.proofs.form.head_of.Tie as tie
+
+byte-at-requires : tie.Need-byte-at-requires
+byte-at-requires c κs = search needs
+
+byte-at-requires-2 : tie.Need-byte-at-requires-2
+byte-at-requires-2 c κs = search needs
+
+byte-at-requires-3 : tie.Need-byte-at-requires-3
+byte-at-requires-3 c κs = search needs
+
+byte-at-requires-4 : tie.Need-byte-at-requires-4
+byte-at-requires-4 c κs = search needs
+
+function-for-requires : tie.Need-function-for-requires
+function-for-requires c κs = search needs
+
+returns : tie.Need-returns
+unfolding headOf
+returns c = simp (sym (c .before .before .before .before .before .byte-at .ensures), ne-eqb _ _ (c .if1 .taken))
+
+returns-2 : tie.Need-returns-2
+unfolding headOf
+returns-2 c = simp (sym (c .before .before .before .before .before .before .byte-at .ensures), eq-eqb _ _ (c .before .if1 .left), sym (c .before .before .before .before .before .byte-at2 .ensures), sym (c .before .before .before .byte-at4 .ensures), sym (c .before .before .function-for .ensures), ne-eqb _ _ (c .if2 .taken))
+
+returns-3 : tie.Need-returns-3
+unfolding headOf
+returns-3 c = simp (sym (c .before .before .before .before .before .before .before .byte-at .ensures), eq-eqb _ _ (c .before .before .if1 .left), sym (c .before .before .before .before .before .before .byte-at2 .ensures), sym (c .before .before .before .before .byte-at4 .ensures), sym (c .before .before .before .function-for .ensures), eq-eqb _ _ (c .before .if2 .left), sym (c .before .before .before .before .before .byte-at3 .ensures), ne-eqb _ _ (c .if3 .taken))
+
+returns-4 : tie.Need-returns-4
+unfolding headOf
+returns-4 c = simp (sym (c .before .before .before .before .before .before .before .byte-at .ensures), eq-eqb _ _ (c .before .before .if1 .left), sym (c .before .before .before .before .before .before .byte-at2 .ensures), sym (c .before .before .before .before .byte-at4 .ensures), sym (c .before .before .before .function-for .ensures), eq-eqb _ _ (c .before .if2 .left), sym (c .before .before .before .before .before .byte-at3 .ensures), eq-eqb _ _ (c .if3 .left))
+
+pub head-of-spec : {M : Type 1} → statement M
+head-of-spec =
+    tie.close
+    (tie.spec
+    byte-at-requires
+    byte-at-requires-2
+    byte-at-requires-3
+    byte-at-requires-4
+    function-for-requires
+    returns
+    returns-2
+    returns-3
+    returns-4)

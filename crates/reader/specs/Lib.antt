@@ -1,0 +1,4 @@
+pub mod Form
+pub mod Reply
+pub mod Request
+pub mod Rows

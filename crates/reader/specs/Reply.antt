@@ -1,0 +1,89 @@
+-- Replies decoded. Source: document 01, "The reader and the log": "Other replies are decoded apart against their own request, without
+-- log or open ask, and tested 27 (a request that no record would answer with 0), 23, 24, 26."
+use mathlib.Core.Bool.{cond}
+use mathlib.Core.List.{List}
+use Prim.Native.Nat.{ℕ, _+_}
+use lib.Dec.{eqb}
+use Rattle.words.specs.Place.{byteAt, numberAt}
+use Rattle.figures.specs.Clock.{dateTimeOf}
+use Rattle.figures.specs.Mask.{maskOf}
+use Rattle.figures.specs.Power.{powerOf, powersOf}
+use Rattle.figures.specs.Telemetry.{telemetryOf}
+use Rattle.figures.specs.declared.power.Power.{Power}
+use Rattle.figures.specs.declared.power.Power.the-variants as power
+use Rattle.figures.specs.declared.power.PowersAnswer.{PowersAnswer}
+use Rattle.figures.specs.declared.power.PowersAnswer.the-variants as powers
+use Rattle.reader.specs.Form.{formOf}
+use Rattle.reader.specs.Request.{subjectOf, askable, dataBytes}
+use Rattle.reader.specs.Rows.{replyData}
+use Rattle.reader.specs.declared.form.Form.{Form}
+use Rattle.reader.specs.declared.form.Form.the-variants.{WellFormed, Faulty}
+use Rattle.reader.specs.declared.reply.Decoded.{Decoded}
+use Rattle.reader.specs.declared.reply.Decoded.the-variants.{OutOfRange, Malformed, MeterRefused, NotFinite, Address, Telemetry, DateTime, DisplayMask, Powers, OnePower, Slice, SixSlices}
+use Rattle.reader.specs.declared.reply.Slice.{Slice as FourCounts}
+use Rattle.reader.specs.declared.request.Request.{Request}
+use Rattle.reader.specs.declared.request.Subject.{Subject}
+use Rattle.reader.specs.declared.request.Subject.the-variants as subject
+
+-- "E+, E-, R+, R-, 2 bytes each"
+unfoldable pub countsOf : List ℕ → FourCounts
+countsOf bs = record {
+  «e_plus» = record { 0 = numberAt bs 0 2 };
+  «e_minus» = record { 0 = numberAt bs 2 2 };
+  «r_plus» = record { 0 = numberAt bs 4 2 };
+  «r_minus» = record { 0 = numberAt bs 6 2 };
+}
+
+-- 26 is for "power reply with an infinity or no number"
+abbrev pub powersFigure : PowersAnswer → Decoded
+powersFigure (powers.Finite p) = Powers p
+powersFigure powers.NotFinite = NotFinite
+
+abbrev pub powerFigure : Power → Decoded
+powerFigure (power.Finite p) = OnePower p
+powerFigure power.NotFinite = NotFinite
+
+-- the figures that the data of a reply hold
+unfoldable pub figuresOf : Subject → List ℕ → Decoded
+unfolding countsOf
+figuresOf subject.Address bs = Address (byteAt bs 0)
+figuresOf subject.Telemetry bs = Telemetry (telemetryOf bs)
+figuresOf subject.DateTime bs = DateTime (dateTimeOf bs)
+figuresOf subject.DisplayMask bs = DisplayMask (maskOf bs)
+figuresOf subject.Powers bs = powersFigure (powersOf bs)
+figuresOf subject.OnePower bs = powerFigure (powerOf bs 0)
+figuresOf subject.Slice bs = Slice (countsOf bs)
+figuresOf subject.SixSlices bs = SixSlices
+figuresOf subject.Nothing bs = OutOfRange
+
+-- a well-formed reply: 24 with the meter's result, else its figures
+unfoldable pub repliedOf : Subject → List ℕ → Decoded
+unfolding figuresOf
+repliedOf s y = cond (eqb (byteAt y 3) 0) (figuresOf s (replyData y)) (MeterRefused (byteAt y 3))
+
+formed : Form → Subject → List ℕ → Decoded
+unfolding repliedOf
+formed WellFormed s y = repliedOf s y
+formed (Faulty fault) s y = Malformed fault
+
+-- a reply y decoded against the request q: 27, 23, 24, 26
+unfoldable pub decodedOf : Request → List ℕ → Decoded
+unfolding formed
+decodedOf q y =
+    let s = subjectOf q in
+    cond (askable s) (formed (formOf (q .address) (q .parameter) (6 + dataBytes s) y) s y) OutOfRange
+
+-- document 01's numbers
+abbrev pub numberOf : Decoded → ℕ
+numberOf OutOfRange = 27
+numberOf (Malformed fault) = 23
+numberOf (MeterRefused result) = 24
+numberOf NotFinite = 26
+numberOf (Address a) = 0
+numberOf (Telemetry t) = 0
+numberOf (DateTime t) = 0
+numberOf (DisplayMask m) = 0
+numberOf (Powers p) = 0
+numberOf (OnePower p) = 0
+numberOf (Slice c) = 0
+numberOf SixSlices = 0

@@ -1,0 +1,144 @@
+// Replies decoded against their request.
+use crate::form::Fault;
+use crate::form::Form;
+use crate::form::form_of;
+use crate::request::Request;
+use crate::request::Subject;
+use crate::request::data_bytes;
+use crate::request::is_askable;
+use crate::request::subject_of;
+use calendar::DateTime;
+use energy::Counts;
+use figures::DisplayMask;
+use figures::Power;
+use figures::Powers;
+use figures::PowersAnswer;
+use figures::Telemetry;
+use frame::code;
+ghost use mathlib.Core.Path.{_≡_};
+ghost use Rattle.reader.specs.Reply.{countsOf, powersFigure, powerFigure, figuresOf, repliedOf, decodedOf, numberOf};
+
+// The counts of one slice.
+pub struct Slice {
+    pub e_plus: Counts,
+    pub e_minus: Counts,
+    pub r_plus: Counts,
+    pub r_minus: Counts,
+}
+
+pub enum Decoded {
+    // A request that no record would answer with 0.
+    OutOfRange,
+    Malformed(Fault),
+    // The meter's result.
+    MeterRefused(u8),
+    // An infinity or no number among the powers.
+    NotFinite,
+    Address(u8),
+    Telemetry(Telemetry),
+    DateTime(DateTime),
+    DisplayMask(DisplayMask),
+    Powers(Powers),
+    OnePower(f32),
+    Slice(Slice),
+    // `six_slices` has the rows.
+    SixSlices,
+}
+
+impl Decoded {
+    // Document 01's number.
+    pub fn number(self) -> u8
+        ensures { λ r. ⌜ r ≡ numberOf self ⌝ }
+    {
+        match self {
+            Decoded::OutOfRange => refusal::OUT_OF_RANGE,
+            Decoded::Malformed(_) => refusal::MALFORMED,
+            Decoded::MeterRefused(_) => refusal::METER_REFUSED,
+            Decoded::NotFinite => refusal::NOT_FINITE,
+            Decoded::Address(_) => refusal::DONE,
+            Decoded::Telemetry(_) => refusal::DONE,
+            Decoded::DateTime(_) => refusal::DONE,
+            Decoded::DisplayMask(_) => refusal::DONE,
+            Decoded::Powers(_) => refusal::DONE,
+            Decoded::OnePower(_) => refusal::DONE,
+            Decoded::Slice(_) => refusal::DONE,
+            Decoded::SixSlices => refusal::DONE,
+        }
+    }
+}
+
+const RESULT: usize = 3;
+
+const DATA: usize = 4;
+// A reply without data.
+const BARE_BYTES: usize = 6;
+
+pub fn decode(q: Request, reply: &[u8]) -> Decoded
+    ensures { λ r. ⌜ r ≡ decodedOf q (now (reply .entry)) ⌝ }
+{
+    let subject = subject_of(q);
+    if is_askable(subject) {
+        let full = BARE_BYTES + data_bytes(subject);
+        match form_of(q.address, q.parameter, full, reply) {
+            Form::WellFormed => replied(subject, reply),
+            Form::Faulty(fault) => Decoded::Malformed(fault),
+        }
+    } else {
+        Decoded::OutOfRange
+    }
+}
+
+fn replied(subject: Subject, reply: &[u8]) -> Decoded
+    ensures { λ r. ⌜ r ≡ repliedOf subject (now (reply .entry)) ⌝ }
+{
+    let result = words::byte_at(reply, RESULT);
+    if result != code::OK {
+        return Decoded::MeterRefused(result);
+    }
+    figures_of(subject, words::tail(reply, DATA))
+}
+
+fn figures_of(subject: Subject, bytes: &[u8]) -> Decoded
+    ensures { λ r. ⌜ r ≡ figuresOf subject (now (bytes .entry)) ⌝ }
+{
+    match subject {
+        Subject::Address => Decoded::Address(words::byte_at(bytes, 0)),
+        Subject::Telemetry => Decoded::Telemetry(figures::telemetry_of(bytes)),
+        Subject::DateTime => Decoded::DateTime(figures::date_time_of(bytes)),
+        Subject::DisplayMask => Decoded::DisplayMask(figures::display_mask(bytes)),
+        Subject::Powers => powers_figure(figures::powers_of(bytes)),
+        Subject::OnePower => power_figure(figures::power_of(bytes, 0)),
+        Subject::Slice => Decoded::Slice(counts_of(bytes)),
+        Subject::SixSlices => Decoded::SixSlices,
+        Subject::Nothing => Decoded::OutOfRange,
+    }
+}
+
+fn powers_figure(p: PowersAnswer) -> Decoded
+    ensures { λ r. ⌜ r ≡ powersFigure p ⌝ }
+{
+    match p {
+        PowersAnswer::Finite(powers) => Decoded::Powers(powers),
+        PowersAnswer::NotFinite => Decoded::NotFinite,
+    }
+}
+
+fn power_figure(p: Power) -> Decoded
+    ensures { λ r. ⌜ r ≡ powerFigure p ⌝ }
+{
+    match p {
+        Power::Finite(power) => Decoded::OnePower(power),
+        Power::NotFinite => Decoded::NotFinite,
+    }
+}
+
+fn counts_of(bytes: &[u8]) -> Slice
+    ensures { λ r. ⌜ r ≡ countsOf (now (bytes .entry)) ⌝ }
+{
+    Slice {
+        e_plus: Counts(words::u16_at(bytes, 0) as u32),
+        e_minus: Counts(words::u16_at(bytes, 2) as u32),
+        r_plus: Counts(words::u16_at(bytes, 4) as u32),
+        r_minus: Counts(words::u16_at(bytes, 6) as u32),
+    }
+}
