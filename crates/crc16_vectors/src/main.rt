@@ -1,19 +1,12 @@
 // The CRC-16 over frames that the papers print with theirs. Each line has the bytes before the CRC
 // and the CRC, low byte first; stdout was written by hand from the papers.
 use libc::STDOUT_FILENO;
-ghost use Prim.Native.Nat.{_<_};
-
-// The upper-case hex digit of n.
-fn digit(n: u8) -> u8
-    requires { ⌜ n < 16 ⌝ }
-{
-    if n < 10 { b'0' + n } else { b'A' + (n - 10) }
-}
 
 // Writes a byte as two hex digits, and what stands after it.
 fn put(byte: u8, after: u8) {
-    let text = [digit(byte / 16), digit(byte % 16), after];
-    io::write_all(STDOUT_FILENO, &text);
+    let mut digits = [0, 0, after];
+    text::put_hex(&mut digits, 0, &[byte]);
+    io::write_all(STDOUT_FILENO, &digits);
 }
 
 // Writes a frame's bytes, each with a space after it.

@@ -1,0 +1,4 @@
+pub mod Decimal
+pub mod DateText
+pub mod Hex
+pub mod Reading
