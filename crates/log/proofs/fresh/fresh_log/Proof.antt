@@ -1,0 +1,51 @@
+use mathlib.Core.Path.{sym, ap}
+use borrow.Author.Tests.{le-leb, lt-leb}
+use Rattle.log.specs.FreshLaws.{fresh-written}
+use Rattle.log.specs.Fresh.{freshOf, outcome}
+use borrow.Author.Needs.{needs}
+use Rattle.log.proofs.fresh.fresh_log.Statement.{statement}
+use Rattle.log.proofs.fresh.fresh_log.Tie as tie
+
+is-header-requires : tie.Need-is-header-requires
+is-header-requires c κs = search needs
+
+length-of-requires : tie.Need-length-of-requires
+length-of-requires c κs = search needs
+
+returns : tie.Need-returns
+unfolding freshOf
+returns c = simp (sym (c .before .before .before .is-header .ensures), c .before .before .if1 .taken, sym (c .before .length-of .ensures), lt-leb _ _ (c .if2 .taken))
+
+write-header-requires : tie.Need-write-header-requires
+write-header-requires c κs = search needs
+
+cells-of-requires : tie.Need-cells-of-requires
+cells-of-requires c κs = search needs
+
+write-gaps-requires : tie.Need-write-gaps-requires
+write-gaps-requires c κs = search needs
+
+same-length : tie.Need-same-length
+same-length c = search needs
+
+returns-2 : tie.Need-returns-2
+unfolding freshOf
+returns-2 c = simp (sym (c .before .before .before .before .before .before .before .before .before .before .before .before .is-header .ensures), c .before .before .before .before .before .before .before .before .before .before .before .if1 .taken, sym (c .before .before .before .before .before .before .before .before .before .before .length-of .ensures), le-leb _ _ (c .before .before .before .before .before .before .before .before .before .if2 .left)) (ap (outcome _) (fresh-written (c .before .before .before .before .before .before .before .before .before .before .before .before .before .before .args .out .now) _ _ (c .before .before .before .before .before .before .before .before .before .before .before .before .before .before .args .h) _ (c .before .before .before .cells-of .ensures) (c .before .before .before .before .before .before .before .write-header .ensures) (c .before .before .write-gaps .ensures)))
+
+returns-3 : tie.Need-returns-3
+unfolding freshOf
+returns-3 c = simp (sym (c .before .is-header .ensures), c .if1 .left)
+
+pub fresh-log-spec : {M : Type 1} → statement M
+fresh-log-spec =
+    tie.close
+    (tie.spec
+    is-header-requires
+    length-of-requires
+    returns
+    write-header-requires
+    cells-of-requires
+    write-gaps-requires
+    same-length
+    returns-2
+    returns-3)

@@ -1,0 +1,57 @@
+use mathlib.Core.List.{List}
+use borrow.Author.Needs.{needs}
+use Rattle.log.specs.ImageLaws.{length-putCell}
+use native.Mathlib.Nat.{sub-zero}
+use Rattle.log.specs.FreshLaws.{gap-put}
+use lib.ListN.{length}
+use Prim.Native.Nat.{ℕ, suc, _+_, _-_, _≤_}
+use mathlib.Core.Path.{_≡_, refl, sym, ap, _∙_}
+use native.Mathlib.Omega.{arith}
+use Rattle.log.specs.Fresh.{gaps}
+use Rattle.log.specs.Image.{cellStart, cellsBytes}
+use Rattle.words.specs.Place.{written}
+use Rattle.log.proofs.fresh.write_gaps.Statement.{statement}
+use Rattle.log.proofs.fresh.write_gaps.Tie as tie
+
+abbrev Inv-loop : tie.InvT-loop
+Inv-loop out₀ cells i₀ out i =
+    (i ≤ cells) × (length out ≡ length out₀) × (written out (cellStart i) (cellsBytes (gaps (cells - i))) ≡ written out₀ 14 (cellsBytes (gaps cells)))
+
+abbrev μ-loop : tie.MeasureT-loop
+μ-loop out₀ cells i₀ out i = cells - i
+
+loop-holds : tie.Need-loop-holds Inv-loop μ-loop
+loop-holds c = (omega arith, refl, rw sub-zero)
+
+put-cell-requires : tie.Need-put-cell-requires Inv-loop μ-loop
+put-cell-requires c κs = search needs
+
+add-i : tie.Need-add-i Inv-loop μ-loop
+add-i c = omega arith
+
+loop-less : tie.Need-loop-less Inv-loop μ-loop
+loop-less c = omega arith
+
+loop-again : tie.Need-loop-again Inv-loop μ-loop
+loop-again c = let s = c .before .before .before .before .before .loop .out in let i = c .before .before .before .before .before .loop .i in let n = c .before .before .before .before .before .before .before .args .cells in let e : suc (n - (i + 1)) ≡ n - i = omega arith in (omega arith, ap length (c .before .before .put-cell .ensures) ∙ length-putCell s i _ ∙ c .before .before .before .before .before .loop .inv .1, ap (λ (x : List ℕ). written x (cellStart (i + 1)) (cellsBytes (gaps (n - (i + 1))))) (c .before .before .put-cell .ensures) ∙ gap-put s i (n - (i + 1)) ∙ ap (λ (k : ℕ). written s (cellStart i) (cellsBytes (gaps k))) e ∙ c .before .before .before .before .before .loop .inv .2)
+
+same-length : tie.Need-same-length Inv-loop μ-loop
+same-length c = c .before .loop .inv .1
+
+returns : tie.Need-returns Inv-loop μ-loop
+unfolding written cellsBytes gaps
+returns c = let n = c .before .before .before .args .cells in let i = c .before .loop .i in let e : n - i ≡ 0 = omega arith in sym (ap (λ (k : ℕ). written (c .before .loop .out) (cellStart i) (cellsBytes (gaps k))) e) ∙ c .before .loop .inv .2
+
+pub write-gaps-spec : {M : Type 1} → statement M
+write-gaps-spec =
+    tie.close
+    (tie.spec
+    Inv-loop
+    μ-loop
+    loop-holds
+    put-cell-requires
+    add-i
+    loop-less
+    loop-again
+    same-length
+    returns)

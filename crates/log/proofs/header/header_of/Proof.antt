@@ -1,0 +1,33 @@
+use Rattle.log.specs.Header.{headerOf, fieldsRight}
+use mathlib.Core.Bool.{and-false}
+use mathlib.Core.Path.{sym}
+use borrow.Author.Tests.{eq-eqb, ne-eqb}
+use borrow.Author.Needs.{needs}
+use Rattle.log.proofs.header.header_of.Statement.{statement}
+use Rattle.log.proofs.header.header_of.Tie as tie
+
+header-at-requires : tie.Need-header-at-requires
+header-at-requires c κs = search needs
+
+u16-at-requires : tie.Need-u16-at-requires
+u16-at-requires c κs = search needs
+
+returns : tie.Need-returns
+unfolding headerOf fieldsRight
+returns c = simp (sym (c .before .u16-at .ensures), ne-eqb _ _ (c .if1 .taken), and-false)
+
+is-header-requires : tie.Need-is-header-requires
+is-header-requires c κs = search needs
+
+returns-2 : tie.Need-returns-2
+unfolding headerOf fieldsRight
+returns-2 c = simp (sym (c .before .before .before .u16-at .ensures), eq-eqb _ _ (c .before .before .if1 .left), sym (c .before .before .before .before .header-at .ensures), sym (c .before .is-header .ensures), c .if2 .taken)
+
+returns-3 : tie.Need-returns-3
+unfolding headerOf fieldsRight
+returns-3 c = simp (sym (c .before .before .before .u16-at .ensures), sym (c .before .before .before .before .header-at .ensures), sym (c .before .is-header .ensures), c .if2 .left)
+
+pub header-of-spec : {M : Type 1} → statement M
+header-of-spec =
+    tie.close
+    (tie.spec header-at-requires u16-at-requires returns is-header-requires returns-2 returns-3)

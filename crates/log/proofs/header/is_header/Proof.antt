@@ -1,0 +1,52 @@
+use native.Mathlib.Omega.{arith}
+use mathlib.Core.Bool.{and-true}
+use Rattle.log.specs.HeaderLaws.{no-minutes, some-minutes}
+use Rattle.log.specs.Header.{isHeader, daysRight}
+use mathlib.Core.Bool.{and-false}
+use mathlib.Core.Path.{_∙_}
+use borrow.Author.Tests.{le-leb, lt-leb}
+use borrow.Author.Needs.{needs}
+use Rattle.log.proofs.header.is_header.Statement.{statement}
+use Rattle.log.proofs.header.is_header.Tie as tie
+
+returns : tie.Need-returns
+unfolding isHeader daysRight
+returns c = simp (c .if1 .taken, and-false)
+
+returns-2 : tie.Need-returns-2
+unfolding isHeader daysRight
+returns-2 c = simp (lt-leb _ _ (c .if2 .taken), and-false)
+
+returns-3 : tie.Need-returns-3
+unfolding isHeader daysRight
+returns-3 c = simp (c .if3 .taken, and-false)
+
+slots-of-requires : tie.Need-slots-of-requires
+slots-of-requires c κs = search needs
+
+returns-4 : tie.Need-returns-4
+unfolding isHeader daysRight
+returns-4 c = simp (no-minutes _ _ (c .before .slots-of .ensures) (c .if4 .taken), and-false)
+
+sub-has-day : tie.Need-sub-has-day
+sub-has-day c = search needs
+
+has-day-requires : tie.Need-has-day-requires
+has-day-requires c κs = search needs
+
+returns-5 : tie.Need-returns-5
+unfolding isHeader daysRight
+returns-5 c = c .has-day .ensures ∙ simp (le-leb 1 (c .before .before .before .before .before .before .before .before .before .before .before .args .h .days) (omega arith), le-leb (c .before .before .before .before .before .before .before .before .before .before .before .args .h .days) 62 (omega arith), some-minutes _ _ (c .before .before .before .before .slots-of .ensures) (c .before .before .before .if4 .left), le-leb 1 (c .before .before .before .before .before .before .before .before .before .before .before .args .h .ke) (omega arith), le-leb (c .before .before .before .before .before .before .before .before .before .before .before .args .h .ke) 65535 (search needs), and-true)
+
+pub is-header-spec : {M : Type 1} → statement M
+is-header-spec =
+    tie.close
+    (tie.spec
+    returns
+    returns-2
+    returns-3
+    slots-of-requires
+    returns-4
+    sub-has-day
+    has-day-requires
+    returns-5)

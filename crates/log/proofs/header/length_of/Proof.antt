@@ -1,0 +1,23 @@
+use Rattle.log.specs.HeaderLaws.{cells-at-most}
+use Prim.Native.Nat.{_<_}
+use native.Mathlib.Omega.{arith}
+use Rattle.log.specs.Header.{lengthOf}
+use borrow.Author.Needs.{needs}
+use Rattle.log.proofs.header.length_of.Statement.{statement}
+use Rattle.log.proofs.header.length_of.Tie as tie
+
+cells-of-requires : tie.Need-cells-of-requires
+cells-of-requires c κs = search needs
+
+mul-result : tie.Need-mul-result
+mul-result c = let d : c .before .args .h .days < 256 = search needs in omega (arith, c .cells-of .ensures, cells-at-most (c .before .args .h) d)
+
+add-result : tie.Need-add-result
+add-result c = let d : c .before .args .h .days < 256 = search needs in omega (arith, c .cells-of .ensures, cells-at-most (c .before .args .h) d)
+
+returns : tie.Need-returns
+unfolding lengthOf
+returns c = simp (c .cells-of .ensures)
+
+pub length-of-spec : {M : Type 1} → statement M
+length-of-spec = tie.close (tie.spec cells-of-requires mul-result add-result returns)

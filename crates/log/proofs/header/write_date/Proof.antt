@@ -1,0 +1,27 @@
+use mathlib.Core.Path.{refl}
+use Rattle.log.specs.ByteLaws.{onward}
+use Rattle.log.specs.Header.{dateBytes}
+use borrow.Author.Needs.{needs}
+use Rattle.log.proofs.header.write_date.Statement.{statement}
+use Rattle.log.proofs.header.write_date.Tie as tie
+
+put-byte-requires : tie.Need-put-byte-requires
+put-byte-requires c κs = search needs
+
+put-byte-requires-2 : tie.Need-put-byte-requires-2
+put-byte-requires-2 c κs = search needs
+
+put-byte-requires-3 : tie.Need-put-byte-requires-3
+put-byte-requires-3 c κs = search needs
+
+same-length : tie.Need-same-length
+same-length c = search needs
+
+returns : tie.Need-returns
+unfolding dateBytes
+returns c = onward _ _ _ _ _ _ _ (onward _ _ _ _ _ _ _ (c .before .before .before .before .before .before .before .before .before .before .put-byte .ensures) (c .before .before .before .before .before .before .put-byte2 .ensures) refl) (c .before .before .put-byte3 .ensures) refl
+
+pub write-date-spec : {M : Type 1} → statement M
+write-date-spec =
+    tie.close
+    (tie.spec put-byte-requires put-byte-requires-2 put-byte-requires-3 same-length returns)

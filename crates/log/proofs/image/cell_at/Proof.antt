@@ -1,0 +1,57 @@
+use lib.ListN.{take, drop}
+use Prim.Native.Nat.{ℕ, _+_, _*_, _-_}
+use mathlib.Core.Path.{_≡_, sym, ap, _∙_}
+use native.Mathlib.Omega.{arith}
+use Rattle.log.specs.ImageLaws.{cellAt-past}
+use Rattle.log.specs.Cell.{cellOf}
+use Rattle.log.specs.Image.{cellAt}
+use borrow.Author.Needs.{needs}
+use Rattle.log.proofs.image.cell_at.Statement.{statement}
+use Rattle.log.proofs.image.cell_at.Tie as tie
+
+returns : tie.Need-returns
+returns c = sym (cellAt-past (c .before .before .args .log .now) (c .before .before .args .i) (omega arith))
+
+mul-from : tie.Need-mul-from
+mul-from c = search needs
+
+add-from : tie.Need-add-from
+add-from c = search needs
+
+add-to : tie.Need-add-to
+add-to c = search needs
+
+returns-2 : tie.Need-returns-2
+returns-2 c = sym (cellAt-past (c .before .before .before .args .log .now) (c .before .before .before .args .i) (omega arith))
+
+sub-cell-of : tie.Need-sub-cell-of
+sub-cell-of c = search needs
+
+part-cell-of-start : tie.Need-part-cell-of-start
+part-cell-of-start c = search needs
+
+part-cell-of-end : tie.Need-part-cell-of-end
+part-cell-of-end c = search needs
+
+cell-of-requires : tie.Need-cell-of-requires
+cell-of-requires c κs = search needs
+
+returns-3 : tie.Need-returns-3
+unfolding cellAt
+returns-3 c = let i = c .before .before .before .before .before .args .i in let e : 14 + 9 * i + 9 - (14 + 9 * i) ≡ 9 = omega arith in
+    c .cell-of .ensures ∙ ap (λ (n : ℕ). cellOf (take n (drop (14 + 9 * i) (c .before .before .before .before .before .args .log .now)))) e
+
+pub cell-at-spec : {M : Type 1} → statement M
+cell-at-spec =
+    tie.close
+    (tie.spec
+    returns
+    mul-from
+    add-from
+    add-to
+    returns-2
+    sub-cell-of
+    part-cell-of-start
+    part-cell-of-end
+    cell-of-requires
+    returns-3)

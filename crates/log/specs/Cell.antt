@@ -1,0 +1,43 @@
+-- A cell of the log and its nine bytes. Source: document 01, "The reader and the log".
+use Prim.Native.Nat.{ℕ}
+use mathlib.Core.Bool.{Bool, true, cond, not, _&&_}
+use mathlib.Core.List.{List, [], _∷_, _++_}
+use lib.Dec.{eqb}
+use lib.ListN.{length}
+use Rattle.words.specs.Number.{bytesOf}
+use Rattle.words.specs.Place.{byteAt, numberAt}
+use Rattle.log.specs.declared.cell.Cell.{Cell}
+use Rattle.log.specs.declared.cell.Cell.the-variants.{Gap, Empty, Measured}
+use Rattle.log.specs.declared.cell.CellAnswer.{CellAnswer}
+use Rattle.log.specs.declared.cell.CellAnswer.the-variants.{Good, Bad}
+
+-- whether none of four counts is above zero
+unfoldable pub noCounts : ℕ → ℕ → ℕ → ℕ → Bool
+noCounts e+ e- r+ r- = eqb e+ 0 && eqb e- 0 && eqb r+ 0 && eqb r- 0
+
+-- "A cell is a gap, empty, or measured with four counts, at least one of them not zero"
+unfoldable pub isCell : Cell → Bool
+isCell Gap = true
+isCell Empty = true
+isCell (Measured e+ e- r+ r-) = not (noCounts e+ e- r+ r-)
+
+-- "9 bytes each": the kind, "and four counts low first"
+unfoldable pub kindBytes : ℕ → ℕ → ℕ → ℕ → ℕ → List ℕ
+kindBytes kind e+ e- r+ r- = kind ∷ [] ++ (bytesOf 2 e+ ++ (bytesOf 2 e- ++ (bytesOf 2 r+ ++ bytesOf 2 r-)))
+
+-- "0 gap, 1 empty, 2 measured, and four counts .., all 0 unless measured"
+unfoldable pub cellBytes : Cell → List ℕ
+cellBytes Gap = kindBytes 0 0 0 0 0
+cellBytes Empty = kindBytes 1 0 0 0 0
+cellBytes (Measured e+ e- r+ r-) = kindBytes 2 e+ e- r+ r-
+
+-- the cell of a kind and four counts, where there is one
+unfoldable pub kindCell : ℕ → ℕ → ℕ → ℕ → ℕ → CellAnswer
+kindCell kind e+ e- r+ r- =
+    cond (noCounts e+ e- r+ r-)
+    (cond (eqb kind 0) (Good Gap) (cond (eqb kind 1) (Good Empty) Bad))
+    (cond (eqb kind 2) (Good (Measured e+ e- r+ r-)) Bad)
+
+-- the cell that nine bytes are
+unfoldable pub cellOf : List ℕ → CellAnswer
+cellOf bs = cond (eqb (length bs) 9) (kindCell (byteAt bs 0) (numberAt bs 1 2) (numberAt bs 3 2) (numberAt bs 5 2) (numberAt bs 7 2)) Bad

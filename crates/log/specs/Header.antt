@@ -1,0 +1,84 @@
+-- The header of a log. Source: document 01, "The reader and the log".
+use Prim.Native.Nat.{ℕ, _+_, _*_, _-_, _/_}
+use mathlib.Core.Bool.{Bool, cond, _&&_, _||_}
+use mathlib.Core.List.{List, [], _∷_, _++_}
+use lib.Dec.{ltb, leb, eqb}
+use lib.ListN.{length}
+use Rattle.words.specs.Number.{bytesOf}
+use Rattle.words.specs.Place.{byteAt, numberAt}
+use Rattle.calendar.specs.Date.{isDate, dayNumber, centuryDays}
+use Rattle.calendar.specs.declared.date.Date.{Date}
+use Rattle.log.specs.declared.header.Header.{Header}
+use Rattle.log.specs.declared.header.HeaderAnswer.{HeaderAnswer}
+use Rattle.log.specs.declared.header.HeaderAnswer.the-variants.{Right, Wrong}
+use Rattle.log.specs.declared.header.Lent.{Lent}
+use Rattle.log.specs.declared.header.Lent.the-variants.{Sound, Unsound}
+
+-- "an interval of 15 or 30 minutes"
+unfoldable pub isMinutes : ℕ → Bool
+isMinutes m = eqb m 15 || eqb m 30
+
+-- "Every day has 48 or 96 slots": its 1440 minutes, an interval each
+unfoldable pub slotsOf : ℕ → ℕ
+slotsOf m = cond (isMinutes m) (1440 / m) 0
+
+-- the log's cells: the slots of all its days
+unfoldable pub cellsOf : Header → ℕ
+cellsOf h = h .days * slotsOf (h .minutes)
+
+-- "14 bytes. Then cells in time order, 9 bytes each"
+unfoldable pub lengthOf : Header → ℕ
+lengthOf h = 14 + 9 * cellsOf h
+
+-- "1 to 62 days that end by 2099-12-31"
+unfoldable pub daysRight : Header → Bool
+daysRight h = leb 1 (h .days) && leb (h .days) 62 && ltb (dayNumber (h .start) + (h .days - 1)) centuryDays
+
+-- "a start date (2000..2099), 1 to 62 days .., an interval of 15 or 30 minutes, and Ke (1..65,535)"
+unfoldable pub isHeader : Header → Bool
+isHeader h = isDate (h .start) && daysRight h && isMinutes (h .minutes) && leb 1 (h .ke) && leb (h .ke) 65535
+
+-- "year - 2000, month, day"
+unfoldable pub dateBytes : Date → List ℕ
+dateBytes d = d .year ∷ d .month ∷ d .day ∷ []
+
+-- ""GEL", version 1 (16 bits, low first), year - 2000, month, day, days, minutes, Ke (2, low first), two zero bytes: 14 bytes"
+unfoldable pub headerBytes : Header → List ℕ
+headerBytes h =
+    71 ∷ 69 ∷ 76 ∷ []
+    ++ (bytesOf 2 1 ++ (dateBytes (h .start) ++ (h .days ∷ [] ++ (h .minutes ∷ [] ++ (bytesOf 2 (h .ke) ++ bytesOf 2 0)))))
+
+-- the fields, as their bytes say
+unfoldable pub headerAt : List ℕ → Header
+headerAt s =
+    record {
+      start = record { year = byteAt s 5; month = byteAt s 6; day = byteAt s 7 };
+      days = byteAt s 8;
+      minutes = byteAt s 9;
+      ke = numberAt s 10 2;
+    }
+
+-- the file reader's 30: the mark
+unfoldable pub markRight : List ℕ → Bool
+markRight s = eqb (byteAt s 0) 71 && eqb (byteAt s 1) 69 && eqb (byteAt s 2) 76
+
+-- the file reader's 31: the version
+unfoldable pub versionRight : List ℕ → Bool
+versionRight s = eqb (numberAt s 3 2) 1
+
+-- the file reader's 32: the fields, with the two zero bytes
+unfoldable pub fieldsRight : List ℕ → Bool
+fieldsRight s = isHeader (headerAt s) && eqb (numberAt s 12 2) 0
+
+-- the header of bytes whose mark and version are right
+unfoldable pub headerOf : List ℕ → HeaderAnswer
+headerOf s = cond (fieldsRight s) (Right (headerAt s)) Wrong
+
+-- the file reader's 33: the length
+unfoldable pub fittedTo : ℕ → HeaderAnswer → Lent
+fittedTo n Wrong = Unsound
+fittedTo n (Right h) = cond (eqb n (lengthOf h)) (Sound h) Unsound
+
+-- 28: "lent log with a wrong header, length ..": whether lent bytes are a log, and with which header
+unfoldable pub soundOf : List ℕ → Lent
+soundOf s = cond (markRight s && versionRight s) (fittedTo (length s) (headerOf s)) Unsound

@@ -1,0 +1,36 @@
+-- The log's image. Source: document 01, "The reader and the log": "In memory a log is its image".
+use Prim.Native.Nat.{ℕ, zero, suc, _+_, _*_}
+use mathlib.Core.List.{List, [], _∷_, _++_}
+use lib.ListN.{take, drop}
+use Rattle.words.specs.Place.{written}
+use Rattle.log.specs.Header.{headerBytes}
+use Rattle.log.specs.Cell.{cellOf, cellBytes}
+use Rattle.log.specs.declared.header.Header.{Header}
+use Rattle.log.specs.declared.cell.Cell.{Cell}
+use Rattle.log.specs.declared.cell.CellAnswer.{CellAnswer}
+
+-- "14 bytes. Then cells in time order, 9 bytes each": where cell i begins
+abbrev pub cellStart : ℕ → ℕ
+cellStart i = 14 + 9 * i
+
+-- the cell with index i, read
+unfoldable pub cellAt : List ℕ → ℕ → CellAnswer
+cellAt s i = cellOf (take 9 (drop (cellStart i) s))
+
+-- the image with another cell at index i
+unfoldable pub putCell : List ℕ → ℕ → Cell → List ℕ
+putCell s i c = written s (cellStart i) (cellBytes c)
+
+-- the cells' bytes, in time order
+unfoldable pub cellsBytes : List Cell → List ℕ
+cellsBytes [] = []
+cellsBytes (c ∷ cs) = cellBytes c ++ cellsBytes cs
+
+-- the image of a header and its cells
+unfoldable pub imageOf : Header → List Cell → List ℕ
+imageOf h cs = headerBytes h ++ cellsBytes cs
+
+-- the n cells from index i on, read
+unfoldable pub cellsFrom : List ℕ → ℕ → ℕ → List CellAnswer
+cellsFrom s i zero = []
+cellsFrom s i (suc n) = cellAt s i ∷ cellsFrom s (suc i) n

@@ -1,0 +1,14 @@
+pub mod ByteLaws
+pub mod Header
+pub mod HeaderLaws
+pub mod Cell
+pub mod CellLaws
+pub mod Image
+pub mod ImageLaws
+pub mod Interval
+pub mod IntervalLaws
+pub mod Fresh
+pub mod FreshLaws
+pub mod Report
+pub mod Tallies
+pub mod ReportLaws

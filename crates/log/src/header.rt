@@ -1,0 +1,187 @@
+// The header of a log, and whether lent bytes are a log's image.
+ghost use mathlib.Core.Path.{_≡_};
+ghost use mathlib.Core.Bool.{_&&_};
+ghost use Prim.Native.Nat.{_+_, _≤_};
+ghost use lib.Dec.{ltb};
+ghost use Rattle.words.specs.Place.{written};
+ghost use Rattle.calendar.specs.Date.{isDate, dayNumber, centuryDays};
+ghost use Rattle.log.specs.Header.{slotsOf, cellsOf, lengthOf, isHeader, headerBytes, headerAt, dateBytes, markRight, versionRight, headerOf, fittedTo, soundOf};
+use crate::cell::CELL_BYTES;
+
+pub struct Header {
+    pub start: calendar::Date,
+    pub days: u8,
+    // The interval.
+    pub minutes: u8,
+    // Milliwatt-hours for a count.
+    pub ke: u16,
+}
+
+pub enum HeaderAnswer {
+    Right(Header),
+    Wrong,
+}
+
+// What lent bytes are.
+pub enum Lent {
+    Sound(Header),
+    Unsound,
+}
+
+pub const HEADER_BYTES: usize = 14;
+
+const MOST_DAYS: u8 = 62;
+
+const VERSION: u16 = 1;
+
+pub fn slots_of(minutes: u8) -> u8
+    ensures { λ r. ⌜ r ≡ slotsOf minutes ⌝ }
+{
+    match minutes {
+        15 => 96,
+        30 => 48,
+        _ => 0,
+    }
+}
+
+pub fn cells_of(h: Header) -> usize
+    ensures { λ r. ⌜ r ≡ cellsOf h ⌝ }
+{
+    let slots = slots_of(h.minutes);
+    (h.days as usize) * (slots as usize)
+}
+
+// The bytes of a log's image.
+pub fn length_of(h: Header) -> usize
+    ensures { λ r. ⌜ r ≡ lengthOf h ⌝ }
+{
+    HEADER_BYTES + CELL_BYTES * cells_of(h)
+}
+
+pub fn is_header(h: Header) -> bool
+    ensures { λ r. ⌜ r ≡ isHeader h ⌝ }
+{
+    if h.days == 0 {
+        return false;
+    }
+    if MOST_DAYS < h.days {
+        return false;
+    }
+    if h.ke == 0 {
+        return false;
+    }
+    if slots_of(h.minutes) == 0 {
+        return false;
+    }
+    let start = h.start;
+    has_day(start, h.days - 1)
+}
+
+// Whether a date is one, and so many days later the calendar has not ended.
+fn has_day(start: calendar::Date, n: u8) -> bool
+    ensures { λ r. ⌜ r ≡ (isDate start && ltb (dayNumber start + n) centuryDays) ⌝ }
+{
+    match calendar::days_later(start, n as u16) {
+        calendar::DateAnswer::On(_) => true,
+        calendar::DateAnswer::NotADate => false,
+        calendar::DateAnswer::OutOfRange => false,
+    }
+}
+
+pub fn mark_right(log: &[u8]) -> bool
+    ensures { λ r. ⌜ r ≡ markRight (now (log .entry)) ⌝ }
+{
+    if words::byte_at(log, 0) != b'G' {
+        return false;
+    }
+    if words::byte_at(log, 1) != b'E' {
+        return false;
+    }
+    words::byte_at(log, 2) == b'L'
+}
+
+pub fn version_right(log: &[u8]) -> bool
+    ensures { λ r. ⌜ r ≡ versionRight (now (log .entry)) ⌝ }
+{
+    words::u16_at(log, 3) == VERSION
+}
+
+// The header that the fields say, right or not.
+fn header_at(log: &[u8]) -> Header
+    ensures { λ r. ⌜ r ≡ headerAt (now (log .entry)) ⌝ }
+{
+    let start = calendar::Date {
+        year: words::byte_at(log, 5),
+        month: words::byte_at(log, 6),
+        day: words::byte_at(log, 7),
+    };
+    Header {
+        start: start,
+        days: words::byte_at(log, 8),
+        minutes: words::byte_at(log, 9),
+        ke: words::u16_at(log, 10),
+    }
+}
+
+// The header of at least fourteen bytes whose mark and version are right.
+pub fn header_of(log: &[u8]) -> HeaderAnswer
+    ensures { λ r. ⌜ r ≡ headerOf (now (log .entry)) ⌝ }
+{
+    let h = header_at(log);
+    if words::u16_at(log, 12) != 0 {
+        return HeaderAnswer::Wrong;
+    }
+    if is_header(h) {
+        HeaderAnswer::Right(h)
+    } else {
+        HeaderAnswer::Wrong
+    }
+}
+
+pub fn sound(log: &[u8]) -> Lent
+    ensures { λ r. ⌜ r ≡ soundOf (now (log .entry)) ⌝ }
+{
+    if mark_right(log) {
+        if version_right(log) {
+            return fitted(header_of(log), log.len());
+        }
+    }
+    Lent::Unsound
+}
+
+// Bytes with this header are a log where they are as many as it says.
+fn fitted(answer: HeaderAnswer, length: usize) -> Lent
+    ensures { λ r. ⌜ r ≡ fittedTo length answer ⌝ }
+{
+    match answer {
+        HeaderAnswer::Right(h) => {
+            if length == length_of(h) {
+                Lent::Sound(h)
+            } else {
+                Lent::Unsound
+            }
+        }
+        HeaderAnswer::Wrong => Lent::Unsound,
+    }
+}
+
+pub fn write_header(out: &mut [u8], h: Header)
+    ensures { λ _. ⌜ now (out .exit) ≡ written (now (out .entry)) 0 (headerBytes h) ⌝ }
+{
+    words::put_bytes(out, 0, b"GEL");
+    words::put_u16(out, 3, VERSION);
+    let start = h.start;
+    write_date(out, start);
+    words::put_byte(out, 8, h.days);
+    words::put_byte(out, 9, h.minutes);
+    words::put_u16(out, 10, h.ke);
+    words::put_u16(out, 12, 0);
+}
+
+fn write_date(out: &mut [u8], d: calendar::Date)
+    ensures { λ _. ⌜ now (out .exit) ≡ written (now (out .entry)) 5 (dateBytes d) ⌝ }
+{
+    words::put_byte(out, 5, d.year);
+    words::put_byte(out, 6, d.month);
+    words::put_byte(out, 7, d.day);
+}

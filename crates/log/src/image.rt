@@ -1,0 +1,35 @@
+// The log's image: single cells, by their index in time order.
+ghost use mathlib.Core.Path.{_≡_};
+ghost use Rattle.log.specs.Image.{cellAt, putCell};
+use crate::cell::CELL_BYTES;
+use crate::cell::Cell;
+use crate::cell::CellAnswer;
+use crate::header::HEADER_BYTES;
+
+pub fn cell_at(log: &[u8], i: usize) -> CellAnswer
+    ensures { λ r. ⌜ r ≡ cellAt (now (log .entry)) i ⌝ }
+{
+    // A larger index lies past the end, and its place might wrap.
+    if log.len() / CELL_BYTES <= i {
+        return CellAnswer::Bad;
+    }
+    let from = HEADER_BYTES + CELL_BYTES * i;
+    let to = from + CELL_BYTES;
+    if log.len() < to {
+        return CellAnswer::Bad;
+    }
+    crate::cell::cell_of(&log[from..to])
+}
+
+// As far as the image has room for it.
+pub fn put_cell(log: &mut [u8], i: usize, c: Cell)
+    ensures { λ _. ⌜ now (log .exit) ≡ putCell (now (log .entry)) i c ⌝ }
+{
+    if log.len() / CELL_BYTES <= i {
+        return;
+    }
+    let from = HEADER_BYTES + CELL_BYTES * i;
+    if from < log.len() {
+        crate::cell::write_cell(&mut log[from..], c);
+    }
+}

@@ -1,0 +1,41 @@
+// The log of slices as it stands in memory, its image: fourteen bytes of header, and behind them a cell for each interval. It says
+// which lent bytes are a sound log, reads and writes single cells, finds an interval's cell and a day's date, makes a fresh log, and
+// counts a day's cells and sums for the day report. Other crates speak of a log by these functions and their definitions alone, so
+// that a change of the layout stays in here.
+mod cell;
+mod fresh;
+mod header;
+mod image;
+mod interval;
+mod report;
+mod tallies;
+
+pub use cell::CELL_BYTES;
+pub use cell::Cell;
+pub use cell::CellAnswer;
+pub use cell::cell_of;
+pub use cell::write_cell;
+pub use fresh::FreshAnswer;
+pub use fresh::fresh_log;
+pub use header::HEADER_BYTES;
+pub use header::Header;
+pub use header::HeaderAnswer;
+pub use header::Lent;
+pub use header::cells_of;
+pub use header::header_of;
+pub use header::is_header;
+pub use header::length_of;
+pub use header::mark_right;
+pub use header::slots_of;
+pub use header::sound;
+pub use header::version_right;
+pub use header::write_header;
+pub use image::cell_at;
+pub use image::put_cell;
+pub use interval::DayAnswer;
+pub use interval::Interval;
+pub use interval::date_of;
+pub use interval::interval_of;
+pub use report::REPORT_NUMBERS;
+pub use report::ReportAnswer;
+pub use report::day_report;

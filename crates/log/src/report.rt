@@ -1,0 +1,79 @@
+// The day report: how many cells of a day are gaps, empty and measured, and the sums of what was measured.
+ghost use mathlib.Core.Path.{_≡_};
+ghost use Prim.Native.Nat.{_≤_};
+ghost use mathlib.Core.List.{_++_};
+ghost use lib.ListN.{length, drop};
+ghost use Rattle.log.specs.Report.{reportNumber, outcome, reportOf, reportIn};
+ghost use Rattle.log.specs.Tallies.{rowOf};
+use crate::header::Header;
+use crate::header::Lent;
+use crate::tallies::Tallied;
+use crate::tallies::Tallies;
+
+pub enum ReportAnswer {
+    Done,
+    // The row is.
+    TooShort,
+    // The lent log, or a cell of the day.
+    Unsound,
+    // The day.
+    NotInLog,
+}
+
+impl ReportAnswer {
+    pub fn number(self) -> u8
+        ensures { λ r. ⌜ r ≡ reportNumber self ⌝ }
+    {
+        match self {
+            ReportAnswer::Done => refusal::DONE,
+            ReportAnswer::TooShort => refusal::TOO_SHORT,
+            ReportAnswer::Unsound => refusal::UNSOUND,
+            ReportAnswer::NotInLog => refusal::NOT_IN_LOG,
+        }
+    }
+}
+
+pub const REPORT_NUMBERS: usize = 7;
+
+// Sets the row's first seven numbers; a refusal leaves it as it was.
+pub fn day_report(log: &[u8], day: u8, row: &mut [u32]) -> ReportAnswer
+    ensures { λ r. ⌜ outcome r (now (row .exit)) ≡ reportOf (now (log .entry)) day (now (row .entry)) ⌝ }
+{
+    if row.len() < REPORT_NUMBERS {
+        return ReportAnswer::TooShort;
+    }
+    match crate::header::sound(log) {
+        Lent::Sound(h) => report_in(log, h, day, row),
+        Lent::Unsound => ReportAnswer::Unsound,
+    }
+}
+
+fn report_in(log: &[u8], h: Header, day: u8, row: &mut [u32]) -> ReportAnswer
+    requires { ⌜ 7 ≤ length (now row) ⌝ }
+    ensures { λ r. ⌜ outcome r (now (row .exit)) ≡ reportIn h (now (log .entry)) day (now (row .entry)) ⌝ }
+{
+    if h.days <= day {
+        return ReportAnswer::NotInLog;
+    }
+    let slots = crate::header::slots_of(h.minutes);
+    match crate::tallies::tally(log, (day as u16) * (slots as u16), slots) {
+        Tallied::All(t) => {
+            put_row(row, t);
+            ReportAnswer::Done
+        }
+        Tallied::Bad => ReportAnswer::Unsound,
+    }
+}
+
+fn put_row(row: &mut [u32], t: Tallies)
+    requires { ⌜ 7 ≤ length (now row) ⌝ }
+    ensures { λ _. ⌜ now (row .exit) ≡ rowOf t ++ drop 7 (now (row .entry)) ⌝ }
+{
+    row[0] = t.gaps;
+    row[1] = t.empties;
+    row[2] = t.measured;
+    row[3] = t.ep;
+    row[4] = t.em;
+    row[5] = t.rp;
+    row[6] = t.rm;
+}
