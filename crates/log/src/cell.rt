@@ -61,7 +61,8 @@ fn kind_cell(kind: u8, ep: u16, em: u16, rp: u16, rm: u16) -> CellAnswer
     CellAnswer::Bad
 }
 
-fn no_counts(ep: u16, em: u16, rp: u16, rm: u16) -> bool
+// Whether none of four counts is above zero.
+pub fn no_counts(ep: u16, em: u16, rp: u16, rm: u16) -> bool
     ensures { λ r. ⌜ r ≡ noCounts ep em rp rm ⌝ }
 {
     if ep != 0 {

@@ -14,6 +14,7 @@ pub use cell::CELL_BYTES;
 pub use cell::Cell;
 pub use cell::CellAnswer;
 pub use cell::cell_of;
+pub use cell::no_counts;
 pub use cell::write_cell;
 pub use fresh::FreshAnswer;
 pub use fresh::fresh_log;

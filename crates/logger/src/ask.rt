@@ -1,0 +1,121 @@
+// Asking for an interval.
+use crate::held::OpenAsk;
+use frame::code;
+use log::DayAnswer;
+use log::Header;
+use log::Interval;
+use log::Lent;
+use reader::Request;
+ghost use mathlib.Core.Path.{_≡_};
+ghost use mathlib.Core.Bool.{true};
+ghost use Prim.Native.Nat.{_≤_, _<_};
+ghost use lib.ListN.{length};
+ghost use Rattle.log.specs.Header.{isHeader, slotsOf};
+ghost use Rattle.words.specs.Place.{written};
+ghost use Rattle.logger.specs.Ask.{outcome, asked, askedOf, askedSlot, askFrame, numberOf};
+
+pub enum AskAnswer {
+    Done,
+    TooShort,
+    Unsound,
+    AlreadyOpen,
+    NotInLog,
+}
+
+// The answer, and the ask that is open after it.
+pub struct Asked {
+    pub answer: AskAnswer,
+    pub held: OpenAsk,
+}
+
+impl AskAnswer {
+    // Document 01's number.
+    pub fn number(self) -> u8
+        ensures { λ r. ⌜ r ≡ numberOf self ⌝ }
+    {
+        match self {
+            AskAnswer::Done => refusal::DONE,
+            AskAnswer::TooShort => refusal::TOO_SHORT,
+            AskAnswer::Unsound => refusal::UNSOUND,
+            AskAnswer::AlreadyOpen => refusal::ASK_ALREADY_OPEN,
+            AskAnswer::NotInLog => refusal::NOT_IN_LOG,
+        }
+    }
+}
+
+const REQUEST_BYTES: usize = 8;
+
+// Opens an ask for a slot of a day, counted from 0, and puts its frame to the front of a lent output.
+pub fn put_ask(log: &[u8], held: OpenAsk, address: u8, day: u8, slot: u8, out: &mut [u8]) -> Asked
+    ensures { λ r. ⌜ outcome r (now (out .exit)) ≡ asked (now (log .entry)) held address day slot (now (out .entry)) ⌝ }
+{
+    if out.len() < REQUEST_BYTES {
+        return Asked {
+            answer: AskAnswer::TooShort,
+            held: held,
+        };
+    }
+    match log::sound(log) {
+        Lent::Unsound => Asked {
+            answer: AskAnswer::Unsound,
+            held: held,
+        },
+        Lent::Sound(h) => ask_of(h, held, address, day, slot, out),
+    }
+}
+
+fn ask_of(h: Header, held: OpenAsk, address: u8, day: u8, slot: u8, out: &mut [u8]) -> Asked
+    requires { ⌜ isHeader h ≡ true ⌝ }
+    requires { ⌜ 8 ≤ length (now out) ⌝ }
+    ensures { λ r. ⌜ outcome r (now (out .exit)) ≡ askedOf h held address day slot (now (out .entry)) ⌝ }
+{
+    match held {
+        OpenAsk::Closed => ask_slot(h, address, day, slot, out),
+        OpenAsk::Open(_, _, _) => Asked {
+            answer: AskAnswer::AlreadyOpen,
+            held: held,
+        },
+    }
+}
+
+fn ask_slot(h: Header, address: u8, day: u8, slot: u8, out: &mut [u8]) -> Asked
+    requires { ⌜ isHeader h ≡ true ⌝ }
+    requires { ⌜ 8 ≤ length (now out) ⌝ }
+    ensures { λ r. ⌜ outcome r (now (out .exit)) ≡ askedSlot h address day slot (now (out .entry)) ⌝ }
+{
+    match log::interval_of(h, day, slot) {
+        Interval::Outside => Asked {
+            answer: AskAnswer::NotInLog,
+            held: OpenAsk::Closed,
+        },
+        Interval::At(_) => {
+            put_slot(h, address, day, slot, out);
+            Asked {
+                answer: AskAnswer::Done,
+                held: OpenAsk::Open(address, day, slot),
+            }
+        }
+    }
+}
+
+fn put_slot(h: Header, address: u8, day: u8, slot: u8, out: &mut [u8])
+    requires { ⌜ isHeader h ≡ true ⌝ }
+    requires { ⌜ day < h .days ⌝ }
+    requires { ⌜ slot < slotsOf (h .minutes) ⌝ }
+    requires { ⌜ 8 ≤ length (now out) ⌝ }
+    ensures { λ _. ⌜ now (out .exit) ≡ written (now (out .entry)) 0 (askFrame h address day slot) ⌝ }
+{
+    match log::date_of(h, day) {
+        DayAnswer::On(date) => {
+            let q = Request {
+                address: address,
+                parameter: code::SLICE,
+                offset: date.month,
+                tariff: date.day,
+                detail: slot,
+            };
+            reader::put_request(q, out);
+        }
+        DayAnswer::Outside => {}
+    }
+}
