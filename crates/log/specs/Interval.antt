@@ -16,6 +16,7 @@ use Rattle.log.specs.declared.interval.DayAnswer.the-variants as day
 unfoldable pub intervalOf : Header → ℕ → ℕ → Interval
 intervalOf h d s = cond (ltb d (h .days) && ltb s (slotsOf (h .minutes))) (interval.At (d * slotsOf (h .minutes) + s)) interval.Outside
 
+-- a day past the calendar is no day of a log
 abbrev pub onDay : DateAnswer → DayAnswer
 onDay (date.On d) = day.On d
 onDay date.NotADate = day.Outside

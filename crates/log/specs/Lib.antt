@@ -9,6 +9,4 @@ pub mod Interval
 pub mod IntervalLaws
 pub mod Fresh
 pub mod FreshLaws
-pub mod Report
-pub mod Tallies
-pub mod ReportLaws
+pub mod Examples

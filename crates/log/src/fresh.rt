@@ -1,6 +1,5 @@
 // A fresh log, all gaps.
 ghost use mathlib.Core.Path.{_≡_};
-ghost use lib.ListN.{replicate};
 ghost use Rattle.words.specs.Place.{written};
 ghost use Rattle.log.specs.Image.{cellsBytes};
 ghost use Rattle.log.specs.Fresh.{freshNumber, outcome, freshOf, gaps};

@@ -1,7 +1,7 @@
 // The header of a log, and whether lent bytes are a log's image.
 ghost use mathlib.Core.Path.{_≡_};
 ghost use mathlib.Core.Bool.{_&&_};
-ghost use Prim.Native.Nat.{_+_, _≤_};
+ghost use Prim.Native.Nat.{_+_};
 ghost use lib.Dec.{ltb};
 ghost use Rattle.words.specs.Place.{written};
 ghost use Rattle.calendar.specs.Date.{isDate, dayNumber, centuryDays};

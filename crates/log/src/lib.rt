@@ -1,14 +1,11 @@
 // The log of slices as it stands in memory, its image: fourteen bytes of header, and behind them a cell for each interval. It says
-// which lent bytes are a sound log, reads and writes single cells, finds an interval's cell and a day's date, makes a fresh log, and
-// counts a day's cells and sums for the day report. Other crates speak of a log by these functions and their definitions alone, so
-// that a change of the layout stays in here.
+// which lent bytes are a sound log, reads and writes single cells, finds an interval's cell and a day's date, and makes a fresh log.
+// Other crates speak of a log by these functions and their definitions alone, so that a change of the layout stays in here.
 mod cell;
 mod fresh;
 mod header;
 mod image;
 mod interval;
-mod report;
-mod tallies;
 
 pub use cell::CELL_BYTES;
 pub use cell::Cell;
@@ -37,6 +34,3 @@ pub use interval::DayAnswer;
 pub use interval::Interval;
 pub use interval::date_of;
 pub use interval::interval_of;
-pub use report::REPORT_NUMBERS;
-pub use report::ReportAnswer;
-pub use report::day_report;

@@ -48,7 +48,7 @@ unfoldable pub askFrame : Header → ℕ → ℕ → ℕ → List ℕ
 unfolding requestFrame
 askFrame h address day slot = requestFrame (sliceRequest address (dateOfDay h day) slot)
 
-slotAsked : Interval → Header → ℕ → ℕ → ℕ → List ℕ → Outcome
+unfoldable pub slotAsked : Interval → Header → ℕ → ℕ → ℕ → List ℕ → Outcome
 unfolding askFrame
 slotAsked interval.Outside h address day slot out = answered NotInLog Closed out
 slotAsked (interval.At i) h address day slot out = answered Done (Open address day slot) (written out 0 (askFrame h address day slot))
@@ -64,7 +64,7 @@ unfolding askedSlot
 askedOf h Closed address day slot out = askedSlot h address day slot out
 askedOf h (Open a d s) address day slot out = answered AlreadyOpen (Open a d s) out
 
-logAsked : Lent → OpenAsk → ℕ → ℕ → ℕ → List ℕ → Outcome
+unfoldable pub logAsked : Lent → OpenAsk → ℕ → ℕ → ℕ → List ℕ → Outcome
 unfolding askedOf
 logAsked lent.Unsound held address day slot out = answered Unsound held out
 logAsked (lent.Sound h) held address day slot out = askedOf h held address day slot out

@@ -60,12 +60,12 @@ updateOf cell.Gap e+ e- r+ r- = filled e+ e- r+ r-
 updateOf cell.Empty e+ e- r+ r- = filled e+ e- r+ r-
 updateOf (cell.Measured a b c d) e+ e- r+ r- = compared a b c d e+ e- r+ r-
 
-updated : Update → List ℕ → ℕ → Outcome
+unfoldable pub updated : Update → List ℕ → ℕ → Outcome
 updated (Put c) s i = answered Done Closed (putCell s i c)
 updated Keep s i = answered Done Closed s
 updated Conflict s i = answered OtherCounts Closed s
 
-cellTaken : CellAnswer → List ℕ → ℕ → OpenAsk → ℕ → ℕ → ℕ → ℕ → Outcome
+unfoldable pub cellTaken : CellAnswer → List ℕ → ℕ → OpenAsk → ℕ → ℕ → ℕ → ℕ → Outcome
 unfolding updateOf updated
 cellTaken read.Bad s i held e+ e- r+ r- = answered Unsound held s
 cellTaken (read.Good c) s i held e+ e- r+ r- = updated (updateOf c e+ e- r+ r-) s i
@@ -83,7 +83,7 @@ takenSound s i held y =
     (takenCounts s i held (numberAt y 4 2) (numberAt y 6 2) (numberAt y 8 2) (numberAt y 10 2))
     (answered (MeterRefused (byteAt y 3)) Closed s)
 
-formTaken : Form → List ℕ → ℕ → OpenAsk → List ℕ → Outcome
+unfoldable pub formTaken : Form → List ℕ → ℕ → OpenAsk → List ℕ → Outcome
 unfolding takenSound
 formTaken WellFormed s i held y = takenSound s i held y
 formTaken (Faulty fault) s i held y = answered (Malformed fault) held s
@@ -93,7 +93,7 @@ unfoldable pub takenAt : List ℕ → ℕ → ℕ → OpenAsk → List ℕ → O
 unfolding formTaken
 takenAt s i address held y = formTaken (formOf address slice 14 y) s i held y
 
-slotTaken : Interval → List ℕ → ℕ → OpenAsk → List ℕ → Outcome
+unfoldable pub slotTaken : Interval → List ℕ → ℕ → OpenAsk → List ℕ → Outcome
 unfolding takenAt
 slotTaken interval.Outside s address held y = answered NotInLog held s
 slotTaken (interval.At i) s address held y = takenAt s i address held y
@@ -104,7 +104,7 @@ unfolding slotTaken
 takenOpen h s Closed y = answered NoAskOpen Closed s
 takenOpen h s (Open address day slot) y = slotTaken (intervalOf h day slot) s address (Open address day slot) y
 
-logTaken : Lent → List ℕ → OpenAsk → List ℕ → Outcome
+unfoldable pub logTaken : Lent → List ℕ → OpenAsk → List ℕ → Outcome
 unfolding takenOpen
 logTaken lent.Unsound s held y = answered Unsound held s
 logTaken (lent.Sound h) s held y = takenOpen h s held y

@@ -29,7 +29,8 @@ kind-cell-requires c κs = search needs
 
 returns-2 : tie.Need-returns-2
 unfolding cellOf
-returns-2 c = simp (eq-eqb _ _ (c .before .before .before .before .before .before .if1 .left), sym (c .before .before .before .before .before .byte-at .ensures), sym (c .before .before .before .before .u16-at .ensures), sym (c .before .before .before .u16-at2 .ensures), sym (c .before .before .u16-at3 .ensures), sym (c .before .u16-at4 .ensures), c .kind-cell .ensures)
+returns-2 c =
+    simp (eq-eqb _ _ (c .before .before .before .before .before .before .if1 .left), sym (c .before .before .before .before .before .byte-at .ensures), sym (c .before .before .before .before .u16-at .ensures), sym (c .before .before .before .u16-at2 .ensures), sym (c .before .before .u16-at3 .ensures), sym (c .before .u16-at4 .ensures), c .kind-cell .ensures)
 
 pub cell-of-spec : {M : Type 1} → statement M
 cell-of-spec =

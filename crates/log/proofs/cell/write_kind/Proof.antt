@@ -26,7 +26,16 @@ same-length c = search needs
 
 returns : tie.Need-returns
 unfolding kindBytes bytesOf
-returns c = onward _ _ _ _ _ _ _ (onward _ _ _ _ _ _ _ (onward _ _ _ _ _ _ _ (onward _ _ _ _ _ _ _ (c .before .before .before .before .before .before .before .before .before .before .before .before .before .before .before .before .before .before .put-byte .ensures) (c .before .before .before .before .before .before .before .before .before .before .before .before .before .before .put-u16 .ensures) refl) (c .before .before .before .before .before .before .before .before .before .before .put-u162 .ensures) refl) (c .before .before .before .before .before .before .put-u163 .ensures) refl) (c .before .before .put-u164 .ensures) refl
+returns c =
+    let rm = c .before .before in
+    let rp = rm .before .before .before .before in
+    let em = rp .before .before .before .before in
+    let ep = em .before .before .before .before in
+    let kind = ep .before .before .before .before in
+    let to-ep = onward _ _ _ _ _ _ _ (kind .put-byte .ensures) (ep .put-u16 .ensures) refl in
+    let to-em = onward _ _ _ _ _ _ _ to-ep (em .put-u162 .ensures) refl in
+    let to-rp = onward _ _ _ _ _ _ _ to-em (rp .put-u163 .ensures) refl in
+    onward _ _ _ _ _ _ _ to-rp (rm .put-u164 .ensures) refl
 
 pub write-kind-spec : {M : Type 1} → statement M
 write-kind-spec =

@@ -30,7 +30,14 @@ same-length c = search needs
 
 returns-2 : tie.Need-returns-2
 unfolding freshOf
-returns-2 c = simp (sym (c .before .before .before .before .before .before .before .before .before .before .before .before .is-header .ensures), c .before .before .before .before .before .before .before .before .before .before .before .if1 .taken, sym (c .before .before .before .before .before .before .before .before .before .before .length-of .ensures), le-leb _ _ (c .before .before .before .before .before .before .before .before .before .if2 .left)) (ap (outcome _) (fresh-written (c .before .before .before .before .before .before .before .before .before .before .before .before .before .before .args .out .now) _ _ (c .before .before .before .before .before .before .before .before .before .before .before .before .before .before .args .h) _ (c .before .before .before .cells-of .ensures) (c .before .before .before .before .before .before .before .write-header .ensures) (c .before .before .write-gaps .ensures)))
+returns-2 c =
+    let tested = c .before .before .before .before .before .before .before .before .before in
+    let start = tested .before .before .before .before .before in
+    let right = tested .before .before .before .is-header .ensures in
+    let image =
+    fresh-written (start .args .out .now) _ _ (start .args .h) _ (c .before .before .before .cells-of .ensures)
+    (c .before .before .before .before .before .before .before .write-header .ensures) (c .before .before .write-gaps .ensures) in
+    simp (sym right, tested .before .before .if1 .taken, sym (tested .before .length-of .ensures), le-leb _ _ (tested .if2 .left)) (ap (outcome _) image)
 
 returns-3 : tie.Need-returns-3
 unfolding freshOf

@@ -33,14 +33,33 @@ loop-less : tie.Need-loop-less Inv-loop μ-loop
 loop-less c = omega arith
 
 loop-again : tie.Need-loop-again Inv-loop μ-loop
-loop-again c = let s = c .before .before .before .before .before .loop .out in let i = c .before .before .before .before .before .loop .i in let n = c .before .before .before .before .before .before .before .args .cells in let e : suc (n - (i + 1)) ≡ n - i = omega arith in (omega arith, ap length (c .before .before .put-cell .ensures) ∙ length-putCell s i _ ∙ c .before .before .before .before .before .loop .inv .1, ap (λ (x : List ℕ). written x (cellStart (i + 1)) (cellsBytes (gaps (n - (i + 1))))) (c .before .before .put-cell .ensures) ∙ gap-put s i (n - (i + 1)) ∙ ap (λ (k : ℕ). written s (cellStart i) (cellsBytes (gaps k))) e ∙ c .before .before .before .before .before .loop .inv .2)
+loop-again c =
+    let start = c .before .before .before .before .before .before .before in
+    let turn = c .before .before .before .before .before .loop in
+    let s = turn .out in
+    let i = turn .i in
+    let n = start .args .cells in
+    let e : suc (n - (i + 1)) ≡ n - i = omega arith in (
+      omega arith,
+      ap length (c .before .before .put-cell .ensures) ∙ length-putCell s i _ ∙ turn .inv .1,
+      ap (λ (x : List ℕ). written x (cellStart (i + 1)) (cellsBytes (gaps (n - (i + 1))))) (c .before .before .put-cell .ensures)
+          ∙ gap-put s i (n - (i + 1))
+          ∙ ap (λ (k : ℕ). written s (cellStart i) (cellsBytes (gaps k))) e
+          ∙ turn .inv .2,
+    )
 
 same-length : tie.Need-same-length Inv-loop μ-loop
 same-length c = c .before .loop .inv .1
 
 returns : tie.Need-returns Inv-loop μ-loop
 unfolding written cellsBytes gaps
-returns c = let n = c .before .before .before .args .cells in let i = c .before .loop .i in let e : n - i ≡ 0 = omega arith in sym (ap (λ (k : ℕ). written (c .before .loop .out) (cellStart i) (cellsBytes (gaps k))) e) ∙ c .before .loop .inv .2
+returns c =
+    let start = c .before .before .before in
+    let turn = c .before .loop in
+    let n = start .args .cells in
+    let i = turn .i in
+    let e : n - i ≡ 0 = omega arith in
+    sym (ap (λ (k : ℕ). written (turn .out) (cellStart i) (cellsBytes (gaps k))) e) ∙ turn .inv .2
 
 pub write-gaps-spec : {M : Type 1} → statement M
 write-gaps-spec =

@@ -16,7 +16,11 @@ cast-result-2 : tie.Need-cast-result-2
 cast-result-2 c = search needs
 
 mul-result : tie.Need-mul-result
-mul-result c = let d : c .before .before .args .h .days ≤ 255 = search needs in let s : c .before .slots-of .result ≤ 255 = search needs in omega (arith, mul-le-mul d s)
+mul-result c =
+    let start = c .before .before in
+    let d : start .args .h .days ≤ 255 = search needs in
+    let s : c .before .slots-of .result ≤ 255 = search needs in
+    omega (arith, mul-le-mul d s)
 
 returns : tie.Need-returns
 unfolding cellsOf

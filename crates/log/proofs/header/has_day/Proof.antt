@@ -17,13 +17,19 @@ enum-told-3 : tie.Need-enum-told-3
 enum-told-3 c = search needs
 
 returns : tie.Need-returns
-returns c = ap isOn (sym (c .enum-told .given .1) ∙ c .before .before .days-later .ensures) ∙ has-date (c .before .before .before .args .start) (c .before .before .before .args .n)
+returns c =
+    let start = c .before .before .before in
+    ap isOn (sym (c .enum-told .given .1) ∙ c .before .before .days-later .ensures) ∙ has-date (start .args .start) (start .args .n)
 
 returns-2 : tie.Need-returns-2
-returns-2 c = ap isOn (sym (c .enum-told2 .given .1) ∙ c .before .before .days-later .ensures) ∙ has-date (c .before .before .before .args .start) (c .before .before .before .args .n)
+returns-2 c =
+    let start = c .before .before .before in
+    ap isOn (sym (c .enum-told2 .given .1) ∙ c .before .before .days-later .ensures) ∙ has-date (start .args .start) (start .args .n)
 
 returns-3 : tie.Need-returns-3
-returns-3 c = ap isOn (sym (c .enum-told3 .given .1) ∙ c .before .before .days-later .ensures) ∙ has-date (c .before .before .before .args .start) (c .before .before .before .args .n)
+returns-3 c =
+    let start = c .before .before .before in
+    ap isOn (sym (c .enum-told3 .given .1) ∙ c .before .before .days-later .ensures) ∙ has-date (start .args .start) (start .args .n)
 
 pub has-day-spec : {M : Type 1} → statement M
 has-day-spec =

@@ -23,7 +23,8 @@ u16-at-requires c κs = search needs
 
 returns : tie.Need-returns
 unfolding headerAt
-returns c = simp (c .u16-at .ensures, c .before .byte-at5 .ensures, c .before .before .byte-at4 .ensures, c .before .before .before .byte-at3 .ensures, c .before .before .before .before .byte-at2 .ensures, c .before .before .before .before .before .byte-at .ensures)
+returns c =
+    simp (c .u16-at .ensures, c .before .byte-at5 .ensures, c .before .before .byte-at4 .ensures, c .before .before .before .byte-at3 .ensures, c .before .before .before .before .byte-at2 .ensures, c .before .before .before .before .before .byte-at .ensures)
 
 pub header-at-spec : {M : Type 1} → statement M
 header-at-spec =

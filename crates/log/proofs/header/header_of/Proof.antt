@@ -21,11 +21,13 @@ is-header-requires c κs = search needs
 
 returns-2 : tie.Need-returns-2
 unfolding headerOf fieldsRight
-returns-2 c = simp (sym (c .before .before .before .u16-at .ensures), eq-eqb _ _ (c .before .before .if1 .left), sym (c .before .before .before .before .header-at .ensures), sym (c .before .is-header .ensures), c .if2 .taken)
+returns-2 c =
+    simp (sym (c .before .before .before .u16-at .ensures), eq-eqb _ _ (c .before .before .if1 .left), sym (c .before .before .before .before .header-at .ensures), sym (c .before .is-header .ensures), c .if2 .taken)
 
 returns-3 : tie.Need-returns-3
 unfolding headerOf fieldsRight
-returns-3 c = simp (sym (c .before .before .before .u16-at .ensures), sym (c .before .before .before .before .header-at .ensures), sym (c .before .is-header .ensures), c .if2 .left)
+returns-3 c =
+    simp (sym (c .before .before .before .u16-at .ensures), sym (c .before .before .before .before .header-at .ensures), sym (c .before .is-header .ensures), c .if2 .left)
 
 pub header-of-spec : {M : Type 1} → statement M
 header-of-spec =

@@ -36,7 +36,12 @@ has-day-requires c κs = search needs
 
 returns-5 : tie.Need-returns-5
 unfolding isHeader daysRight
-returns-5 c = c .has-day .ensures ∙ simp (le-leb 1 (c .before .before .before .before .before .before .before .before .before .before .before .args .h .days) (omega arith), le-leb (c .before .before .before .before .before .before .before .before .before .before .before .args .h .days) 62 (omega arith), some-minutes _ _ (c .before .before .before .before .slots-of .ensures) (c .before .before .before .if4 .left), le-leb 1 (c .before .before .before .before .before .before .before .before .before .before .before .args .h .ke) (omega arith), le-leb (c .before .before .before .before .before .before .before .before .before .before .before .args .h .ke) 65535 (search needs), and-true)
+returns-5 c =
+    let start = c .before .before .before .before .before .before .before .before .before .before .before in
+    let h = start .args .h in
+    let minutes = some-minutes _ _ (c .before .before .before .before .slots-of .ensures) (c .before .before .before .if4 .left) in
+    c .has-day .ensures
+    ∙ simp (le-leb 1 (h .days) (omega arith), le-leb (h .days) 62 (omega arith), minutes, le-leb 1 (h .ke) (omega arith), le-leb (h .ke) 65535 (search needs), and-true)
 
 pub is-header-spec : {M : Type 1} → statement M
 is-header-spec =

@@ -17,14 +17,16 @@ byte-at-requires-2 c κs = search needs
 
 returns-2 : tie.Need-returns-2
 unfolding markRight
-returns-2 c = simp (sym (c .before .before .before .byte-at .ensures), eq-eqb _ _ (c .before .before .if1 .left), sym (c .before .byte-at2 .ensures), ne-eqb _ _ (c .if2 .taken))
+returns-2 c =
+    simp (sym (c .before .before .before .byte-at .ensures), eq-eqb _ _ (c .before .before .if1 .left), sym (c .before .byte-at2 .ensures), ne-eqb _ _ (c .if2 .taken))
 
 byte-at-requires-3 : tie.Need-byte-at-requires-3
 byte-at-requires-3 c κs = search needs
 
 returns-3 : tie.Need-returns-3
 unfolding markRight
-returns-3 c = simp (sym (c .before .before .before .before .byte-at .ensures), eq-eqb _ _ (c .before .before .before .if1 .left), sym (c .before .before .byte-at2 .ensures), eq-eqb _ _ (c .before .if2 .left), sym (c .byte-at3 .ensures))
+returns-3 c =
+    simp (sym (c .before .before .before .before .byte-at .ensures), eq-eqb _ _ (c .before .before .before .if1 .left), sym (c .before .before .byte-at2 .ensures), eq-eqb _ _ (c .before .if2 .left), sym (c .byte-at3 .ensures))
 
 pub mark-right-spec : {M : Type 1} → statement M
 mark-right-spec =

@@ -19,7 +19,8 @@ fitted-requires c κs = search needs
 
 returns : tie.Need-returns
 unfolding soundOf
-returns c = simp (sym (c .before .before .before .before .before .mark-right .ensures), c .before .before .before .before .if1 .taken, sym (c .before .before .before .version-right .ensures), c .before .before .if2 .taken, sym (c .before .header-of .ensures), c .fitted .ensures)
+returns c =
+    simp (sym (c .before .before .before .before .before .mark-right .ensures), c .before .before .before .before .if1 .taken, sym (c .before .before .before .version-right .ensures), c .before .before .if2 .taken, sym (c .before .header-of .ensures), c .fitted .ensures)
 
 returns-2 : tie.Need-returns-2
 unfolding soundOf

@@ -19,7 +19,12 @@ same-length c = search needs
 
 returns : tie.Need-returns
 unfolding dateBytes
-returns c = onward _ _ _ _ _ _ _ (onward _ _ _ _ _ _ _ (c .before .before .before .before .before .before .before .before .before .before .put-byte .ensures) (c .before .before .before .before .before .before .put-byte2 .ensures) refl) (c .before .before .put-byte3 .ensures) refl
+returns c =
+    let day = c .before .before in
+    let month = day .before .before .before .before in
+    let year = month .before .before .before .before in
+    let to-month = onward _ _ _ _ _ _ _ (year .put-byte .ensures) (month .put-byte2 .ensures) refl in
+    onward _ _ _ _ _ _ _ to-month (day .put-byte3 .ensures) refl
 
 pub write-date-spec : {M : Type 1} → statement M
 write-date-spec =

@@ -36,7 +36,20 @@ same-length c = search needs
 
 returns : tie.Need-returns
 unfolding headerBytes dateBytes bytesOf
-returns c = onward _ _ _ _ _ _ _ (onward _ _ _ _ _ _ _ (onward _ _ _ _ _ _ _ (onward _ _ _ _ _ _ _ (onward _ _ _ _ _ _ _ (onward _ _ _ _ _ _ _ (c .before .before .before .before .before .before .before .before .before .before .before .before .before .before .before .before .before .before .before .before .before .before .before .before .before .before .before .put-bytes .ensures) (c .before .before .before .before .before .before .before .before .before .before .before .before .before .before .before .before .before .before .before .before .before .before .before .put-u16 .ensures) refl) (c .before .before .before .before .before .before .before .before .before .before .before .before .before .before .before .before .before .before .write-date .ensures) refl) (c .before .before .before .before .before .before .before .before .before .before .before .before .before .before .put-byte .ensures) refl) (c .before .before .before .before .before .before .before .before .before .before .put-byte2 .ensures) refl) (c .before .before .before .before .before .before .put-u162 .ensures) refl) (c .before .before .put-u163 .ensures) refl
+returns c =
+    let zeros = c .before .before in
+    let ke = zeros .before .before .before .before in
+    let minutes = ke .before .before .before .before in
+    let days = minutes .before .before .before .before in
+    let date = days .before .before .before .before in
+    let version = date .before .before .before .before .before in
+    let mark = version .before .before .before .before in
+    let to-version = onward _ _ _ _ _ _ _ (mark .put-bytes .ensures) (version .put-u16 .ensures) refl in
+    let to-date = onward _ _ _ _ _ _ _ to-version (date .write-date .ensures) refl in
+    let to-days = onward _ _ _ _ _ _ _ to-date (days .put-byte .ensures) refl in
+    let to-minutes = onward _ _ _ _ _ _ _ to-days (minutes .put-byte2 .ensures) refl in
+    let to-ke = onward _ _ _ _ _ _ _ to-minutes (ke .put-u162 .ensures) refl in
+    onward _ _ _ _ _ _ _ to-ke (zeros .put-u163 .ensures) refl
 
 pub write-header-spec : {M : Type 1} → statement M
 write-header-spec =

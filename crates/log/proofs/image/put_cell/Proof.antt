@@ -33,7 +33,9 @@ same-length : tie.Need-same-length
 same-length c = search needs
 
 returns-2 : tie.Need-returns-2
-returns-2 c = putCell-part (c .before .before .before .before .before .before .before .args .log .now) (c .before .before .before .before .before .before .before .args .i) (c .before .before .before .before .before .before .before .args .c) _ (c .before .before .write-cell .ensures)
+returns-2 c =
+    let start = c .before .before .before .before .before .before .before in
+    putCell-part (start .args .log .now) (start .args .i) (start .args .c) _ (c .before .before .write-cell .ensures)
 
 returns-3 : tie.Need-returns-3
 unfolding putCell

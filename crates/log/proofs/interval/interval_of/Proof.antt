@@ -24,10 +24,18 @@ cast-t7 : tie.Need-cast-t7
 cast-t7 c = search needs
 
 mul-t8 : tie.Need-mul-t8
-mul-t8 c = let d : c .before .before .before .before .args .day ≤ 255 = search needs in let n : c .before .before .before .slots-of .result ≤ 255 = search needs in omega (arith, mul-le-mul d n)
+mul-t8 c =
+    let start = c .before .before .before .before in
+    let d : start .args .day ≤ 255 = search needs in
+    let n : c .before .before .before .slots-of .result ≤ 255 = search needs in
+    omega (arith, mul-le-mul d n)
 
 add-t10 : tie.Need-add-t10
-add-t10 c = let d : c .before .before .before .before .args .day ≤ 255 = search needs in let n : c .before .before .before .slots-of .result ≤ 255 = search needs in omega (arith, mul-le-mul d n)
+add-t10 c =
+    let start = c .before .before .before .before in
+    let d : start .args .day ≤ 255 = search needs in
+    let n : c .before .before .before .slots-of .result ≤ 255 = search needs in
+    omega (arith, mul-le-mul d n)
 
 returns-3 : tie.Need-returns-3
 unfolding intervalOf

@@ -1,7 +1,7 @@
-use Rattle.log.specs.Report.{reportNumber}
+use Rattle.dayreport.specs.Report.{reportNumber}
 use borrow.Author.Needs.{needs}
-use Rattle.log.proofs.report.ReportAnswer.number.Statement.{statement}
-use Rattle.log.proofs.report.ReportAnswer.number.Tie as tie
+use Rattle.dayreport.proofs.report.ReportAnswer.number.Statement.{statement}
+use Rattle.dayreport.proofs.report.ReportAnswer.number.Tie as tie
 
 enum-told : tie.Need-enum-told
 enum-told c = search needs

@@ -5,17 +5,17 @@ use mathlib.Core.Bool.{Bool, true, false, cond}
 use mathlib.Core.List.{List, [], _∷_, _++_}
 use lib.Dec.{ltb, leb}
 use lib.ListN.{length, drop}
 use Rattle.log.specs.Header.{slotsOf, soundOf}
 use Rattle.log.specs.Image.{cellsFrom}
 use Rattle.log.specs.declared.header.Header.{Header}
 use Rattle.log.specs.declared.header.Lent.{Lent}
 use Rattle.log.specs.declared.header.Lent.the-variants as lent
 use Rattle.log.specs.declared.cell.Cell.{Cell}
 use Rattle.log.specs.declared.cell.Cell.the-variants.{Gap, Empty, Measured}
 use Rattle.log.specs.declared.cell.CellAnswer.{CellAnswer}
 use Rattle.log.specs.declared.cell.CellAnswer.the-variants.{Good, Bad}
-use Rattle.log.specs.declared.report.ReportAnswer.{ReportAnswer}
-use Rattle.log.specs.declared.report.ReportAnswer.the-variants.{Done, TooShort, Unsound, NotInLog}
+use Rattle.dayreport.specs.declared.report.ReportAnswer.{ReportAnswer}
+use Rattle.dayreport.specs.declared.report.ReportAnswer.the-variants.{Done, TooShort, Unsound, NotInLog}
 
 -- the numbers of document 01's table
 unfoldable pub reportNumber : ReportAnswer → ℕ
@@ -86,11 +86,13 @@ figures cs = total gap cs ∷ total empty cs ∷ total measured cs ∷ total ePl
 unfoldable pub dayCells : List ℕ → Header → ℕ → List CellAnswer
 dayCells s h d = cellsFrom s (d * slotsOf (h .minutes)) (slotsOf (h .minutes))
 
+-- whether all that was read are cells
 unfoldable pub allGood : List CellAnswer → Bool
 allGood [] = true
 allGood (Good c ∷ read) = allGood read
 allGood (Bad ∷ read) = false
 
+-- the cells that were read
 unfoldable pub goods : List CellAnswer → List Cell
 goods [] = []
 goods (Good c ∷ read) = c ∷ goods read

@@ -1,9 +1,9 @@
 use mathlib.Core.Path.{sym, _∙_}
 use borrow.Author.Tests.{le-leb, lt-leb}
-use Rattle.log.specs.Report.{reportOf, reportLent}
+use Rattle.dayreport.specs.Report.{reportOf, reportLent}
 use borrow.Author.Needs.{needs}
-use Rattle.log.proofs.report.day_report.Statement.{statement}
-use Rattle.log.proofs.report.day_report.Tie as tie
+use Rattle.dayreport.proofs.report.day_report.Statement.{statement}
+use Rattle.dayreport.proofs.report.day_report.Tie as tie
 
 returns : tie.Need-returns
 unfolding reportOf reportLent
@@ -26,7 +26,8 @@ same-length c = search needs
 
 returns-2 : tie.Need-returns-2
 unfolding reportOf reportLent
-returns-2 c = simp (le-leb _ _ (c .before .before .before .before .before .before .before .before .if1 .left), sym (c .before .before .before .before .before .before .before .sound .ensures) ∙ c .before .before .before .before .before .h .given .1) (c .before .before .report-in .ensures)
+returns-2 c =
+    simp (le-leb _ _ (c .before .before .before .before .before .before .before .before .if1 .left), sym (c .before .before .before .before .before .before .before .sound .ensures) ∙ c .before .before .before .before .before .h .given .1) (c .before .before .report-in .ensures)
 
 returns-3 : tie.Need-returns-3
 unfolding reportOf reportLent

@@ -3,12 +3,12 @@ ghost use mathlib.Core.Path.{_≡_};
 ghost use Prim.Native.Nat.{_≤_};
 ghost use mathlib.Core.List.{_++_};
 ghost use lib.ListN.{length, drop};
-ghost use Rattle.log.specs.Report.{reportNumber, outcome, reportOf, reportIn};
-ghost use Rattle.log.specs.Tallies.{rowOf};
-use crate::header::Header;
-use crate::header::Lent;
+ghost use Rattle.dayreport.specs.Report.{reportNumber, outcome, reportOf, reportIn};
+ghost use Rattle.dayreport.specs.Tallies.{rowOf};
 use crate::tallies::Tallied;
 use crate::tallies::Tallies;
+use log::Header;
+use log::Lent;
 
 pub enum ReportAnswer {
     Done,
@@ -42,7 +42,7 @@ pub fn day_report(log: &[u8], day: u8, row: &mut [u32]) -> ReportAnswer
     if row.len() < REPORT_NUMBERS {
         return ReportAnswer::TooShort;
     }
-    match crate::header::sound(log) {
+    match log::sound(log) {
         Lent::Sound(h) => report_in(log, h, day, row),
         Lent::Unsound => ReportAnswer::Unsound,
     }
@@ -55,7 +55,7 @@ fn report_in(log: &[u8], h: Header, day: u8, row: &mut [u32]) -> ReportAnswer
     if h.days <= day {
         return ReportAnswer::NotInLog;
     }
-    let slots = crate::header::slots_of(h.minutes);
+    let slots = log::slots_of(h.minutes);
     match crate::tallies::tally(log, (day as u16) * (slots as u16), slots) {
         Tallied::All(t) => {
             put_row(row, t);

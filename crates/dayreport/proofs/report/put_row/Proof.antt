@@ -1,10 +1,10 @@
-use Rattle.log.specs.Tallies.{rowOf}
+use Rattle.dayreport.specs.Tallies.{rowOf}
 use lib.Seq.{sets-eq}
 use lib.ListN.{length-set}
 use native.Mathlib.Omega.{arith}
 use borrow.Author.Needs.{needs}
-use Rattle.log.proofs.report.put_row.Statement.{statement}
-use Rattle.log.proofs.report.put_row.Tie as tie
+use Rattle.dayreport.proofs.report.put_row.Statement.{statement}
+use Rattle.dayreport.proofs.report.put_row.Tie as tie
 
 slice-write-row : tie.Need-slice-write-row
 slice-write-row c = search needs

@@ -1,0 +1,76 @@
+use Prim.Native.Nat.{_≤_}
+use native.Mathlib.Omega.{arith}
+use native.Mathlib.Nat.{mul-le-mul}
+use mathlib.Core.Path.{sym, ap, _∙_}
+use borrow.Author.Tests.{le-ltb, lt-ltb}
+use Rattle.dayreport.specs.Tallies.{report-all, report-bad, day-tallied}
+use Rattle.dayreport.specs.Report.{reportIn, outcome}
+use borrow.Author.Needs.{needs}
+use Rattle.dayreport.proofs.report.report_in.Statement.{statement}
+use Rattle.dayreport.proofs.report.report_in.Tie as tie
+
+returns : tie.Need-returns
+unfolding reportIn
+returns c = simp (le-ltb _ _ (c .if1 .taken))
+
+slots-of-requires : tie.Need-slots-of-requires
+slots-of-requires c κs = search needs
+
+cast-tally : tie.Need-cast-tally
+cast-tally c = search needs
+
+mul-tally : tie.Need-mul-tally
+mul-tally c =
+    let start = c .before .before .before .before .before in
+    let d : start .args .day ≤ 255 = search needs in
+    let n : c .slots-of .result ≤ 255 = search needs in
+    omega (arith, mul-le-mul d n)
+
+tally-requires : tie.Need-tally-requires
+tally-requires c κs = search needs
+
+enum-known-t : tie.Need-enum-known-t
+enum-known-t c = search needs
+
+put-row-requires : tie.Need-put-row-requires
+put-row-requires c κs = search needs
+
+enum-told : tie.Need-enum-told
+enum-told c = search needs
+
+same-length : tie.Need-same-length
+same-length c = search needs
+
+returns-2 : tie.Need-returns-2
+unfolding reportIn
+returns-2 c =
+    let walked = c .before .before .before .before .before .before .before in
+    let start = walked .before .before .before .before .before .before in
+    let day = day-tallied (start .args .log .now) (start .args .h) (start .args .day) _ (walked .before .slots-of .ensures) in
+    let cells = day ∙ sym (walked .tally .ensures) ∙ c .before .before .before .before .before .t .given .1 in
+    simp (lt-ltb _ _ (walked .before .before .if1 .left)) (ap (outcome _) (c .before .before .put-row .ensures) ∙ sym (report-all _ (start .args .row .now) _ cells))
+
+returns-3 : tie.Need-returns-3
+unfolding reportIn
+returns-3 c =
+    let walked = c .before .before in
+    let start = walked .before .before .before .before .before .before in
+    let day = day-tallied (start .args .log .now) (start .args .h) (start .args .day) _ (walked .before .slots-of .ensures) in
+    let cells = day ∙ sym (walked .tally .ensures) ∙ c .enum-told .given .1 in
+    simp (lt-ltb _ _ (walked .before .before .if1 .left)) (sym (report-bad _ (start .args .row .now) cells))
+
+pub report-in-spec : {M : Type 1} → statement M
+report-in-spec =
+    tie.close
+    (tie.spec
+    returns
+    slots-of-requires
+    cast-tally
+    mul-tally
+    tally-requires
+    enum-known-t
+    put-row-requires
+    enum-told
+    same-length
+    returns-2
+    returns-3)

@@ -1,0 +1,10 @@
+-- Document 01's example of a report: "slot 0 measured 12 0 3 0, slot 1 empty, others gaps" gives 46 1 1 12 0 3 0.
+use mathlib.Core.Path.{_≡_, refl}
+use mathlib.Core.List.{[], _∷_}
+use Rattle.log.specs.Fresh.{gaps}
+use Rattle.log.specs.declared.cell.Cell.the-variants.{Empty, Measured}
+use Rattle.dayreport.specs.Report.{gap, empty, measured, ePlus, eMinus, rPlus, rMinus, total, figures}
+
+may : figures (Measured 12 0 3 0 ∷ Empty ∷ gaps 46) ≡ 46 ∷ 1 ∷ 1 ∷ 12 ∷ 0 ∷ 3 ∷ 0 ∷ []
+unfolding figures total gap empty measured ePlus eMinus rPlus rMinus gaps
+may = refl

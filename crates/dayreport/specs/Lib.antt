@@ -1,0 +1,4 @@
+pub mod Report
+pub mod Tallies
+pub mod ReportLaws
+pub mod Examples

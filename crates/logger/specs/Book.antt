@@ -1,0 +1,178 @@
+-- The plain book, a term of document 01 ("The reader and the log"): "The plain book is fed only the start's header and cells and the
+-- calls' arguments, without the log and the open ask that the calls get. It holds an open ask, at first none, and replies by interval,
+-- at first the cells that aren't gaps (empty as zeros)."
+use mathlib.Core.Bool.{Bool, cond, not, _&&_}
+use mathlib.Core.List.{List, [], _∷_, _++_}
+use Prim.Native.Nat.{ℕ, zero, suc, _+_, _*_}
+use lib.Dec.{eqb, ltb}
+use lib.ListN.{length, getD}
+use Rattle.words.specs.Place.{byteAt, numberAt}
+use Rattle.frame.specs.Code.{slice}
+use Rattle.reader.specs.Form.{formOf}
+use Rattle.reader.specs.declared.form.Form.{Form}
+use Rattle.reader.specs.declared.form.Form.the-variants.{WellFormed, Faulty}
+use Rattle.log.specs.Header.{slotsOf}
+use Rattle.log.specs.Interval.{intervalOf}
+use Rattle.log.specs.declared.header.Header.{Header}
+use Rattle.log.specs.declared.interval.Interval.{Interval}
+use Rattle.log.specs.declared.interval.Interval.the-variants as interval
+use Rattle.log.specs.declared.cell.Cell.{Cell}
+use Rattle.log.specs.declared.cell.Cell.the-variants.{Gap, Empty, Measured}
+use Rattle.logger.specs.declared.held.OpenAsk.{OpenAsk}
+use Rattle.logger.specs.declared.held.OpenAsk.the-variants.{Closed, Open}
+
+-- a call's arguments, without the log and the open ask: an ask's address, day, slot and lent output; a reply's bytes
+pub data Call : Type 0 where
+  ask : ℕ → ℕ → ℕ → List ℕ → Call
+  lapse : Call
+  reply : List ℕ → Call
+
+-- document 01's number of an answer, and the meter's result that 24 returns (0 with any other)
+pub record Answer : Type 0 where
+  pub number : ℕ
+  pub result : ℕ
+
+abbrev pub plain : ℕ → Answer
+plain n = record { number = n; result = 0 }
+
+-- the four counts of a reply
+pub record Row : Type 0 where
+  pub e+ : ℕ
+  pub e- : ℕ
+  pub r+ : ℕ
+  pub r- : ℕ
+
+-- "Data: E+, E-, R+, R-, 2 bytes each", behind address, function, parameter and result
+unfoldable pub rowOf : List ℕ → Row
+rowOf y = record { e+ = numberAt y 4 2; e- = numberAt y 6 2; r+ = numberAt y 8 2; r- = numberAt y 10 2 }
+
+unfoldable pub isZero : Row → Bool
+isZero r = eqb (r .e+) 0 && eqb (r .e-) 0 && eqb (r .r+) 0 && eqb (r .r-) 0
+
+unfoldable pub alike : Row → Row → Bool
+alike q r = eqb (q .e+) (r .e+) && eqb (q .e-) (r .e-) && eqb (q .r+) (r .r+) && eqb (q .r-) (r .r-)
+
+-- ---- a cell, worked out afresh from an interval's replies
+
+-- the first reply that has a count other than zero
+pub data First : Type 0 where
+  none : First
+  counts : Row → First
+
+unfoldable pub firstOf : List Row → First
+firstOf [] = none
+firstOf (r ∷ rs) = cond (isZero r) (firstOf rs) (counts r)
+
+unfoldable pub byFirst : First → List Row → Cell
+byFirst (counts r) rows = Measured (r .e+) (r .e-) (r .r+) (r .r-)
+byFirst none [] = Gap
+byFirst none (r ∷ rows) = Empty
+
+-- "A cell with a reply that has a count other than zero is measured and holds the first such reply. A cell with only replies of all
+-- zeros is empty, and one with none is a gap." (demand 3)
+unfoldable pub afresh : List Row → Cell
+unfolding byFirst
+afresh rows = byFirst (firstOf rows) rows
+
+-- ---- the book
+
+pub record Book : Type 0 where
+  pub held : OpenAsk
+  pub kept : ℕ → List Row
+
+-- the interval of a day and slot, in time order
+unfoldable pub placeOf : Header → ℕ → ℕ → ℕ
+placeOf h day slot = day * slotsOf (h .minutes) + slot
+
+-- a cell as the replies that came first: "Measured and empty cells read from a file count as replies that came first" (demand 3)
+unfoldable pub cameFirst : Cell → List Row
+cameFirst Gap = []
+cameFirst Empty = record { e+ = 0; e- = 0; r+ = 0; r- = 0 } ∷ []
+cameFirst (Measured a b c d) = record { e+ = a; e- = b; r+ = c; r- = d } ∷ []
+
+-- the book of a start: no ask open, and the cells that are no gaps as replies
+unfoldable pub startBook : List Cell → Book
+unfolding cameFirst
+startBook cells = record { held = Closed; kept = λ i. cameFirst (getD cells i Gap) }
+
+-- the replies with one more at interval i
+unfoldable pub keptWith : (ℕ → List Row) → ℕ → Row → ℕ → List Row
+keptWith kept i r j = cond (eqb j i) (kept j ++ (r ∷ [])) (kept j)
+
+-- an answer and the book after it
+pub record Entry : Type 0 where
+  pub answer : Answer
+  pub book : Book
+
+abbrev pub entry : Answer → OpenAsk → (ℕ → List Row) → Entry
+entry a held kept = record { answer = a; book = record { held = held; kept = kept } }
+
+-- "25 if nonzero and unlike that interval's first nonzero one, else 0"
+abbrev pub keptAnswer : First → Row → ℕ
+keptAnswer none r = 0
+keptAnswer (counts q) r = cond (not (isZero r) && not (alike q r)) 25 0
+
+-- a reply with result 0 "is kept for the ask's interval"
+unfoldable pub keepReply : (ℕ → List Row) → ℕ → Row → Entry
+unfolding keptWith
+keepReply kept i r = entry (plain (keptAnswer (firstOf (kept i)) r)) Closed (keptWith kept i r)
+
+-- "Else the ask closes: a result other than 0 gets 24 with that result; any other reply is kept"
+unfoldable pub closeAsk : Header → (ℕ → List Row) → ℕ → ℕ → List ℕ → Entry
+unfolding keepReply
+closeAsk h kept day slot y =
+    cond (eqb (byteAt y 3) 0)
+    (keepReply kept (placeOf h day slot) (rowOf y))
+    (entry (record { number = 24; result = byteAt y 3 }) Closed kept)
+
+unfoldable pub formed : Form → Header → (ℕ → List Row) → ℕ → ℕ → ℕ → List ℕ → Entry
+unfolding closeAsk
+formed WellFormed h kept a day slot y = closeAsk h kept day slot y
+formed (Faulty fault) h kept a day slot y = entry (plain 23) (Open a day slot) kept
+
+-- "A reply gets 20 with none open. If it isn't well formed it gets 23, and the ask stays."
+unfoldable pub bookReply : Header → OpenAsk → (ℕ → List Row) → List ℕ → Entry
+unfolding formed
+bookReply h Closed kept y = entry (plain 20) Closed kept
+bookReply h (Open a day slot) kept y = formed (formOf a slice 14 y) h kept a day slot y
+
+unfoldable pub opened : Interval → ℕ → ℕ → ℕ → (ℕ → List Row) → Entry
+opened interval.Outside a day slot kept = entry (plain 22) Closed kept
+opened (interval.At i) a day slot kept = entry (plain 0) (Open a day slot) kept
+
+unfoldable pub askedWith : OpenAsk → Header → ℕ → ℕ → ℕ → (ℕ → List Row) → Entry
+unfolding opened
+askedWith (Open a d s) h address day slot kept = entry (plain 21) (Open a d s) kept
+askedWith Closed h address day slot kept = opened (intervalOf h day slot) address day slot kept
+
+-- "An ask gets 1, 21 or 22 by the table, else 0 and opens."
+unfoldable pub bookAsk : Header → OpenAsk → (ℕ → List Row) → ℕ → ℕ → ℕ → List ℕ → Entry
+unfolding askedWith
+bookAsk h held kept address day slot out = cond (ltb (length out) 8) (entry (plain 1) held kept) (askedWith held h address day slot kept)
+
+-- one call; "A lapse gets 0, and none is open."
+unfoldable pub bookStep : Header → Book → Call → Entry
+unfolding bookAsk bookReply
+bookStep h b (ask address day slot out) = bookAsk h (b .held) (b .kept) address day slot out
+bookStep h b lapse = entry (plain 0) Closed (b .kept)
+bookStep h b (reply y) = bookReply h (b .held) (b .kept) y
+
+-- the book of a list of calls, and its answers
+pub record BookRun : Type 0 where
+  pub answers : List Answer
+  pub book : Book
+
+unfoldable pub bookRun : Header → Book → List Call → BookRun
+unfolding bookStep
+bookRun h b [] = record { answers = []; book = b }
+bookRun h b (c ∷ cs) =
+    let e = bookStep h b c in
+    let rest = bookRun h (e .book) cs in
+    record { answers = e .answer ∷ rest .answers; book = rest .book }
+
+-- ---- the log that the book's replies give
+
+-- the n cells from interval i on, each worked out afresh
+unfoldable pub workedOut : (ℕ → List Row) → ℕ → ℕ → List Cell
+workedOut kept i zero = []
+workedOut kept i (suc n) = afresh (kept i) ∷ workedOut kept (suc i) n
