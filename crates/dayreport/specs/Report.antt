@@ -1,19 +1,18 @@
 -- The day report. Source: document 01: "Day report: the number of gaps, empties and measured cells, and four sums of counts, written
 -- into a lent row of 32-bit numbers."
 use Prim.Native.Nat.{ℕ, _+_, _*_}
-use mathlib.Core.Bool.{Bool, true, false, cond}
+use mathlib.Core.Bool.{cond}
 use mathlib.Core.List.{List, [], _∷_, _++_}
 use lib.Dec.{ltb, leb}
 use lib.ListN.{length, drop}
 use Rattle.log.specs.Header.{slotsOf, soundOf}
-use Rattle.log.specs.Image.{cellsFrom}
+use Rattle.log.specs.Image.{cellsFrom, allGood, goods}
 use Rattle.log.specs.declared.header.Header.{Header}
 use Rattle.log.specs.declared.header.Lent.{Lent}
 use Rattle.log.specs.declared.header.Lent.the-variants as lent
 use Rattle.log.specs.declared.cell.Cell.{Cell}
 use Rattle.log.specs.declared.cell.Cell.the-variants.{Gap, Empty, Measured}
 use Rattle.log.specs.declared.cell.CellAnswer.{CellAnswer}
-use Rattle.log.specs.declared.cell.CellAnswer.the-variants.{Good, Bad}
 use Rattle.dayreport.specs.declared.report.ReportAnswer.{ReportAnswer}
 use Rattle.dayreport.specs.declared.report.ReportAnswer.the-variants.{Done, TooShort, Unsound, NotInLog}
 
@@ -85,18 +84,6 @@ figures cs = total gap cs ∷ total empty cs ∷ total measured cs ∷ total ePl
 -- the day's slots, in time order
 unfoldable pub dayCells : List ℕ → Header → ℕ → List CellAnswer
 dayCells s h d = cellsFrom s (d * slotsOf (h .minutes)) (slotsOf (h .minutes))
-
--- whether all that was read are cells
-unfoldable pub allGood : List CellAnswer → Bool
-allGood [] = true
-allGood (Good c ∷ read) = allGood read
-allGood (Bad ∷ read) = false
-
--- the cells that were read
-unfoldable pub goods : List CellAnswer → List Cell
-goods [] = []
-goods (Good c ∷ read) = c ∷ goods read
-goods (Bad ∷ read) = goods read
 
 -- ---- the report: "1", "28 stands right after 1 (for a cell: just before it is used)", 22
 

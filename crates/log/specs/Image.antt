@@ -1,5 +1,6 @@
 -- The log's image. Source: document 01, "The reader and the log": "In memory a log is its image".
 use Prim.Native.Nat.{ℕ, zero, suc, _+_, _*_}
+use mathlib.Core.Bool.{Bool, true, false}
 use mathlib.Core.List.{List, [], _∷_, _++_}
 use lib.ListN.{take, drop}
 use Rattle.words.specs.Place.{written}
@@ -8,6 +9,7 @@ use Rattle.log.specs.Cell.{cellOf, cellBytes}
 use Rattle.log.specs.declared.header.Header.{Header}
 use Rattle.log.specs.declared.cell.Cell.{Cell}
 use Rattle.log.specs.declared.cell.CellAnswer.{CellAnswer}
+use Rattle.log.specs.declared.cell.CellAnswer.the-variants.{Good, Bad}
 
 -- "14 bytes. Then cells in time order, 9 bytes each": where cell i begins
 abbrev pub cellStart : ℕ → ℕ
@@ -34,3 +36,15 @@ imageOf h cs = headerBytes h ++ cellsBytes cs
 unfoldable pub cellsFrom : List ℕ → ℕ → ℕ → List CellAnswer
 cellsFrom s i zero = []
 cellsFrom s i (suc n) = cellAt s i ∷ cellsFrom s (suc i) n
+
+-- whether all that was read are cells
+unfoldable pub allGood : List CellAnswer → Bool
+allGood [] = true
+allGood (Good c ∷ read) = allGood read
+allGood (Bad ∷ read) = false
+
+-- the cells that were read
+unfoldable pub goods : List CellAnswer → List Cell
+goods [] = []
+goods (Good c ∷ read) = c ∷ goods read
+goods (Bad ∷ read) = goods read

@@ -134,7 +134,7 @@ module _ (h : Header) (kept : ℕ → List Row) (rows : (i : ℕ) → Fitting (k
       let u = rowUpdate c r in
       let here : c ≡ afresh (kept i) = cell-here i l in
       let made : takeStep (Take.takenCounts (imageOf h cells) i held (r .e+) (r .e-) (r .r+) (r .r-))
-          ≡ record { answer = plain (updateNumber u); state = record { log = imageOf h (set cells i (effect u c)); held = Closed } } =
+      ≡ record { answer = plain (updateNumber u); state = record { log = imageOf h (set cells i (effect u c)); held = Closed } } =
       rw (read-here i l) (update-step h cells i u) in
       let with-row : workedOut (keptWith kept i r) 0 (cellsOf h) ≡ set cells i (afresh (kept i ++ (r ∷ []))) =
       rw zero-add at (workedOut-with kept r 0 (cellsOf h) i l) in

@@ -1,0 +1,28 @@
+use Rattle.logfile.specs.Write.{writeNumber}
+use borrow.Author.Needs.{needs}
+use Rattle.logfile.proofs.write.WriteAnswer.number.Statement.{statement}
+use Rattle.logfile.proofs.write.WriteAnswer.number.Tie as tie
+
+enum-told : tie.Need-enum-told
+enum-told c = search needs
+
+enum-told-2 : tie.Need-enum-told-2
+enum-told-2 c = search needs
+
+enum-told-3 : tie.Need-enum-told-3
+enum-told-3 c = search needs
+
+returns : tie.Need-returns
+unfolding writeNumber
+returns c = simp (c .enum-told .given .1)
+
+returns-2 : tie.Need-returns-2
+unfolding writeNumber
+returns-2 c = simp (c .enum-told2 .given .1)
+
+returns-3 : tie.Need-returns-3
+unfolding writeNumber
+returns-3 c = simp (c .enum-told3 .given .1)
+
+pub number-spec : {M : Type 1} → statement M
+number-spec = tie.close (tie.spec enum-told enum-told-2 enum-told-3 returns returns-2 returns-3)
