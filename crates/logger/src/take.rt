@@ -180,9 +180,10 @@ fn compared_with(a: u16, b: u16, c: u16, d: u16, ep: u16, em: u16, rp: u16, rm: 
         return Update::Keep;
     }
     if same_counts(a, b, c, d, ep, em, rp, rm) {
-        return Update::Keep;
+        Update::Keep
+    } else {
+        Update::Conflict
     }
-    Update::Conflict
 }
 
 fn same_counts(a: u16, b: u16, c: u16, d: u16, ep: u16, em: u16, rp: u16, rm: u16) -> bool
