@@ -17,7 +17,7 @@ use Rattle.dayreport.specs.declared.report.ReportAnswer.{ReportAnswer}
 use Rattle.dayreport.specs.declared.report.ReportAnswer.the-variants.{Done, TooShort, Unsound, NotInLog}
 
 -- the numbers of document 01's table
-unfoldable pub reportNumber : ReportAnswer → ℕ
+abbrev pub reportNumber : ReportAnswer → ℕ
 reportNumber Done = 0
 reportNumber TooShort = 1
 reportNumber Unsound = 28

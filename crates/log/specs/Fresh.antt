@@ -14,7 +14,7 @@ use Rattle.log.specs.declared.fresh.FreshAnswer.{FreshAnswer}
 use Rattle.log.specs.declared.fresh.FreshAnswer.the-variants.{Done, OutOfRange, TooShort}
 
 -- the numbers of document 01's table
-unfoldable pub freshNumber : FreshAnswer → ℕ
+abbrev pub freshNumber : FreshAnswer → ℕ
 freshNumber (Done n) = 0
 freshNumber OutOfRange = 27
 freshNumber TooShort = 1

@@ -15,7 +15,7 @@ use Rattle.logfile.specs.declared.write.WriteAnswer.{WriteAnswer}
 use Rattle.logfile.specs.declared.write.WriteAnswer.the-variants.{Done, Unsound, TooShort}
 
 -- the numbers of document 01's table
-unfoldable pub writeNumber : WriteAnswer → ℕ
+abbrev pub writeNumber : WriteAnswer → ℕ
 writeNumber (Done n) = 0
 writeNumber Unsound = 28
 writeNumber TooShort = 1

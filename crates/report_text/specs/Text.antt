@@ -13,7 +13,7 @@ use Rattle.report_text.specs.declared.answer.TextAnswer.{TextAnswer}
 use Rattle.report_text.specs.declared.answer.TextAnswer.the-variants.{Done, TooShort, Unsound, NotInLog}
 
 -- the numbers of document 01's table
-unfoldable pub textNumber : TextAnswer → ℕ
+abbrev pub textNumber : TextAnswer → ℕ
 textNumber (Done n) = 0
 textNumber TooShort = 1
 textNumber Unsound = 28
