@@ -1,7 +1,7 @@
 -- Register counts and energy. Source: document 01, "Telemetry": "Ke is at least 1, in milliwatt-hours a count. Register counts and
 -- milliwatt-hours are kept apart: energy of N counts is N x Ke milliwatt-hours."
 use mathlib.Core.Path.{subst⁻¹}
-use mathlib.Core.Bool.{Bool, true, false}
+use mathlib.Core.Bool.{cond}
 use mathlib.Core.List.{List, [], _∷_}
 use Prim.Native.Nat.{ℕ, suc, _+_, _*_, _^_, _≤_, _<_}
 use native.Mathlib.Nat.{le-of-lt, lt-of-le-of-lt, mul-le-mul-left, mul-lt-mul-of-pos-right}
@@ -18,14 +18,9 @@ use Rattle.energy.specs.declared.Sum.the-variants.{Total, TooLarge}
 abbrev pub energyOf : Counts → ℕ → MilliwattHours
 energyOf n ke = record { 0 = n .0 * ke }
 
-pickSum : Bool → Sum → Sum → Sum
-pickSum true a b = a
-pickSum false a b = b
-
 -- the sum of two numbers of counts, where 32 bits hold it
 unfoldable pub sumOf : Counts → Counts → Sum
-unfolding pickSum
-sumOf a b = pickSum (ltb (a .0 + b .0) (2 ^ 32)) (Total (record { 0 = a .0 + b .0 })) TooLarge
+sumOf a b = cond (ltb (a .0 + b .0) (2 ^ 32)) (Total (record { 0 = a .0 + b .0 })) TooLarge
 
 -- ---- a whole log fits: 62 days of 96 slots, each with a 16-bit count, at a Ke of 65,535
 

@@ -7,10 +7,11 @@ use Prim.Native.Nat.{ℕ, zero, suc, _+_, _-_, _≤_, _<_}
 use native.Mathlib.Nat.{zero-add, le-refl}
 use native.Mathlib.Omega.{arith}
 use lib.Dec.{leb, eqb}
-use lib.ListN.{length, take, drop, length-append}
-use lib.Seq.{take-at, drop-at, take-all}
-use borrow.Author.Tests.{le-leb, eq-eqb}
-use Rattle.words.specs.Number.{Bytes, number, bytesOf, length-bytesOf, number-bytesOf-fits}
+use lib.ListN.{length, take, drop, length-append, length-drop, take-append-drop}
+use lib.Seq.{take-at, drop-at, take-all, getD-drop}
+use borrow.Author.Tests.{le-leb, eq-eqb, leb-true, eqb-true}
+use Rattle.decide.specs.Test.{both}
+use Rattle.words.specs.Number.{Bytes, number, bytesOf, length-bytesOf, number-bytesOf-fits, bytesOf-number}
 use Rattle.words.specs.Place.{numberAt, written, written-append, part-written}
 use Rattle.crc16.specs.Crc.{crcOf, crcOf-lt}
 
@@ -64,3 +65,22 @@ crcFits-framed body h =
     let fits : numberAt (framed body) (length (framed body) - 2) 2 ≡ crcOf (take (length (framed body) - 2) (framed body)) =
     rw (n, take-framed) (numberAt-framed body h) in
     ap₂ _&&_ (le-leb 2 (length (framed body)) (omega arith)) (eq-eqb _ _ fits)
+
+-- ---- bytes whose last two are the CRC of all before them
+
+-- the last two bytes are those of the number there
+last-two : (s : List ℕ) → Bytes s → 2 ≤ length s → drop (length s - 2) s ≡ bytesOf 2 (numberAt s (length s - 2) 2)
+unfolding numberAt
+last-two s bytes l =
+    let tail = drop (length s - 2) s in
+    let e : length tail ≡ 2 = length-drop (length s - 2) s ∙ omega arith in
+    let b : Bytes tail = λ i. rw getD-drop (bytes (length s - 2 + i)) in
+    sym (bytesOf-number tail b) ∙ ap₂ bytesOf e (sym (ap number (take-all 2 tail (omega arith))))
+
+pub framed-of-fits : (s : List ℕ) → Bytes s → crcFits s ≡ true → s ≡ framed (take (length s - 2) s)
+unfolding crcFits framed
+framed-of-fits s bytes p =
+    let a = both _ _ p in
+    let l : 2 ≤ length s = leb-true 2 (length s) (a .0) in
+    sym (take-append-drop (length s - 2) s)
+    ∙ ap (λ (x : List ℕ). take (length s - 2) s ++ x) (last-two s bytes l ∙ ap (bytesOf 2) (eqb-true _ _ (a .1)))

@@ -1,4 +1,4 @@
--- What follows from the definition of a cell: a cell and its nine bytes say the same. Assumes nothing.
+-- What follows from the definition of a cell: a cell and its nine bytes say the same.
 use Prim.Native.Nat.{ℕ, _+_, _*_, _/_, _%_, _<_}
 use native.Mathlib.Omega.{arith}
 use mathlib.Core.Path.{_≡_, refl, sym, ap, _∙_}

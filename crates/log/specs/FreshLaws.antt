@@ -1,4 +1,4 @@
--- What follows from the definition of a fresh log: it is a log with its header, and every cell is a gap. Assumes nothing.
+-- What follows from the definition of a fresh log: it is a log with its header, and every cell is a gap.
 use Prim.Native.Nat.{ℕ, suc, _+_, _*_, _<_, _≤_}
 use native.Mathlib.Nat.{zero-add}
 use native.Mathlib.Omega.{arith}

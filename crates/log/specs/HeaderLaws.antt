@@ -1,5 +1,4 @@
 -- What follows from the definitions of a header: what it keeps to, that it and its bytes say the same, and what a sound log has.
--- Assumes nothing.
 use Prim.Native.Nat.{ℕ, _+_, _*_, _-_, _/_, _%_, _≤_, _<_}
 use native.Mathlib.Nat.{mul-le-mul}
 use native.Mathlib.Omega.{arith}

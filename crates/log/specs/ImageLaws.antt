@@ -1,5 +1,5 @@
 -- What follows from the definition of an image: what is read after a put, there and elsewhere; what a put keeps; and that an image is
--- that of its header and its cells. Assumes nothing.
+-- that of its header and its cells.
 use Prim.Native.Nat.{ℕ, zero, suc, _+_, _*_, _-_, _≤_, _<_}
 use native.Mathlib.Nat.{add-zero, zero-add}
 use native.Mathlib.Omega.{arith}

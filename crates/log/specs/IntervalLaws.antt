@@ -1,4 +1,4 @@
--- What follows from the definition of intervals: their indices are those of the log's cells, each of one interval. Assumes nothing.
+-- What follows from the definition of intervals: their indices are those of the log's cells, each of one interval.
 use Prim.Native.Nat.{ℕ, _+_, _*_, _/_, _%_, _<_}
 use native.Mathlib.Omega.{arith}
 use mathlib.Core.Path.{_≡_, sym, ap, _∙_}

@@ -10,3 +10,4 @@ pub mod IntervalLaws
 pub mod Fresh
 pub mod FreshLaws
 pub mod Examples
+pub mod FrontLaws

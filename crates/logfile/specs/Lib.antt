@@ -2,5 +2,4 @@ pub mod File
 pub mod Write
 pub mod Read
 pub mod WalkLaws
-pub mod FrontLaws
 pub mod FileLaws

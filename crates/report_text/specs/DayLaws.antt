@@ -1,4 +1,4 @@
--- What a day's line says of a log's image. Assumes nothing.
+-- What a day's line says of a log's image.
 use Prim.Native.Nat.{ℕ, _+_, _*_, _<_}
 use native.Mathlib.Omega.{arith}
 use mathlib.Core.Path.{_≡_, ap, _∙_}
