@@ -19,8 +19,8 @@ use Rattle.log.specs.ImageLaws.{AllCells}
 use Rattle.log.specs.declared.cell.Cell.{Cell}
 use Rattle.log.specs.declared.header.Header.{Header}
 use Rattle.logfile.specs.FileLaws.{Accepted, accepted-image}
-use Rattle.logger.specs.Book.{Call, ask, lapse, reply, startBook, bookRun, workedOut}
-use Rattle.logger.specs.Run.{State, step, run}
+use Rattle.logger.specs.Book.{Call, ask, lapse, reply, startBook, BookRun, bookRun, workedOut}
+use Rattle.logger.specs.Run.{State, Run, step, run}
 use Rattle.logger.specs.StepLaws.{stateOf}
 use Rattle.logger.specs.declared.held.OpenAsk.the-variants.{Closed}
 use Rattle.demands.specs.History.{AllBytes, Elsewhere, together, start-sane, start-state, taken-kept}
@@ -36,15 +36,20 @@ pub record Start (s : List ℕ) : Type 0 where
   pub each : AllCells cells
   pub image : s ≡ imageOf header cells
 
+-- the calls, run over the log with no ask open
+abbrev pub ran : List ℕ → List Call → Run
+ran s calls = run (record { log = s; held = Closed }) calls
+
+-- the calls, in the plain book of the start's header and cells
+abbrev pub booked : {s : List ℕ} → Start s → List Call → BookRun
+booked start calls = bookRun (start .header) (startBook (start .cells)) calls
+
 -- "After every such list the log is byte for byte the one worked out afresh from that history. .. Every answer, and the ask left open,
 -- are those of document 01's plain book."
 pub record Demand3 (s : List ℕ) (start : Start s) (calls : List Call) : Type 0 where
-  pub answers : run (record { log = s; held = Closed }) calls .answers ≡ bookRun (start .header) (startBook (start .cells)) calls .answers
-  pub held : run (record { log = s; held = Closed }) calls .state .held
-      ≡ bookRun (start .header) (startBook (start .cells)) calls .book .held
-  pub log : run (record { log = s; held = Closed }) calls .state .log
-      ≡ imageOf (start .header)
-      (workedOut (bookRun (start .header) (startBook (start .cells)) calls .book .kept) 0 (cellsOf (start .header)))
+  pub answers : ran s calls .answers ≡ booked start calls .answers
+  pub held : ran s calls .state .held ≡ booked start calls .book .held
+  pub log : ran s calls .state .log ≡ imageOf (start .header) (workedOut (booked start calls .book .kept) 0 (cellsOf (start .header)))
 
 -- from every start, for every list of calls whose replies are bytes
 pub demand-3 : (s : List ℕ) (start : Start s) (calls : List Call) → AllBytes calls → Demand3 s start calls
