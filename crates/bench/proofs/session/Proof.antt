@@ -1,0 +1,70 @@
+use borrow.Author.Needs.{needs}
+use mathlib.Core.Path.{_≡_}
+use lib.ListN.{length}
+use Rattle.bench.proofs.session.Statement.{statement}
+use Rattle.bench.proofs.session.Tie as tie
+
+abbrev Inv-loop : tie.InvT-loop
+Inv-loop image₀ line₀ kept₀ turns₀ image line kept turns = (length line ≡ length line₀) × (length image ≡ length image₀)
+
+abbrev μ-loop : tie.MeasureT-loop
+μ-loop image₀ line₀ kept₀ turns₀ image line kept turns = turns
+
+loop-holds : tie.Need-loop-holds Inv-loop μ-loop
+loop-holds c = search needs
+
+next-line-requires : tie.Need-next-line-requires Inv-loop μ-loop
+next-line-requires c κs = search needs
+
+is-end-requires : tie.Need-is-end-requires Inv-loop μ-loop
+is-end-requires c κs = search needs
+
+same-length : tie.Need-same-length Inv-loop μ-loop
+same-length c = search needs
+
+same-length-2 : tie.Need-same-length-2 Inv-loop μ-loop
+same-length-2 c = search needs
+
+returns : tie.Need-returns Inv-loop μ-loop
+returns c = search needs
+
+handled-requires : tie.Need-handled-requires Inv-loop μ-loop
+handled-requires c κs = search needs
+
+sub-turns : tie.Need-sub-turns Inv-loop μ-loop
+sub-turns c = search needs
+
+loop-less : tie.Need-loop-less Inv-loop μ-loop
+loop-less c = search needs
+
+loop-again : tie.Need-loop-again Inv-loop μ-loop
+loop-again c = search needs
+
+same-length-3 : tie.Need-same-length-3 Inv-loop μ-loop
+same-length-3 c = search needs
+
+same-length-4 : tie.Need-same-length-4 Inv-loop μ-loop
+same-length-4 c = search needs
+
+returns-2 : tie.Need-returns-2 Inv-loop μ-loop
+returns-2 c = search needs
+
+pub session-spec : {M : Type 1} → statement M
+session-spec =
+    tie.close
+    (tie.spec
+    Inv-loop
+    μ-loop
+    loop-holds
+    next-line-requires
+    is-end-requires
+    same-length
+    same-length-2
+    returns
+    handled-requires
+    sub-turns
+    loop-less
+    loop-again
+    same-length-3
+    same-length-4
+    returns-2)

@@ -1,0 +1,154 @@
+// The arguments of the commands.
+use crate::line::spaces;
+use crate::value::ByteAnswer;
+use crate::value::ShortAnswer;
+use crate::value::byte_word;
+use crate::value::short_word;
+use log::Header;
+use reader::Request;
+
+pub enum Start {
+    Of(Header),
+    // A year that no header holds.
+    OutOfRange,
+    Unread,
+}
+
+pub enum DayWord {
+    Of(u8),
+    Unread,
+}
+
+pub enum DaySlot {
+    Of(u8, u8),
+    Unread,
+}
+
+// An address, a day and a slot.
+pub enum Place {
+    Of(u8, u8, u8),
+    Unread,
+}
+
+pub enum RequestWords {
+    Of(Request),
+    Unread,
+}
+
+const FIRST_YEAR: u16 = 2000;
+
+const LAST_YEAR: u16 = 2255;
+
+// YEAR MONTH DAY DAYS MINUTES KE
+pub fn start_words(line: &[u8]) -> Start {
+    if spaces(line) != 6 {
+        return Start::Unread;
+    }
+    let ShortAnswer::Short(year) = short_word(line, 1) else {
+        return Start::Unread;
+    };
+    let ByteAnswer::Byte(month) = byte_word(line, 2) else {
+        return Start::Unread;
+    };
+    let ByteAnswer::Byte(day) = byte_word(line, 3) else {
+        return Start::Unread;
+    };
+    let ByteAnswer::Byte(days) = byte_word(line, 4) else {
+        return Start::Unread;
+    };
+    let ByteAnswer::Byte(minutes) = byte_word(line, 5) else {
+        return Start::Unread;
+    };
+    let ShortAnswer::Short(ke) = short_word(line, 6) else {
+        return Start::Unread;
+    };
+    start_of(year, month, day, days, minutes, ke)
+}
+
+fn start_of(year: u16, month: u8, day: u8, days: u8, minutes: u8, ke: u16) -> Start {
+    if year < FIRST_YEAR {
+        return Start::OutOfRange;
+    }
+    if LAST_YEAR < year {
+        return Start::OutOfRange;
+    }
+    let first = calendar::Date {
+        year: (year - FIRST_YEAR) as u8,
+        month: month,
+        day: day,
+    };
+    Start::Of(Header {
+        start: first,
+        days: days,
+        minutes: minutes,
+        ke: ke,
+    })
+}
+
+// DAY
+pub fn day_word(line: &[u8]) -> DayWord {
+    if spaces(line) != 1 {
+        return DayWord::Unread;
+    }
+    let ByteAnswer::Byte(day) = byte_word(line, 1) else {
+        return DayWord::Unread;
+    };
+    DayWord::Of(day)
+}
+
+// DAY SLOT
+pub fn day_slot_words(line: &[u8]) -> DaySlot {
+    if spaces(line) != 2 {
+        return DaySlot::Unread;
+    }
+    let ByteAnswer::Byte(day) = byte_word(line, 1) else {
+        return DaySlot::Unread;
+    };
+    let ByteAnswer::Byte(slot) = byte_word(line, 2) else {
+        return DaySlot::Unread;
+    };
+    DaySlot::Of(day, slot)
+}
+
+// ADDRESS DAY SLOT
+pub fn place_words(line: &[u8]) -> Place {
+    if spaces(line) != 3 {
+        return Place::Unread;
+    }
+    let ByteAnswer::Byte(address) = byte_word(line, 1) else {
+        return Place::Unread;
+    };
+    let ByteAnswer::Byte(day) = byte_word(line, 2) else {
+        return Place::Unread;
+    };
+    let ByteAnswer::Byte(slot) = byte_word(line, 3) else {
+        return Place::Unread;
+    };
+    Place::Of(address, day, slot)
+}
+
+// ADDRESS PARAMETER OFFSET TARIFF DETAIL, and what may follow
+pub fn request_words(line: &[u8]) -> RequestWords {
+    let ByteAnswer::Byte(address) = byte_word(line, 1) else {
+        return RequestWords::Unread;
+    };
+    let ByteAnswer::Byte(parameter) = byte_word(line, 2) else {
+        return RequestWords::Unread;
+    };
+    let ByteAnswer::Byte(offset) = byte_word(line, 3) else {
+        return RequestWords::Unread;
+    };
+    let ByteAnswer::Byte(tariff) = byte_word(line, 4) else {
+        return RequestWords::Unread;
+    };
+    let ByteAnswer::Byte(detail) = byte_word(line, 5) else {
+        return RequestWords::Unread;
+    };
+    RequestWords::Of(Request {
+        address: address,
+        parameter: parameter,
+        offset: offset,
+        tariff: tariff,
+        detail: detail,
+    })
+}

@@ -1,0 +1,105 @@
+// What a word stands for.
+ghost use mathlib.Core.Path.{_≡_};
+ghost use Rattle.text.specs.Hex.{hexValue};
+ghost use Rattle.text.specs.Reading.{numberOfText};
+ghost use Rattle.console.specs.Line.{wordAt};
+ghost use Rattle.console.specs.Value.{byteOf, shortOf, pairOf, bytesRead, outcome};
+use text::HexAnswer;
+use text::NumberAnswer;
+
+pub enum ByteAnswer {
+    Byte(u8),
+    Unread,
+}
+
+pub enum ShortAnswer {
+    Short(u16),
+    Unread,
+}
+
+pub enum BytesAnswer {
+    // How many.
+    Bytes(usize),
+    Unread,
+}
+
+const MOST_BYTE: u64 = 255;
+
+const MOST_SHORT: u64 = 65535;
+
+// A number of one byte.
+pub fn byte_word(line: &[u8], k: usize) -> ByteAnswer
+    ensures { λ r. ⌜ r ≡ byteOf (numberOfText (wordAt k (now (line .entry)))) ⌝ }
+{
+    match text::number_of(crate::line::word(line, k)) {
+        NumberAnswer::Number(n) => {
+            if n <= MOST_BYTE {
+                ByteAnswer::Byte(n as u8)
+            } else {
+                ByteAnswer::Unread
+            }
+        }
+        NumberAnswer::NotANumber => ByteAnswer::Unread,
+    }
+}
+
+// A number of 16 bits.
+pub fn short_word(line: &[u8], k: usize) -> ShortAnswer
+    ensures { λ r. ⌜ r ≡ shortOf (numberOfText (wordAt k (now (line .entry)))) ⌝ }
+{
+    match text::number_of(crate::line::word(line, k)) {
+        NumberAnswer::Number(n) => {
+            if n <= MOST_SHORT {
+                ShortAnswer::Short(n as u16)
+            } else {
+                ShortAnswer::Unread
+            }
+        }
+        NumberAnswer::NotANumber => ShortAnswer::Unread,
+    }
+}
+
+// The bytes that pairs of digits are, at least one, to the front of out.
+pub fn read_bytes(digits: &[u8], out: &mut [u8]) -> BytesAnswer
+    ensures { λ r. ⌜ outcome r (now (out .exit)) ≡ bytesRead (now (digits .entry)) (now (out .entry)) ⌝ }
+{
+    let pairs = digits.len() / 2;
+    if digits.len() % 2 != 0 {
+        return BytesAnswer::Unread;
+    }
+    if pairs == 0 {
+        return BytesAnswer::Unread;
+    }
+    let mut i = 0;
+    while i < pairs {
+        match pair(
+            words::byte_at(digits, 2 * i),
+            words::byte_at(digits, 2 * i + 1),
+        ) {
+            ByteAnswer::Byte(byte) => words::put_byte(out, i, byte),
+            ByteAnswer::Unread => {
+                return BytesAnswer::Unread;
+            }
+        }
+        i += 1;
+    }
+    BytesAnswer::Bytes(pairs)
+}
+
+// The byte of two digits.
+fn pair(high: u8, low: u8) -> ByteAnswer
+    ensures { λ r. ⌜ r ≡ pairOf (hexValue high) (hexValue low) ⌝ }
+{
+    let HexAnswer::Value(h) = text::hex_value(high) else {
+        return ByteAnswer::Unread;
+    };
+    let HexAnswer::Value(l) = text::hex_value(low) else {
+        return ByteAnswer::Unread;
+    };
+    if h < 16 {
+        if l < 16 {
+            return ByteAnswer::Byte(h * 16 + l);
+        }
+    }
+    ByteAnswer::Unread
+}

@@ -1,0 +1,30 @@
+use Rattle.firmware.specs.Told.{readOutcome, readTold}
+use Rattle.logfile.specs.Read.{Outcome}
+use mathlib.Core.Path.{ap, ap₂, _∙_}
+use Prim.Native.Nat.{ℕ}
+use borrow.Author.Needs.{needs}
+use Rattle.firmware.proofs.metlazuel_read_file.Statement.{statement}
+use Rattle.firmware.proofs.metlazuel_read_file.Tie as tie
+
+read-file-requires : tie.Need-read-file-requires
+read-file-requires c κs = search needs
+
+length-after-requires : tie.Need-length-after-requires
+length-after-requires c κs = search needs
+
+number-requires : tie.Need-number-requires
+number-requires c κs = search needs
+
+same-length : tie.Need-same-length
+same-length c = search needs
+
+returns : tie.Need-returns
+returns c =
+    let read = c .before .before .before .before .before in
+    ap₂ (λ (n l : ℕ). readOutcome n l (read .read-file .last .1 .0)) (c .number .ensures) (c .before .length-after .ensures)
+    ∙ ap (λ (o : Outcome). readTold o (read .before .before .before .before .args .length .now)) (read .read-file .ensures)
+
+pub metlazuel-read-file-spec : {M : Type 1} → statement M
+metlazuel-read-file-spec =
+    tie.close
+    (tie.spec read-file-requires length-after-requires number-requires same-length returns)

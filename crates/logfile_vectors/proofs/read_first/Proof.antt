@@ -1,0 +1,35 @@
+use mathlib.Core.Path.{sym}
+use native.Mathlib.Omega.{arith}
+use lib.Seq.{length-take-le}
+use borrow.Author.Needs.{needs}
+use Rattle.logfile_vectors.proofs.read_first.Statement.{statement}
+use Rattle.logfile_vectors.proofs.read_first.Tie as tie
+
+array-share-prefix-file : tie.Need-array-share-prefix-file
+array-share-prefix-file c = search needs
+
+slice-aggregate-read : tie.Need-slice-aggregate-read
+slice-aggregate-read c = sym (length-take-le (c .before .before .before .args .n) (c .before .before .before .args .t1) (omega (arith, c .before .before .before .good)))
+
+read-requires : tie.Need-read-requires
+read-requires c κs = search needs
+
+same-length : tie.Need-same-length
+same-length c = search needs
+
+returns : tie.Need-returns
+returns c = search needs
+
+returns-2 : tie.Need-returns-2
+returns-2 c = search needs
+
+pub read-first-spec : {M : Type 1} → statement M
+read-first-spec =
+    tie.close
+    (tie.spec
+    array-share-prefix-file
+    slice-aggregate-read
+    read-requires
+    same-length
+    returns
+    returns-2)
