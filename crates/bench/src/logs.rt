@@ -1,10 +1,10 @@
 // The calls on the log and its open ask.
 use crate::Kept;
+use crate::arguments::DaySlot;
+use crate::arguments::DayWord;
+use crate::arguments::Place;
+use crate::arguments::Start;
 use crate::say;
-use console::DaySlot;
-use console::DayWord;
-use console::Place;
-use console::Start;
 use dayreport::ReportAnswer;
 use log::Cell;
 use log::CellAnswer;
@@ -17,7 +17,7 @@ use logger::OpenAsk;
 use logger::TakeAnswer;
 
 pub fn fresh(line: &[u8], image: &mut [u8], kept: Kept) -> Kept {
-    match console::start_words(line) {
+    match crate::arguments::start_words(line) {
         Start::Of(h) => fresh_of(h, image, kept),
         Start::OutOfRange => {
             say::number_line(refusal::OUT_OF_RANGE);
@@ -44,7 +44,7 @@ fn fresh_of(h: Header, image: &mut [u8], kept: Kept) -> Kept {
 }
 
 pub fn ask(line: &[u8], image: &[u8], kept: Kept) -> Kept {
-    match console::place_words(line) {
+    match crate::arguments::place_words(line) {
         Place::Of(address, day, slot) => ask_for(image, kept, address, day, slot),
         Place::Unread => {
             say::unread();
@@ -151,7 +151,7 @@ pub fn open_ask(line: &[u8], held: OpenAsk) {
 }
 
 pub fn cell(line: &[u8], image: &[u8]) {
-    match console::day_slot_words(line) {
+    match crate::arguments::day_slot_words(line) {
         DaySlot::Of(day, slot) => cell_of(image, day, slot),
         DaySlot::Unread => say::unread(),
     }
@@ -186,7 +186,7 @@ fn say_cell(answer: CellAnswer) {
 }
 
 pub fn report(line: &[u8], image: &[u8]) {
-    match console::day_word(line) {
+    match crate::arguments::day_word(line) {
         DayWord::Of(day) => report_of(image, day),
         DayWord::Unread => say::unread(),
     }

@@ -1,13 +1,15 @@
 // The console: a line of standard input is a call, and its answer a line of standard output.
+mod arguments;
 mod files;
 mod input;
 mod logs;
 mod reads;
 mod say;
+mod verb;
 
-use console::Verb;
 use input::Line;
 use logger::OpenAsk;
+use verb::Verb;
 
 // What is kept from line to line beside the image: its length, 0 where there is no log, and the open ask.
 pub struct Kept {
@@ -71,7 +73,7 @@ fn answered(line: &[u8], n: usize, image: &mut [u8], kept: Kept) -> Kept {
 }
 
 fn called(line: &[u8], image: &mut [u8], kept: Kept) -> Kept {
-    match console::verb_of(console::word(line, 0)) {
+    match verb::verb_of(console::word(line, 0)) {
         Verb::Log => logs::fresh(line, image, kept),
         Verb::Load => files::load(line, image, kept),
         Verb::Save => {

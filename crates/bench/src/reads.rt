@@ -1,7 +1,7 @@
 // Requests and replies without a log.
+use crate::arguments::RequestWords;
 use crate::say;
 use console::BytesAnswer;
-use console::RequestWords;
 use reader::Decoded;
 use reader::Request;
 use reader::RequestAnswer;
@@ -25,7 +25,7 @@ pub fn request(line: &[u8]) {
         say::unread();
         return;
     }
-    match console::request_words(line) {
+    match crate::arguments::request_words(line) {
         RequestWords::Of(q) => request_of(q),
         RequestWords::Unread => say::unread(),
     }
@@ -46,7 +46,7 @@ fn request_of(q: Request) {
 pub fn decode(line: &[u8]) {
     let mut bytes = [0u8; 2048];
     match reply_bytes(line, 6, &mut bytes) {
-        BytesAnswer::Bytes(n) => match console::request_words(line) {
+        BytesAnswer::Bytes(n) => match crate::arguments::request_words(line) {
             RequestWords::Of(q) => decode_of(q, console::part(&bytes, n)),
             RequestWords::Unread => say::unread(),
         },

@@ -1,9 +1,9 @@
 // The arguments of the commands.
-use crate::line::spaces;
-use crate::value::ByteAnswer;
-use crate::value::ShortAnswer;
-use crate::value::byte_word;
-use crate::value::short_word;
+use console::ByteAnswer;
+use console::ShortAnswer;
+use console::byte_word;
+use console::short_word;
+use console::spaces;
 use log::Header;
 use reader::Request;
 
