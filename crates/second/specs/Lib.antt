@@ -1,0 +1,3 @@
+pub mod Protection
+pub mod Season
+pub mod SecondLaws

@@ -1,0 +1,132 @@
+-- What follows: the automatic date as the calendar answers it, which dates are switchable by the hours beside them, and that a second
+-- keeps the ranges.
+use mathlib.Core.Path.{_≡_, refl, ap₂}
+use mathlib.Core.Bool.{Bool, true, false, cond, _&&_}
+use Prim.Native.Nat.{ℕ, _+_, _-_, _≤_, _<_}
+use native.Mathlib.Omega.{arith}
+use lib.Dec.{eqb, leb, ltb}
+use borrow.Author.Tests.{le-leb, lt-ltb, leb-true, ltb-true, leb-false, eqb-true}
+use Rattle.decide.specs.Test.{both, chosen}
+use Rattle.calendar.specs.Date.{daysInMonth}
+use Rattle.calendar.specs.Sunday.{lastSunday, lastSundayOf}
+use Rattle.calendar.specs.Time.{isTime, secondNumber, centurySeconds, timeAt, timeOf, timeBack, secondsLater, secondsEarlier}
+use Rattle.calendar.specs.TimeLaws.{second-below, seconds-later, seconds-earlier}
+use Rattle.calendar.specs.declared.time.DateTime.{DateTime}
+use Rattle.calendar.specs.declared.time.TimeAnswer.{TimeAnswer}
+use Rattle.calendar.specs.declared.time.TimeAnswer.the-variants as time
+use Rattle.second.specs.Protection.{shut, opened, isRunning, isProtection, quietSecond}
+use Rattle.second.specs.Season.{dayOf, isSwitchable, isChoice, isFitting, timeOr, shows, intoWinter, intoSummer, inSeason, reached, nextTime, sameTime, summerDate, winterDate}
+use Rattle.second.specs.declared.protection.Level.{Level}
+use Rattle.second.specs.declared.protection.Level.the-variants.{Shut, Auxiliary, Main}
+use Rattle.second.specs.declared.protection.Protection.{Protection}
+use Rattle.second.specs.declared.season.Season.{Season}
+use Rattle.second.specs.declared.season.Season.the-variants.{Winter, Summer}
+use Rattle.second.specs.declared.season.Time.{Time}
+
+-- the calendar's answer has the last Sunday's day; past 2099 there is none, and no day
+pub sunday-day : (y m : ℕ) → dayOf (lastSundayOf y m) ≡ lastSunday y m
+unfolding lastSundayOf lastSunday daysInMonth
+sunday-day y m = go (ltb y 100) refl
+  where
+    go : (b : Bool) → ltb y 100 ≡ b → dayOf (lastSundayOf y m) ≡ lastSunday y m
+    go true e = simp e
+    go false e = simp e (omega arith)
+
+-- ---- a date is switchable exactly where the calendar has the hour before it and the hour after it
+
+abbrev pub isAt : TimeAnswer → Bool
+isAt (time.At u) = true
+isAt time.NotATime = false
+isAt time.OutOfRange = false
+
+pub hours-beside : (t : DateTime) → isAt (secondsEarlier t 3600) && isAt (secondsLater t 3600) ≡ isSwitchable t
+unfolding isSwitchable secondsEarlier secondsLater timeBack timeAt
+hours-beside t = go (isTime t) refl (leb 3600 (secondNumber t)) refl (ltb (secondNumber t + 3600) centurySeconds) refl
+  where
+    go : (a : Bool) → isTime t ≡ a → (b : Bool) → leb 3600 (secondNumber t) ≡ b → (c : Bool) → ltb (secondNumber t + 3600) centurySeconds ≡ c
+        → isAt (secondsEarlier t 3600) && isAt (secondsLater t 3600) ≡ isSwitchable t
+    go false e b f c g = simp (e, f, g)
+    go true e false f c g = simp (e, f, g)
+    go true e true f c g =
+        let below : ltb (secondNumber t - 3600) centurySeconds ≡ true = lt-ltb (secondNumber t - 3600) centurySeconds (omega (arith, second-below t e)) in
+        go-more c g below
+      where
+        go-more : (c : Bool) → ltb (secondNumber t + 3600) centurySeconds ≡ c → ltb (secondNumber t - 3600) centurySeconds ≡ true
+            → isAt (secondsEarlier t 3600) && isAt (secondsLater t 3600) ≡ isSwitchable t
+        go-more true g h = simp (e, f, g, h)
+        go-more false g h = simp (e, f, g, h)
+
+-- ---- a second keeps the ranges
+
+-- what both values of a choice pass
+either : {A : Type 0} (f : A → Bool) (b : Bool) (x y : A) → f x ≡ true → f y ≡ true → f (cond b x y) ≡ true
+either f true x y p q = p
+either f false x y p q = q
+
+later-is-time : (u : DateTime) (n : ℕ) (a : TimeAnswer) → secondsLater u n ≡ a → isTime u ≡ true → isTime (timeOr a u) ≡ true
+later-is-time u n (time.At v) e h = seconds-later u n v e .valid
+later-is-time u n time.NotATime e h = h
+later-is-time u n time.OutOfRange e h = h
+
+earlier-is-time : (u : DateTime) (n : ℕ) (a : TimeAnswer) → secondsEarlier u n ≡ a → isTime u ≡ true → isTime (timeOr a u) ≡ true
+earlier-is-time u n (time.At v) e h = seconds-earlier u n v e .valid
+earlier-is-time u n time.NotATime e h = h
+earlier-is-time u n time.OutOfRange e h = h
+
+-- the clock moved, and the season with it or not
+moved-fits : (t : Time) (u : DateTime) (s : Season) → isFitting t ≡ true → isTime u ≡ true → isFitting (shows t u s) ≡ true
+unfolding isFitting
+moved-fits t u s h e =
+    let a = both (isTime (t .clock) && isChoice (t .summer)) (isChoice (t .winter)) h in
+    ap₂ _&&_ (ap₂ _&&_ e (both (isTime (t .clock)) (isChoice (t .summer)) (a .0) .1)) (a .1)
+
+into-winter-fits : (t : Time) (u : DateTime) → isFitting t ≡ true → isTime u ≡ true → isFitting (intoWinter t u) ≡ true
+unfolding intoWinter
+into-winter-fits t u h e =
+    either isFitting (sameTime u (winterDate (t .winter) (u .date .year))) _ _
+    (moved-fits t _ Winter h (earlier-is-time u 3600 (secondsEarlier u 3600) refl e)) (moved-fits t u (t .season) h e)
+
+into-summer-fits : (t : Time) (u : DateTime) → isFitting t ≡ true → isTime u ≡ true → isFitting (intoSummer t u) ≡ true
+unfolding intoSummer
+into-summer-fits t u h e =
+    either isFitting (sameTime u (summerDate (t .summer) (u .date .year))) _ _
+    (moved-fits t _ Summer h (later-is-time u 3600 (secondsLater u 3600) refl e)) (moved-fits t u (t .season) h e)
+
+reached-fits : (s : Season) (t : Time) (u : DateTime) → isFitting t ≡ true → isTime u ≡ true → isFitting (inSeason s t u) ≡ true
+unfolding inSeason
+reached-fits Winter t u h e = into-summer-fits t u h e
+reached-fits Summer t u h e = into-winter-fits t u h e
+
+pub next-fits : (t : Time) → isFitting t ≡ true → isFitting (nextTime t) ≡ true
+unfolding nextTime reached
+next-fits t h = go (secondsLater (t .clock) 1) refl
+  where
+    go : (a : TimeAnswer) → secondsLater (t .clock) 1 ≡ a → isFitting (nextTime t) ≡ true
+    go (time.At u) e = simp e (reached-fits (t .season) t u h (seconds-later (t .clock) 1 u e .valid))
+    go time.NotATime e = simp e h
+    go time.OutOfRange e = simp e h
+
+-- a second fewer of those that run, but the last
+fewer : {n : ℕ} → 1 < n → isRunning n ≡ true → isRunning (n - 1) ≡ true
+unfolding isRunning
+fewer {n} m h =
+    let most : n ≤ 240 = leb-true n 240 (both (leb 1 n) (leb n 240) h .1) in
+    rw (le-leb 1 (n - 1) (omega arith), le-leb (n - 1) 240 (omega arith))
+
+pub quiet-fits : (p : Protection) → isProtection p ≡ true → isProtection (quietSecond p) ≡ true
+unfolding quietSecond isProtection isRunning
+quiet-fits p h = go (p .level) refl (leb (p .left) 1) refl
+  where
+    go : (l : Level) → p .level ≡ l → (b : Bool) → leb (p .left) 1 ≡ b → isProtection (quietSecond p) ≡ true
+    go l e true f = simp f
+    go Shut e false f =
+        let z : p .left ≡ 0 = eqb-true (p .left) 0 (rw e at h) in
+        absurd (omega (arith, leb-false (p .left) 1 f))
+    go Auxiliary e false f = simp (e, f) (fewer (leb-false (p .left) 1 f) (rw e at h))
+    go Main e false f = simp (e, f) (fewer (leb-false (p .left) 1 f) (rw e at h))
+
+pub opened-fits : (l : Level) → (l ≡ Shut → ⊥) → isProtection (opened l) ≡ true
+unfolding isProtection isRunning
+opened-fits Shut h = absurd (h refl)
+opened-fits Auxiliary h = refl
+opened-fits Main h = refl
