@@ -1,0 +1,64 @@
+use Rattle.request.specs.declared.request.RequestAnswer.the-variants.{Done}
+use Rattle.words.specs.Place.{written}
+use Rattle.request.specs.Request.{requested, requestFrame, outcome}
+use Rattle.request.specs.Subject.{askable}
+use Rattle.frame.specs.Sealing.{sealed, sealed-written}
+use borrow.Author.Tests.{lt-ltb, le-ltb}
+use native.Mathlib.Omega.{arith}
+use Prim.Native.Nat.{ℕ}
+use mathlib.Core.List.{List, [], _∷_}
+use mathlib.Core.Path.{_≡_, sym, ap, _∙_}
+use borrow.Author.Needs.{needs}
+use Rattle.request.proofs.request.put_request.Statement.{statement}
+use Rattle.request.proofs.request.put_request.Tie as tie
+
+returns : tie.Need-returns
+unfolding requested requestFrame
+returns c = simp (lt-ltb _ _ (c .if1 .taken))
+
+subject-of-requires : tie.Need-subject-of-requires
+subject-of-requires c κs = search needs
+
+is-askable-requires : tie.Need-is-askable-requires
+is-askable-requires c κs = search needs
+
+slice-aggregate-put-bytes : tie.Need-slice-aggregate-put-bytes
+slice-aggregate-put-bytes c = search needs
+
+put-bytes-requires : tie.Need-put-bytes-requires
+put-bytes-requires c κs = search needs
+
+seal-requires : tie.Need-seal-requires
+seal-requires c κs = search needs
+
+same-length : tie.Need-same-length
+same-length c = search needs
+
+returns-2 : tie.Need-returns-2
+unfolding requested requestFrame
+returns-2 c = let s = c .before .before .before .before .before .before .before .before .before .before .before .before .before .before .args .out .now in
+    let q = c .before .before .before .before .before .before .before .before .before .before .before .before .before .before .args .q in
+    let body = q .address ∷ 3 ∷ q .parameter ∷ q .offset ∷ q .tariff ∷ q .detail ∷ [] in
+    let made : c .before .before .seal .last .0 ≡ written s 0 (requestFrame q) = c .before .before .seal .ensures
+    ∙ ap (λ (l : List ℕ). sealed l 6) (c .before .before .before .before .before .before .put-bytes .ensures)
+    ∙ sealed-written s body (omega (arith, c .before .before .before .before .before .before .before .before .before .before .before .before .if1 .left)) in
+    simp (le-ltb _ _ (c .before .before .before .before .before .before .before .before .before .before .before .before .if1 .left), ap askable (sym (c .before .before .before .before .before .before .before .before .before .before .before .subject-of .ensures)) ∙ sym (c .before .before .before .before .before .before .before .before .before .before .is-askable .ensures) ∙ c .before .before .before .before .before .before .before .before .before .if2 .taken)
+    (ap (outcome Done) made)
+
+returns-3 : tie.Need-returns-3
+unfolding requested requestFrame
+returns-3 c = simp (le-ltb _ _ (c .before .before .before .if1 .left), ap askable (sym (c .before .before .subject-of .ensures)) ∙ sym (c .before .is-askable .ensures) ∙ c .if2 .left)
+
+pub put-request-spec : {M : Type 1} → statement M
+put-request-spec =
+    tie.close
+    (tie.spec
+    returns
+    subject-of-requires
+    is-askable-requires
+    slice-aggregate-put-bytes
+    put-bytes-requires
+    seal-requires
+    same-length
+    returns-2
+    returns-3)
