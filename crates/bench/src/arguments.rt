@@ -5,7 +5,7 @@ use console::byte_word;
 use console::short_word;
 use console::spaces;
 use log::Header;
-use reader::Request;
+use request::Request;
 
 pub enum Start {
     Of(Header),

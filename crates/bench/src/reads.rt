@@ -3,8 +3,8 @@ use crate::arguments::RequestWords;
 use crate::say;
 use console::BytesAnswer;
 use reader::Decoded;
-use reader::Request;
-use reader::RequestAnswer;
+use request::Request;
+use request::RequestAnswer;
 
 // The reply of a line whose words before it are so many: none where it ends there.
 pub fn reply_bytes(line: &[u8], before: usize, bytes: &mut [u8]) -> BytesAnswer {
@@ -33,7 +33,7 @@ pub fn request(line: &[u8]) {
 
 fn request_of(q: Request) {
     let mut frame = [0u8; 8];
-    let answer = reader::put_request(q, &mut frame);
+    let answer = request::put_request(q, &mut frame);
     say::first(answer.number());
     match answer {
         RequestAnswer::Done => say::hex(&frame),

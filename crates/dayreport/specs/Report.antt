@@ -5,7 +5,8 @@ use mathlib.Core.Bool.{cond}
 use mathlib.Core.List.{List, [], _∷_, _++_}
 use lib.Dec.{ltb, leb}
 use lib.ListN.{length, drop}
-use Rattle.log.specs.Header.{slotsOf, soundOf}
+use Rattle.slots.specs.Day.{slotsOf}
+use Rattle.log.specs.Header.{soundOf}
 use Rattle.log.specs.Image.{cellsFrom, allGood, goods}
 use Rattle.log.specs.declared.header.Header.{Header}
 use Rattle.log.specs.declared.header.Lent.{Lent}

@@ -55,7 +55,7 @@ fn report_in(log: &[u8], h: Header, day: u8, row: &mut [u32]) -> ReportAnswer
     if h.days <= day {
         return ReportAnswer::NotInLog;
     }
-    let slots = log::slots_of(h.minutes);
+    let slots = slots::slots_of(h.minutes);
     match crate::tallies::tally(log, (day as u16) * (slots as u16), slots) {
         Tallied::All(t) => {
             put_row(row, t);

@@ -10,11 +10,12 @@ use Rattle.words.specs.Number.{number, bytesOf}
 use Rattle.words.specs.Place.{numberAt, written}
 use Rattle.frame.specs.Sealing.{framed, crcFits}
 use Rattle.reader.specs.Form.{lengthFor, functionFor, headOf, formOf}
-use Rattle.reader.specs.Request.{requestFrame}
+use Rattle.request.specs.Request.{requestFrame}
 use Rattle.log.specs.Cell.{noCounts, kindBytes, cellBytes, kindCell, cellOf}
 use Rattle.log.specs.Fresh.{gaps, freshImage}
 use Rattle.log.specs.Header as log
-use Rattle.log.specs.Header.{isMinutes, slotsOf, cellsOf, daysRight, isHeader, dateBytes, headerBytes, headerAt, markRight, versionRight, fieldsRight, headerOf, fittedTo, soundOf}
+use Rattle.slots.specs.Day.{isMinutes, slotsOf}
+use Rattle.log.specs.Header.{cellsOf, daysRight, isHeader, dateBytes, headerBytes, headerAt, markRight, versionRight, fieldsRight, headerOf, fittedTo, soundOf}
 use Rattle.log.specs.Image.{cellStart, cellAt, putCell, cellsBytes, imageOf}
 use Rattle.log.specs.Interval.{intervalOf}
 use Rattle.logger.specs.Ask as Ask

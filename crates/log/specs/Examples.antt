@@ -6,7 +6,8 @@ use mathlib.Core.List.{[], _∷_}
 use Rattle.words.specs.Number.{bytesOf}
 use Rattle.calendar.specs.Count.{starts}
 use Rattle.calendar.specs.Date.{leap, monthLengths, daysInMonth, lengthOf, isDate, dayNumber}
-use Rattle.log.specs.Header.{isMinutes, daysRight, isHeader, dateBytes, headerBytes}
+use Rattle.slots.specs.Day.{isMinutes}
+use Rattle.log.specs.Header.{daysRight, isHeader, dateBytes, headerBytes}
 use Rattle.log.specs.declared.header.Header.{Header}
 
 -- "Log from 2024-05-17, 1 day, 30 minutes, Ke 100"

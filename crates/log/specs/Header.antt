@@ -1,11 +1,12 @@
 -- The header of a log. Source: document 01, "The reader and the log".
-use Prim.Native.Nat.{ℕ, _+_, _*_, _-_, _/_}
-use mathlib.Core.Bool.{Bool, cond, _&&_, _||_}
+use Prim.Native.Nat.{ℕ, _+_, _*_, _-_}
+use mathlib.Core.Bool.{Bool, cond, _&&_}
 use mathlib.Core.List.{List, [], _∷_, _++_}
 use lib.Dec.{ltb, leb, eqb}
 use lib.ListN.{length}
 use Rattle.words.specs.Number.{bytesOf}
 use Rattle.words.specs.Place.{byteAt, numberAt}
+use Rattle.slots.specs.Day.{isMinutes, slotsOf}
 use Rattle.calendar.specs.Date.{isDate, dayNumber, centuryDays}
 use Rattle.calendar.specs.declared.date.Date.{Date}
 use Rattle.log.specs.declared.header.Header.{Header}
@@ -13,14 +14,6 @@ use Rattle.log.specs.declared.header.HeaderAnswer.{HeaderAnswer}
 use Rattle.log.specs.declared.header.HeaderAnswer.the-variants.{Right, Wrong}
 use Rattle.log.specs.declared.header.Lent.{Lent}
 use Rattle.log.specs.declared.header.Lent.the-variants.{Sound, Unsound}
-
--- "an interval of 15 or 30 minutes"
-unfoldable pub isMinutes : ℕ → Bool
-isMinutes m = eqb m 15 || eqb m 30
-
--- "Every day has 48 or 96 slots": its 1440 minutes, an interval each
-unfoldable pub slotsOf : ℕ → ℕ
-slotsOf m = cond (isMinutes m) (1440 / m) 0
 
 -- the log's cells: the slots of all its days
 unfoldable pub cellsOf : Header → ℕ

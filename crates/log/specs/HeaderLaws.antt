@@ -3,51 +3,24 @@ use Prim.Native.Nat.{ℕ, _+_, _*_, _-_, _/_, _%_, _≤_, _<_}
 use native.Mathlib.Nat.{mul-le-mul}
 use native.Mathlib.Omega.{arith}
 use mathlib.Core.Path.{_≡_, refl, sym, ap, _∙_}
-use mathlib.Core.Bool.{Bool, true, false, cond, not, _&&_}
+use mathlib.Core.Bool.{Bool, true, false, cond, _&&_}
 use mathlib.Core.List.{List, _++_}
 use lib.Dec.{ltb, eqb}
 use lib.ListN.{length, take}
-use borrow.Author.Tests.{ltb-true, leb-true, eqb-true, eq-eqb, ne-eqb, not-true, not-false}
+use borrow.Author.Tests.{ltb-true, leb-true, eqb-true, eq-eqb}
 use Rattle.words.specs.Number.{number, bytesOf, Bytes}
 use Rattle.words.specs.Place.{byteAt, numberAt}
 use Rattle.decide.specs.Test.{both, chosen}
+use Rattle.slots.specs.Day.{isMinutes, slots-at-most}
 use Rattle.calendar.specs.Date.{isDate, dayNumber, dateOn, daysLater, dateOf, centuryDays}
 use Rattle.calendar.specs.declared.date.Date.{Date}
 use Rattle.calendar.specs.declared.date.DateAnswer.{DateAnswer}
 use Rattle.calendar.specs.declared.date.DateAnswer.the-variants.{On, NotADate, OutOfRange}
 use Rattle.log.specs.ByteLaws.{run, take-run, low, high, low-of, high-of}
-use Rattle.log.specs.Header.{isMinutes, slotsOf, cellsOf, lengthOf, daysRight, isHeader, dateBytes, headerBytes, headerAt, markRight, versionRight, fieldsRight, headerOf, fittedTo, soundOf}
+use Rattle.log.specs.Header.{cellsOf, lengthOf, daysRight, isHeader, dateBytes, headerBytes, headerAt, markRight, versionRight, fieldsRight, headerOf, fittedTo, soundOf}
 use Rattle.log.specs.declared.header.Header.{Header}
 use Rattle.log.specs.declared.header.HeaderAnswer.the-variants.{Right, Wrong}
 use Rattle.log.specs.declared.header.Lent.the-variants.{Sound, Unsound}
-
--- ---- slots
-
--- an interval that is none has no slots
-pub slots-or-none : (m : ℕ) → eqb (slotsOf m) 0 ≡ not (isMinutes m)
-unfolding slotsOf isMinutes
-slots-or-none m = go (eqb m 15) refl (eqb m 30) refl
-  where
-    go : (a : Bool) → eqb m 15 ≡ a → (b : Bool) → eqb m 30 ≡ b → eqb (slotsOf m) 0 ≡ not (isMinutes m)
-    go true e b f = rw (eqb-true m 15 e)
-    go false e true f = rw (eqb-true m 30 f)
-    go false e false f = rw (e, f)
-
--- the same of the number that a count of the slots found
-pub no-minutes : (m n : ℕ) → n ≡ slotsOf m → n ≡ 0 → isMinutes m ≡ false
-no-minutes m n p z = not-true (isMinutes m) (sym (slots-or-none m) ∙ eq-eqb (slotsOf m) 0 (sym p ∙ z))
-
-pub some-minutes : (m n : ℕ) → n ≡ slotsOf m → (n ≡ 0 → ⊥) → isMinutes m ≡ true
-some-minutes m n p z = not-false (isMinutes m) (sym (slots-or-none m) ∙ ne-eqb (slotsOf m) 0 (λ q. z (p ∙ q)))
-
-pub slots-at-most : (m : ℕ) → slotsOf m ≤ 96
-unfolding slotsOf isMinutes
-slots-at-most m = go (eqb m 15) refl (eqb m 30) refl
-  where
-    go : (a : Bool) → eqb m 15 ≡ a → (b : Bool) → eqb m 30 ≡ b → slotsOf m ≤ 96
-    go true e b f = rw (eqb-true m 15 e) (omega arith)
-    go false e true f = rw (eqb-true m 30 f) (omega arith)
-    go false e false f = rw (e, f) (omega arith)
 
 -- a header's bytes hold no more cells than this, right or not
 pub cells-at-most : (h : Header) → h .days < 256 → cellsOf h ≤ 24480

@@ -5,7 +5,7 @@ use lib.Dec.{ltb}
 use Rattle.calendar.specs.Date.{daysLater}
 use Rattle.calendar.specs.declared.date.DateAnswer.{DateAnswer}
 use Rattle.calendar.specs.declared.date.DateAnswer.the-variants as date
-use Rattle.log.specs.Header.{slotsOf}
+use Rattle.slots.specs.Day.{slotsOf}
 use Rattle.log.specs.declared.header.Header.{Header}
 use Rattle.log.specs.declared.interval.Interval.{Interval}
 use Rattle.log.specs.declared.interval.Interval.the-variants as interval

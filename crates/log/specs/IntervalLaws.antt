@@ -8,7 +8,8 @@ use lib.Arith.{digits-lt, digits-div, digits-mod}
 use borrow.Author.Tests.{ltb-true, lt-ltb}
 use Rattle.decide.specs.Test.{both, chosen}
 use Rattle.calendar.specs.Date.{dayNumber, dateOf, dateOn, daysLater, centuryDays}
-use Rattle.log.specs.Header.{slotsOf, cellsOf, isHeader}
+use Rattle.slots.specs.Day.{slotsOf}
+use Rattle.log.specs.Header.{cellsOf, isHeader}
 use Rattle.log.specs.HeaderLaws.{header-ranges}
 use Rattle.log.specs.Interval.{intervalOf, dayDate}
 use Rattle.log.specs.declared.header.Header.{Header}

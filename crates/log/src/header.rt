@@ -5,7 +5,7 @@ ghost use Prim.Native.Nat.{_+_};
 ghost use lib.Dec.{ltb};
 ghost use Rattle.words.specs.Place.{written};
 ghost use Rattle.calendar.specs.Date.{isDate, dayNumber, centuryDays};
-ghost use Rattle.log.specs.Header.{slotsOf, cellsOf, lengthOf, isHeader, headerBytes, headerAt, dateBytes, markRight, versionRight, headerOf, fittedTo, soundOf};
+ghost use Rattle.log.specs.Header.{cellsOf, lengthOf, isHeader, headerBytes, headerAt, dateBytes, markRight, versionRight, headerOf, fittedTo, soundOf};
 use crate::cell::CELL_BYTES;
 
 pub struct Header {
@@ -34,20 +34,10 @@ const MOST_DAYS: u8 = 62;
 
 const VERSION: u16 = 1;
 
-pub fn slots_of(minutes: u8) -> u8
-    ensures { λ r. ⌜ r ≡ slotsOf minutes ⌝ }
-{
-    match minutes {
-        15 => 96,
-        30 => 48,
-        _ => 0,
-    }
-}
-
 pub fn cells_of(h: Header) -> usize
     ensures { λ r. ⌜ r ≡ cellsOf h ⌝ }
 {
-    let slots = slots_of(h.minutes);
+    let slots = slots::slots_of(h.minutes);
     (h.days as usize) * (slots as usize)
 }
 
@@ -70,7 +60,7 @@ pub fn is_header(h: Header) -> bool
     if h.ke == 0 {
         return false;
     }
-    if slots_of(h.minutes) == 0 {
+    if slots::slots_of(h.minutes) == 0 {
         return false;
     }
     let start = h.start;

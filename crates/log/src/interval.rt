@@ -19,7 +19,7 @@ pub enum DayAnswer {
 pub fn interval_of(h: Header, day: u8, slot: u8) -> Interval
     ensures { λ r. ⌜ r ≡ intervalOf h day slot ⌝ }
 {
-    let slots = crate::header::slots_of(h.minutes);
+    let slots = slots::slots_of(h.minutes);
     if h.days <= day {
         return Interval::Outside;
     }

@@ -24,7 +24,6 @@ pub use header::header_of;
 pub use header::is_header;
 pub use header::length_of;
 pub use header::mark_right;
-pub use header::slots_of;
 pub use header::sound;
 pub use header::version_right;
 pub use header::write_header;

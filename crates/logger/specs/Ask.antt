@@ -7,10 +7,10 @@ use lib.Dec.{ltb}
 use lib.ListN.{length}
 use Rattle.words.specs.Place.{written}
 use Rattle.frame.specs.Code.{slice}
-use Rattle.reader.specs.Request.{requestFrame}
+use Rattle.request.specs.Request.{requestFrame}
 use Rattle.calendar.specs.Date.{dateOf, dayNumber}
 use Rattle.calendar.specs.declared.date.Date.{Date}
-use Rattle.reader.specs.declared.request.Request.{Request}
+use Rattle.request.specs.declared.request.Request.{Request}
 use Rattle.log.specs.Header.{soundOf}
 use Rattle.log.specs.Interval.{intervalOf}
 use Rattle.log.specs.declared.header.Header.{Header}

@@ -4,28 +4,31 @@ use mathlib.Core.Bool.{true}
 use mathlib.Core.List.{List}
 use Prim.Native.Nat.{ℕ, _+_, _≤_, _<_}
 use native.Mathlib.Omega.{arith}
-use borrow.Author.Tests.{le-leb, le-ltb}
+use borrow.Author.Tests.{le-leb, le-ltb, lt-ltb}
 use lib.ListN.{length}
 use Rattle.words.specs.Place.{written}
 use Rattle.calendar.specs.Date.{isDate, dayNumber, centuryDays}
 use Rattle.calendar.specs.DateLaws.{ranges, month-length, date-of}
 use Rattle.calendar.specs.declared.date.Date.{Date}
 use Rattle.frame.specs.Code.{parameterOf}
-use Rattle.reader.specs.Request.{requested, requestFrame, subjectOf, sliceOf, outcome}
-use Rattle.reader.specs.declared.request.RequestAnswer.the-variants.{Done}
-use Rattle.log.specs.Header.{isHeader, slotsOf}
-use Rattle.log.specs.HeaderLaws.{header-ranges, slots-at-most}
+use Rattle.slots.specs.Day.{slotsOf, slots-at-most}
+use Rattle.slots.specs.Key.{isLegal}
+use Rattle.request.specs.Subject.{subjectOf, subjectFor, sliceOf}
+use Rattle.request.specs.Request.{requested, requestFrame, outcome}
+use Rattle.request.specs.declared.request.RequestAnswer.the-variants.{Done}
+use Rattle.log.specs.Header.{isHeader}
+use Rattle.log.specs.HeaderLaws.{header-ranges}
 use Rattle.log.specs.declared.header.Header.{Header}
 use Rattle.logger.specs.Ask.{dateOfDay, sliceRequest, askFrame}
 
-pub slice-requested : (address : ℕ) (d : Date) (slot : ℕ) (out : List ℕ) → isDate d ≡ true → slot ≤ 95 → 8 ≤ length out
+pub slice-requested : (address : ℕ) (d : Date) (slot : ℕ) (out : List ℕ) → isDate d ≡ true → slot < 96 → 8 ≤ length out
     → requested (sliceRequest address d slot) out ≡ outcome Done (written out 0 (requestFrame (sliceRequest address d slot)))
-unfolding requested subjectOf parameterOf sliceOf
+unfolding requested subjectOf subjectFor parameterOf sliceOf isLegal
 slice-requested address d slot out e s l =
     let r = ranges d e in
     let m = month-length (d .year) (d .month) (record { year-below = r .year-below; month-from = r .month-from; month-to = r .month-to }) in
     let day-to : d .day ≤ 31 = omega (arith, r .day-to, m .at-most) in
-    simp (le-ltb _ _ l, le-leb _ _ (r .month-from), le-leb _ _ (r .month-to), le-leb _ _ (r .day-from), le-leb _ _ day-to, le-leb _ _ s)
+    simp (le-ltb _ _ l, le-leb _ _ (r .month-from), le-leb _ _ (r .month-to), le-leb _ _ (r .day-from), le-leb _ _ day-to, lt-ltb _ _ s)
 
 pub day-is-date : (h : Header) (day : ℕ) → isHeader h ≡ true → day < h .days → isDate (dateOfDay h day) ≡ true
 day-is-date h day e l =

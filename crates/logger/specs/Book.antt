@@ -11,7 +11,7 @@ use Rattle.frame.specs.Code.{slice}
 use Rattle.reader.specs.Form.{formOf}
 use Rattle.reader.specs.declared.form.Form.{Form}
 use Rattle.reader.specs.declared.form.Form.the-variants.{WellFormed, Faulty}
-use Rattle.log.specs.Header.{slotsOf}
+use Rattle.slots.specs.Day.{slotsOf}
 use Rattle.log.specs.Interval.{intervalOf}
 use Rattle.log.specs.declared.header.Header.{Header}
 use Rattle.log.specs.declared.interval.Interval.{Interval}

@@ -5,12 +5,13 @@ use log::DayAnswer;
 use log::Header;
 use log::Interval;
 use log::Lent;
-use reader::Request;
+use request::Request;
 ghost use mathlib.Core.Path.{_≡_};
 ghost use mathlib.Core.Bool.{true};
 ghost use Prim.Native.Nat.{_≤_, _<_};
 ghost use lib.ListN.{length};
-ghost use Rattle.log.specs.Header.{isHeader, slotsOf};
+ghost use Rattle.slots.specs.Day.{slotsOf};
+ghost use Rattle.log.specs.Header.{isHeader};
 ghost use Rattle.words.specs.Place.{written};
 ghost use Rattle.logger.specs.Ask.{outcome, asked, askedOf, askedSlot, askFrame, numberOf};
 
@@ -114,7 +115,7 @@ fn put_slot(h: Header, address: u8, day: u8, slot: u8, out: &mut [u8])
                 tariff: date.day,
                 detail: slot,
             };
-            reader::put_request(q, out);
+            request::put_request(q, out);
         }
         DayAnswer::Outside => {}
     }

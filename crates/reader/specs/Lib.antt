@@ -1,4 +1,3 @@
 pub mod Form
 pub mod Reply
-pub mod Request
 pub mod Rows

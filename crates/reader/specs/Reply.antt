@@ -5,6 +5,10 @@ use mathlib.Core.List.{List}
 use Prim.Native.Nat.{ℕ, _+_}
 use lib.Dec.{eqb}
 use Rattle.words.specs.Place.{byteAt, numberAt}
+use Rattle.request.specs.Subject.{subjectOf, askable, dataBytes, mostSlots}
+use Rattle.request.specs.declared.request.Request.{Request}
+use Rattle.request.specs.declared.subject.Subject.{Subject}
+use Rattle.request.specs.declared.subject.Subject.the-variants as subject
 use Rattle.figures.specs.Clock.{dateTimeOf}
 use Rattle.figures.specs.Mask.{maskOf}
 use Rattle.figures.specs.Power.{powerOf, powersOf}
@@ -14,16 +18,12 @@ use Rattle.figures.specs.declared.power.Power.the-variants as power
 use Rattle.figures.specs.declared.power.PowersAnswer.{PowersAnswer}
 use Rattle.figures.specs.declared.power.PowersAnswer.the-variants as powers
 use Rattle.reader.specs.Form.{formOf}
-use Rattle.reader.specs.Request.{subjectOf, askable, dataBytes}
 use Rattle.reader.specs.Rows.{replyData}
 use Rattle.reader.specs.declared.form.Form.{Form}
 use Rattle.reader.specs.declared.form.Form.the-variants.{WellFormed, Faulty}
 use Rattle.reader.specs.declared.reply.Decoded.{Decoded}
 use Rattle.reader.specs.declared.reply.Decoded.the-variants.{OutOfRange, Malformed, MeterRefused, NotFinite, Address, Telemetry, DateTime, DisplayMask, Powers, OnePower, Slice, SixSlices}
 use Rattle.reader.specs.declared.reply.Slice.{Slice as FourCounts}
-use Rattle.reader.specs.declared.request.Request.{Request}
-use Rattle.reader.specs.declared.request.Subject.{Subject}
-use Rattle.reader.specs.declared.request.Subject.the-variants as subject
 
 -- "E+, E-, R+, R-, 2 bytes each"
 unfoldable pub countsOf : List ℕ → FourCounts
@@ -70,7 +70,7 @@ formed (Faulty fault) s y = Malformed fault
 unfoldable pub decodedOf : Request → List ℕ → Decoded
 unfolding formed
 decodedOf q y =
-    let s = subjectOf q in
+    let s = subjectOf q mostSlots in
     cond (askable s) (formed (formOf (q .address) (q .parameter) (6 + dataBytes s) y) s y) OutOfRange
 
 -- document 01's numbers

@@ -2,11 +2,6 @@
 use crate::form::Fault;
 use crate::form::Form;
 use crate::form::form_of;
-use crate::request::Request;
-use crate::request::Subject;
-use crate::request::data_bytes;
-use crate::request::is_askable;
-use crate::request::subject_of;
 use calendar::DateTime;
 use energy::Counts;
 use figures::DisplayMask;
@@ -15,6 +10,8 @@ use figures::Powers;
 use figures::PowersAnswer;
 use figures::Telemetry;
 use frame::code;
+use request::Request;
+use request::Subject;
 ghost use mathlib.Core.Path.{_≡_};
 ghost use Rattle.reader.specs.Reply.{countsOf, powersFigure, powerFigure, figuresOf, repliedOf, decodedOf, numberOf};
 
@@ -76,9 +73,9 @@ const BARE_BYTES: usize = 6;
 pub fn decode(q: Request, reply: &[u8]) -> Decoded
     ensures { λ r. ⌜ r ≡ decodedOf q (now (reply .entry)) ⌝ }
 {
-    let subject = subject_of(q);
-    if is_askable(subject) {
-        let full = BARE_BYTES + data_bytes(subject);
+    let subject = request::subject_of(q, request::MOST_SLOTS);
+    if request::is_askable(subject) {
+        let full = BARE_BYTES + request::data_bytes(subject);
         match form_of(q.address, q.parameter, full, reply) {
             Form::WellFormed => replied(subject, reply),
             Form::Faulty(fault) => Decoded::Malformed(fault),

@@ -2,8 +2,8 @@
 // stdout was made by a separate program from the papers, and not by this code.
 use libc::STDOUT_FILENO;
 use reader::Decoded;
-use reader::Request;
-use reader::RequestAnswer;
+use request::Request;
+use request::RequestAnswer;
 
 fn main() {
     // Document 01, P4.
@@ -124,7 +124,7 @@ fn ask(q: Request) {
     fields(q);
     say(b": ");
     let mut out = [0u8; 8];
-    let answer = reader::put_request(q, &mut out);
+    let answer = request::put_request(q, &mut out);
     io::print_decimal(STDOUT_FILENO, answer.number() as u64);
     match answer {
         RequestAnswer::Done => hex_after_space(&out),

@@ -6,7 +6,8 @@ use mathlib.Core.Bool.{true}
 use mathlib.Core.List.{List, [], append-nil}
 use lib.ListN.{length, take, drop}
 use Rattle.calendar.specs.Date.{dayNumber, dateOf}
-use Rattle.log.specs.Header.{slotsOf, cellsOf, isHeader}
+use Rattle.slots.specs.Day.{slotsOf}
+use Rattle.log.specs.Header.{cellsOf, isHeader}
 use Rattle.log.specs.Image.{imageOf}
 use Rattle.log.specs.ImageLaws.{AllCells, sound-image}
 use Rattle.log.specs.IntervalLaws.{day-on}

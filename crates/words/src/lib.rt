@@ -38,6 +38,18 @@ pub fn u32_at(s: &[u8], at: usize) -> u32
     }
 }
 
+pub fn u64_at(s: &[u8], at: usize) -> u64
+    ensures { λ r. ⌜ r ≡ numberAt (now (s .entry)) at 8 ⌝ }
+{
+    if at < s.len() {
+        let low = u32_at(s, at);
+        let high = u32_at(s, at + 4);
+        (high as u64) * 4294967296 + (low as u64)
+    } else {
+        0
+    }
+}
+
 // The part of a slice from a place on: nothing where that lies past the end.
 pub fn tail(s: &[u8], at: usize) -> &[u8]
     ensures { λ r. ⌜ now r ≡ drop at (now (s .entry)) ⌝ }
@@ -71,6 +83,15 @@ pub fn put_u32(out: &mut [u8], at: usize, n: u32)
     if at < out.len() {
         put_u16(out, at, (n % 65536) as u16);
         put_u16(out, at + 2, (n / 65536) as u16);
+    }
+}
+
+pub fn put_u64(out: &mut [u8], at: usize, n: u64)
+    ensures { λ _. ⌜ now (out .exit) ≡ written (now (out .entry)) at (bytesOf 8 n) ⌝ }
+{
+    if at < out.len() {
+        put_u32(out, at, (n % 4294967296) as u32);
+        put_u32(out, at + 4, (n / 4294967296) as u32);
     }
 }
 

@@ -1,6 +1,6 @@
 use native.Mathlib.Omega.{arith}
 use mathlib.Core.Bool.{and-true}
-use Rattle.log.specs.HeaderLaws.{no-minutes, some-minutes}
+use Rattle.slots.specs.Day.{no-minutes, some-minutes}
 use Rattle.log.specs.Header.{isHeader, daysRight}
 use mathlib.Core.Bool.{and-false}
 use mathlib.Core.Path.{_∙_}

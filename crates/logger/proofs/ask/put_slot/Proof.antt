@@ -1,6 +1,6 @@
 use Rattle.logger.specs.AskLaws.{ask-made}
 use Rattle.logger.specs.Ask.{dateOfDay, sliceRequest}
-use Rattle.reader.specs.Request.{Outcome, requested}
+use Rattle.request.specs.Request.{Outcome, requested}
 use Rattle.log.specs.declared.interval.DayAnswer.the-variants.{On, Outside}
 use Rattle.log.specs.IntervalLaws.{day-on}
 use Rattle.calendar.specs.declared.date.Date.{Date}

@@ -1,5 +1,5 @@
 use Rattle.reader.specs.Reply.{decodedOf}
-use Rattle.reader.specs.Request.{dataBytes-small}
+use Rattle.request.specs.RequestLaws.{dataBytes-small}
 use native.Mathlib.Omega.{arith}
 use mathlib.Core.Path.{sym, ap, _∙_}
 use borrow.Author.Needs.{needs}

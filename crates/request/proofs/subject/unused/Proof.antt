@@ -1,7 +1,7 @@
-use Rattle.reader.specs.Request.{unusedOf}
+use Rattle.request.specs.Subject.{unusedOf}
 use borrow.Author.Tests.{eq-eqb, ne-eqb}
-use Rattle.reader.proofs.request.unused.Statement.{statement}
-use Rattle.reader.proofs.request.unused.Tie as tie
+use Rattle.request.proofs.subject.unused.Statement.{statement}
+use Rattle.request.proofs.subject.unused.Tie as tie
 
 returns : tie.Need-returns
 unfolding unusedOf

@@ -1,8 +1,8 @@
-use Rattle.reader.specs.Request.{subjectOf}
 use mathlib.Core.Path.{sym, _∙_}
+use Rattle.request.specs.Subject.{subjectOf, subjectFor}
 use borrow.Author.Needs.{needs}
-use Rattle.reader.proofs.request.subject_of.Statement.{statement}
-use Rattle.reader.proofs.request.subject_of.Tie as tie
+use Rattle.request.proofs.subject.subject_of.Statement.{statement}
+use Rattle.request.proofs.subject.subject_of.Tie as tie
 
 parameter-of-requires : tie.Need-parameter-of-requires
 parameter-of-requires c κs = search needs
@@ -67,6 +67,9 @@ enum-told-10 c = search needs
 enum-told-11 : tie.Need-enum-told-11
 enum-told-11 c = search needs
 
+with-five-after-requires : tie.Need-with-five-after-requires
+with-five-after-requires c κs = search needs
+
 slice-requires-2 : tie.Need-slice-requires-2
 slice-requires-2 c κs = search needs
 
@@ -74,51 +77,51 @@ enum-told-12 : tie.Need-enum-told-12
 enum-told-12 c = search needs
 
 returns : tie.Need-returns
-unfolding subjectOf
+unfolding subjectOf subjectFor
 returns c = simp (sym (c .before .before .before .parameter-of .ensures) ∙ c .before .enum-told .given .1, c .power .ensures)
 
 returns-2 : tie.Need-returns-2
-unfolding subjectOf
+unfolding subjectOf subjectFor
 returns-2 c = simp (sym (c .before .before .before .parameter-of .ensures) ∙ c .before .enum-told2 .given .1, c .power2 .ensures)
 
 returns-3 : tie.Need-returns-3
-unfolding subjectOf
+unfolding subjectOf subjectFor
 returns-3 c = simp (sym (c .before .before .before .parameter-of .ensures) ∙ c .before .enum-told3 .given .1, c .unused .ensures)
 
 returns-4 : tie.Need-returns-4
-unfolding subjectOf
+unfolding subjectOf subjectFor
 returns-4 c = simp (sym (c .before .before .before .parameter-of .ensures) ∙ c .before .enum-told4 .given .1, c .unused2 .ensures)
 
 returns-5 : tie.Need-returns-5
-unfolding subjectOf
+unfolding subjectOf subjectFor
 returns-5 c = simp (sym (c .before .before .before .parameter-of .ensures) ∙ c .before .enum-told5 .given .1, c .unused3 .ensures)
 
 returns-6 : tie.Need-returns-6
-unfolding subjectOf
+unfolding subjectOf subjectFor
 returns-6 c = simp (sym (c .before .before .before .parameter-of .ensures) ∙ c .before .enum-told6 .given .1, c .unused4 .ensures)
 
 returns-7 : tie.Need-returns-7
-unfolding subjectOf
+unfolding subjectOf subjectFor
 returns-7 c = simp (sym (c .before .before .before .parameter-of .ensures) ∙ c .before .enum-told7 .given .1, c .unused5 .ensures)
 
 returns-8 : tie.Need-returns-8
-unfolding subjectOf
+unfolding subjectOf subjectFor
 returns-8 c = simp (sym (c .before .before .before .parameter-of .ensures) ∙ c .before .enum-told8 .given .1, c .unused6 .ensures)
 
 returns-9 : tie.Need-returns-9
-unfolding subjectOf
+unfolding subjectOf subjectFor
 returns-9 c = simp (sym (c .before .before .before .parameter-of .ensures) ∙ c .before .enum-told9 .given .1, c .slice .ensures)
 
 returns-10 : tie.Need-returns-10
-unfolding subjectOf
+unfolding subjectOf subjectFor
 returns-10 c = simp (sym (c .before .before .parameter-of .ensures) ∙ c .enum-told10 .given .1)
 
 returns-11 : tie.Need-returns-11
-unfolding subjectOf
-returns-11 c = simp (sym (c .before .before .before .parameter-of .ensures) ∙ c .before .enum-told11 .given .1, c .slice2 .ensures)
+unfolding subjectOf subjectFor
+returns-11 c = simp (sym (c .before .before .before .before .parameter-of .ensures) ∙ c .before .before .enum-told11 .given .1, c .slice2 .ensures, c .before .with-five-after .ensures)
 
 returns-12 : tie.Need-returns-12
-unfolding subjectOf
+unfolding subjectOf subjectFor
 returns-12 c = simp (sym (c .before .before .parameter-of .ensures) ∙ c .enum-told12 .given .1)
 
 pub subject-of-spec : {M : Type 1} → statement M
@@ -146,6 +149,7 @@ subject-of-spec =
     slice-requires
     enum-told-10
     enum-told-11
+    with-five-after-requires
     slice-requires-2
     enum-told-12
     returns

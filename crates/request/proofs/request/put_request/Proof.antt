@@ -1,16 +1,16 @@
-use Rattle.reader.specs.declared.request.RequestAnswer.the-variants.{Done}
+use Rattle.request.specs.declared.request.RequestAnswer.the-variants.{Done}
 use Rattle.words.specs.Place.{written}
-use mathlib.Core.Path.{_≡_}
-use Rattle.reader.specs.Request.{requested, requestFrame, outcome, askable}
+use Rattle.request.specs.Request.{requested, requestFrame, outcome}
+use Rattle.request.specs.Subject.{askable}
 use Rattle.frame.specs.Sealing.{sealed, sealed-written}
 use borrow.Author.Tests.{lt-ltb, le-ltb}
 use native.Mathlib.Omega.{arith}
 use Prim.Native.Nat.{ℕ}
 use mathlib.Core.List.{List, [], _∷_}
-use mathlib.Core.Path.{sym, ap, _∙_}
+use mathlib.Core.Path.{_≡_, sym, ap, _∙_}
 use borrow.Author.Needs.{needs}
-use Rattle.reader.proofs.request.put_request.Statement.{statement}
-use Rattle.reader.proofs.request.put_request.Tie as tie
+use Rattle.request.proofs.request.put_request.Statement.{statement}
+use Rattle.request.proofs.request.put_request.Tie as tie
 
 returns : tie.Need-returns
 unfolding requested requestFrame

@@ -1,7 +1,7 @@
-use Rattle.reader.specs.Request.{powerOf}
+use Rattle.request.specs.Subject.{powerOf}
 use borrow.Author.Tests.{eq-eqb, ne-eqb, le-leb, lt-leb}
-use Rattle.reader.proofs.request.power.Statement.{statement}
-use Rattle.reader.proofs.request.power.Tie as tie
+use Rattle.request.proofs.subject.power.Statement.{statement}
+use Rattle.request.proofs.subject.power.Tie as tie
 
 returns : tie.Need-returns
 unfolding powerOf

@@ -1,0 +1,39 @@
+-- Read requests and their frames. Source: document 01, "Frames": "Read: function 3, then parameter, offset, tariff, detail: 8 bytes in
+-- all"; "The reader and the log": 27 is "a request that no record would answer with 0".
+use mathlib.Core.Bool.{cond}
+use mathlib.Core.List.{List, [], _∷_}
+use Prim.Native.Nat.{ℕ}
+use lib.Dec.{ltb}
+use lib.ListN.{length}
+use Rattle.words.specs.Place.{written}
+use Rattle.frame.specs.Sealing.{framed}
+use Rattle.frame.specs.Code.{read}
+use Rattle.request.specs.Subject.{subjectOf, askable, mostSlots}
+use Rattle.request.specs.declared.request.Request.{Request}
+use Rattle.request.specs.declared.request.RequestAnswer.{RequestAnswer}
+use Rattle.request.specs.declared.request.RequestAnswer.the-variants.{Done, TooShort, OutOfRange}
+
+-- the request's frame
+unfoldable pub requestFrame : Request → List ℕ
+requestFrame q = framed (q .address ∷ read ∷ q .parameter ∷ q .offset ∷ q .tariff ∷ q .detail ∷ [])
+
+-- an answer and what the lent output then holds
+pub record Outcome : Type 0 where
+  pub answer : RequestAnswer
+  pub bytes : List ℕ
+
+abbrev pub outcome : RequestAnswer → List ℕ → Outcome
+outcome a s = record { answer = a; bytes = s }
+
+-- making a request: 1, then 27, by the table's order
+unfoldable pub requested : Request → List ℕ → Outcome
+unfolding subjectOf requestFrame
+requested q s =
+    cond (ltb (length s) 8) (outcome TooShort s)
+    (cond (askable (subjectOf q mostSlots)) (outcome Done (written s 0 (requestFrame q))) (outcome OutOfRange s))
+
+-- document 01's numbers
+abbrev pub numberOf : RequestAnswer → ℕ
+numberOf Done = 0
+numberOf TooShort = 1
+numberOf OutOfRange = 27
