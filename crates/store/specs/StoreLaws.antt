@@ -1,0 +1,174 @@
+-- What follows from the definition of the store: what a walk over the places finds, what is read after a put, there and elsewhere, and
+-- what a clear leaves.
+use Prim.Native.Nat.{ℕ, zero, suc, _+_, _*_, _/_, _%_, _≤_, _<_}
+use native.Mathlib.Nat.{add-zero, not-suc-le-zero, zero-add}
+use native.Mathlib.Numerals.{add-one}
+use native.Mathlib.Omega.{arith}
+use mathlib.Core.Path.{_≡_, refl, sym, ap, ap₂, _∙_}
+use mathlib.Core.Bool.{Bool, true, false, cond, _&&_, false≢true, and-true, and-false}
+use mathlib.Core.List.{List, [], _∷_, _++_, append-nil}
+use mathlib.Core.Logic.{inl, inr}
+use lib.Dec.{eqb, ltb}
+use lib.ListN.{length, getD, take, drop, set, replicate, length-replicate, getD-replicate, List·getD-eq-default, replicate-append-replicate, drop-of-length-le}
+use lib.Seq.{drop-cons, drop-drop, take-take, set-at, append-snoc}
+use borrow.Author.Tests.{ltb-true, ltb-false, lt-ltb, le-ltb, eqb-true, eqb-false, eq-eqb, ne-eqb}
+use Rattle.words.specs.Number.{number, bytesOf}
+use Rattle.words.specs.Place.{byteAt, numberAt, written, written-append, length-written, take-drop, part-written, byteAt-kept, byteAt-written, numberAt-kept}
+use Rattle.slots.specs.declared.key.Key.{Key}
+use Rattle.store.specs.Store.{places, storeBytes, keyAt, sameKey, firstFrom, placeOf, isKept, rowAt, zeroRow, sliceOf, countAt, rowBytes, placeBytesOf, putPlace, putStore, putNext, cleared}
+
+-- ---- where two parts of a key agree, the third decides
+
+pub month-decides : (a b : Key) → a .day ≡ b .day → a .number ≡ b .number → eqb (a .month) (b .month) ≡ sameKey a b
+unfolding sameKey
+month-decides a b d n = simp (eq-eqb (a .day) (b .day) d, eq-eqb (a .number) (b .number) n, and-true)
+
+pub number-decides : (a b : Key) → a .month ≡ b .month → a .day ≡ b .day → eqb (a .number) (b .number) ≡ sameKey a b
+unfolding sameKey
+number-decides a b m d = simp (eq-eqb (a .month) (b .month) m, eq-eqb (a .day) (b .day) d)
+
+-- ---- the walk over the places
+
+pub first-hit : (s : List ℕ) (k : Key) (i n : ℕ) → sameKey (keyAt s i) k ≡ true → firstFrom s k i (suc n) ≡ i
+unfolding firstFrom
+first-hit s k i n e = simp e
+
+pub first-miss : (s : List ℕ) (k : Key) (i n : ℕ) → sameKey (keyAt s i) k ≡ false → firstFrom s k i (suc n) ≡ firstFrom s k (suc i) n
+unfolding firstFrom
+first-miss s k i n e = simp e
+
+pub first-end : (s : List ℕ) (k : Key) (i : ℕ) → firstFrom s k i 0 ≡ i
+unfolding firstFrom
+first-end s k i = refl
+
+-- what stands at the place that the walk found
+pub first-has : (s : List ℕ) (k : Key) (i n : ℕ) → firstFrom s k i n < i + n → sameKey (keyAt s (firstFrom s k i n)) k ≡ true
+first-has s k i zero h = let z : _≡_ {A = ℕ} 0 1 = omega (arith, first-end s k i) in absurd (omega arith)
+first-has s k i (suc n) h = go (sameKey (keyAt s i) k) refl (first-has s k (suc i) n)
+  where
+    go : (b : Bool) → sameKey (keyAt s i) k ≡ b → (firstFrom s k (suc i) n < suc i + n → sameKey (keyAt s (firstFrom s k (suc i) n)) k ≡ true)
+        → sameKey (keyAt s (firstFrom s k i (suc n))) k ≡ true
+    go true e on = rw (first-hit s k i n e) e
+    go false e on = rw (first-miss s k i n e) (on (omega (arith, first-miss s k i n e)))
+
+-- no place before it has the key
+pub first-before : (s : List ℕ) (k : Key) (i n j : ℕ) → i ≤ j → j < firstFrom s k i n → sameKey (keyAt s j) k ≡ false
+first-before s k i zero j l h = let z : _≡_ {A = ℕ} 0 1 = omega (arith, first-end s k i) in absurd (omega arith)
+first-before s k i (suc n) j l h = go (sameKey (keyAt s i) k) refl (eqb i j) refl (first-before s k (suc i) n j)
+  where
+    go : (b : Bool) → sameKey (keyAt s i) k ≡ b → (d : Bool) → eqb i j ≡ d
+        → (suc i ≤ j → j < firstFrom s k (suc i) n → sameKey (keyAt s j) k ≡ false) → sameKey (keyAt s j) k ≡ false
+    go true e d q on = let z : _≡_ {A = ℕ} 0 1 = omega (arith, first-hit s k i n e) in absurd (omega arith)
+    go false e true q on = rw (← eqb-true i j q) e
+    go false e false q on =
+        let d = eqb-false i j q in
+        let b : suc i ≤ j = omega (arith, d) in
+        on b (omega (arith, first-miss s k i n e))
+
+-- ---- bytes put one behind the other
+
+pub onward : (s t u : List ℕ) (i j : ℕ) (xs ys : List ℕ) → t ≡ written s i xs → u ≡ written t j ys → i + length xs ≡ j → u ≡ written s i (xs ++ ys)
+onward s t u i j xs ys p q e = q ∙ ap₂ (λ (x : List ℕ) (k : ℕ). written x k ys) p (sym e) ∙ sym (written-append s i xs ys)
+
+-- ---- a clear, byte by byte
+
+pub clear-one : (s t : List ℕ) (i : ℕ) → i < length s → t ≡ replicate i 0 ++ drop i s → set t i 0 ≡ replicate (i + 1) 0 ++ drop (i + 1) s
+clear-one s t i h e =
+    ap (λ (l : List ℕ). set l i 0) (e ∙ ap (λ (l : List ℕ). replicate i 0 ++ l) (drop-cons s i 0 h))
+    ∙ set-at (replicate i 0) (getD s i 0) (drop (suc i) s) 0 i (length-replicate i 0)
+    ∙ sym (append-snoc (replicate i 0) 0 (drop (suc i) s))
+    ∙ ap₂ (λ (x : List ℕ) (m : ℕ). x ++ drop m s) (replicate-append-replicate i 1 0) (sym (add-one i))
+
+pub clear-all : (s t : List ℕ) (i : ℕ) → length s ≤ i → i ≤ length s → t ≡ replicate i 0 ++ drop i s → t ≡ cleared s
+unfolding cleared
+clear-all s t i h l e =
+    let q : i ≡ length s = omega arith in
+    e ∙ ap₂ (λ (x y : List ℕ). x ++ y) (ap (λ (n : ℕ). replicate n 0) q) (drop-of-length-le s h) ∙ append-nil (replicate (length s) 0)
+
+-- ---- what a put and a clear keep
+
+pub length-put : (s : List ℕ) (next : ℕ) (k : Key) (row : List ℕ) → length (putStore s next k row) ≡ length s
+unfolding putStore
+length-put s next k row = length-written s (11 * putPlace s next k) (placeBytesOf k row)
+
+pub length-cleared : (s : List ℕ) → length (cleared s) ≡ length s
+unfolding cleared
+length-cleared s = length-replicate (length s) 0
+
+-- ---- where a slice is put
+
+-- a place that was put to lies in the store, and so does the next one
+pub put-in-range : (s : List ℕ) (next : ℕ) (k : Key) → next < places → putPlace s next k < places
+unfolding putPlace isKept
+put-in-range s next k h = go (ltb (placeOf s k) places) refl
+  where
+    go : (b : Bool) → ltb (placeOf s k) places ≡ b → cond b (placeOf s k) next < places
+    go true e = ltb-true (placeOf s k) places e
+    go false e = h
+
+pub next-in-range : (s : List ℕ) (next : ℕ) (k : Key) → next < places → putNext s next k < places
+unfolding putNext
+next-in-range s next k h = go (isKept s k) (ltb (next + 1) places) refl
+  where
+    go : (b t : Bool) → ltb (next + 1) places ≡ t → cond b next (cond t (next + 1) 0) < places
+    go true t e = h
+    go false true e = ltb-true (next + 1) places e
+    go false false e = omega arith
+
+-- no place before the one that is put to has the key
+put-before : (s : List ℕ) (next : ℕ) (k : Key) (j : ℕ) → next < places → j < putPlace s next k → sameKey (keyAt s j) k ≡ false
+unfolding putPlace isKept placeOf
+put-before s next k j n h = go (ltb (firstFrom s k 0 places) places) refl h
+  where
+    go : (b : Bool) → ltb (firstFrom s k 0 places) places ≡ b → j < cond b (firstFrom s k 0 places) next → sameKey (keyAt s j) k ≡ false
+    go true e l = first-before s k 0 places j (omega arith) l
+    go false e l = first-before s k 0 places j (omega arith) (omega (arith, ltb-false (firstFrom s k 0 places) places e))
+
+-- ---- what stands at a place after a put
+
+-- the number of n bytes that stand behind the first j of those that were written
+numberAt-written-behind : (s : List ℕ) (i : ℕ) (bs : List ℕ) (j n : ℕ) → j + n ≤ length bs → i + length bs ≤ length s
+    → numberAt (written s i bs) (i + j) n ≡ numberAt bs j n
+unfolding numberAt
+numberAt-written-behind s i bs j n h l =
+    let t = written s i bs in
+    ap number
+    (ap (take n) (sym (drop-drop j i t))
+    ∙ take-drop j n (drop i t)
+    ∙ ap (drop j) (sym (take-take (j + n) (length bs) (drop i t) h) ∙ ap (take (j + n)) (part-written s i bs l))
+    ∙ sym (take-drop j n bs))
+
+-- a row of four counts that fit two bytes each
+pub record RowFits (row : List ℕ) : Type 0 where
+  pub four : length row ≡ 4
+  pub below : (i : ℕ) → countAt row i < 65536
+
+length-placeBytesOf : (k : Key) (row : List ℕ) → length (placeBytesOf k row) ≡ 11
+unfolding placeBytesOf rowBytes bytesOf
+length-placeBytesOf k row = refl
+
+low-high : (n : ℕ) → n < 65536 → (0 * 256 + n / 256 % 256) * 256 + n % 256 ≡ n
+low-high n h = omega arith
+
+four-listed : (row : List ℕ) → length row ≡ 4 → countAt row 0 ∷ countAt row 1 ∷ countAt row 2 ∷ countAt row 3 ∷ [] ≡ row
+four-listed (a ∷ b ∷ c ∷ d ∷ []) h = refl
+
+-- the counts that stand in the bytes of a place are those that were put there
+counts-back : (k : Key) (row : List ℕ) → RowFits row
+    → numberAt (placeBytesOf k row) 3 2 ∷ numberAt (placeBytesOf k row) 5 2 ∷ numberAt (placeBytesOf k row) 7 2 ∷ numberAt (placeBytesOf k row) 9 2 ∷ [] ≡ row
+unfolding placeBytesOf rowBytes bytesOf numberAt number
+counts-back k row f =
+    simp (low-high (countAt row 0) (f .below 0), low-high (countAt row 1) (f .below 1), low-high (countAt row 2) (f .below 2), low-high (countAt row 3) (f .below 3))
+    (four-listed row (f .four))
+
+module _ (s : List ℕ) (k : Key) (row : List ℕ) (p : ℕ) (l : length s ≡ storeBytes) (h : p < places) where
+  there : 11 * p + length (placeBytesOf k row) ≤ length s
+  there = rw length-placeBytesOf (omega arith)
+
+  key-there : keyAt (written s (11 * p) (placeBytesOf k row)) p ≡ k
+  unfolding keyAt placeBytesOf
+  key-there = ?
+
+  row-there : RowFits row → rowAt (written s (11 * p) (placeBytesOf k row)) p ≡ row
+  unfolding rowAt
+  row-there f = ?
