@@ -13,7 +13,7 @@ use lib.ListN.{length, getD, take, drop, set, replicate, length-replicate, getD-
 use lib.Seq.{drop-cons, drop-drop, take-take, set-at, append-snoc}
 use borrow.Author.Tests.{ltb-true, ltb-false, lt-ltb, le-ltb, eqb-true, eqb-false, eq-eqb, ne-eqb}
 use Rattle.words.specs.Number.{number, bytesOf}
-use Rattle.words.specs.Place.{byteAt, numberAt, written, written-append, length-written, take-drop, part-written, byteAt-kept, byteAt-written, numberAt-kept}
+use Rattle.words.specs.Place.{byteAt, numberAt, written, Apart, written-append, length-written, take-drop, part-written, byteAt-kept, byteAt-written, numberAt-kept}
 use Rattle.slots.specs.declared.key.Key.{Key}
 use Rattle.store.specs.Store.{places, storeBytes, keyAt, sameKey, firstFrom, placeOf, isKept, rowAt, zeroRow, sliceOf, countAt, rowBytes, placeBytesOf, putPlace, putStore, putNext, cleared}
 
@@ -26,6 +26,10 @@ month-decides a b d n = simp (eq-eqb (a .day) (b .day) d, eq-eqb (a .number) (b 
 pub number-decides : (a b : Key) → a .month ≡ b .month → a .day ≡ b .day → eqb (a .number) (b .number) ≡ sameKey a b
 unfolding sameKey
 number-decides a b m d = simp (eq-eqb (a .month) (b .month) m, eq-eqb (a .day) (b .day) d)
+
+pub same-self : (k : Key) → sameKey k k ≡ true
+unfolding sameKey
+same-self k = simp (eq-eqb (k .month) (k .month) refl, eq-eqb (k .day) (k .day) refl, eq-eqb (k .number) (k .number) refl)
 
 -- ---- the walk over the places
 
@@ -64,6 +68,34 @@ first-before s k i (suc n) j l h = go (sameKey (keyAt s i) k) refl (eqb i j) ref
         let d = eqb-false i j q in
         let b : suc i ≤ j = omega (arith, d) in
         on b (omega (arith, first-miss s k i n e))
+
+-- the first place that has the key is the one that the walk finds
+first-is : (s : List ℕ) (k : Key) (i n p : ℕ) → i ≤ p → p < i + n → ((j : ℕ) → j < p → sameKey (keyAt s j) k ≡ false)
+    → sameKey (keyAt s p) k ≡ true → firstFrom s k i n ≡ p
+first-is s k i zero p l h before hit = let z : _≡_ {A = ℕ} 0 1 = omega arith in absurd (omega arith)
+first-is s k i (suc n) p l h before hit = go (eqb i p) refl (λ m. first-is s k (suc i) n p m (omega arith) before hit)
+  where
+    go : (b : Bool) → eqb i p ≡ b → (suc i ≤ p → firstFrom s k (suc i) n ≡ p) → firstFrom s k i (suc n) ≡ p
+    go true q on = rw (eqb-true i p q) (first-hit s k p n hit)
+    go false q on =
+        let d = eqb-false i p q in
+        let m : suc i ≤ p = omega (arith, d) in
+        first-miss s k i n (before i m) ∙ on m
+
+-- where no place has the key, it ends behind them
+first-none : (s : List ℕ) (k : Key) (i n : ℕ) → ((j : ℕ) → j < i + n → sameKey (keyAt s j) k ≡ false) → firstFrom s k i n ≡ i + n
+first-none s k i zero none = first-end s k i ∙ sym (add-zero i)
+first-none s k i (suc n) none =
+    let e : suc i + n ≡ i + suc n = omega arith in
+    first-miss s k i n (none i (omega arith)) ∙ first-none s k (suc i) n (λ j b. none j (omega arith)) ∙ e
+
+-- it sees no more of a store than which places have the key
+first-same : (s t : List ℕ) (k : Key) (i n : ℕ) → ((j : ℕ) → j < i + n → sameKey (keyAt t j) k ≡ sameKey (keyAt s j) k)
+    → firstFrom t k i n ≡ firstFrom s k i n
+unfolding firstFrom
+first-same s t k i zero same = refl
+first-same s t k i (suc n) same =
+    ap₂ (λ (b : Bool) (r : ℕ). cond b i r) (same i (omega arith)) (first-same s t k (suc i) n (λ j b. same j (omega arith)))
 
 -- ---- bytes put one behind the other
 
@@ -151,7 +183,10 @@ low-high : (n : ℕ) → n < 65536 → (0 * 256 + n / 256 % 256) * 256 + n % 256
 low-high n h = omega arith
 
 four-listed : (row : List ℕ) → length row ≡ 4 → countAt row 0 ∷ countAt row 1 ∷ countAt row 2 ∷ countAt row 3 ∷ [] ≡ row
-four-listed (a ∷ b ∷ c ∷ d ∷ []) h = refl
+four-listed row h = sym (at 0 (omega arith) (at 1 (omega arith) (at 2 (omega arith) (at 3 (omega arith) (drop-of-length-le row {i = 4} (omega arith))))))
+  where
+    at : (i : ℕ) → i < length row → {rest : List ℕ} → drop (suc i) row ≡ rest → drop i row ≡ countAt row i ∷ rest
+    at i l e = drop-cons row i 0 l ∙ ap (λ (x : List ℕ). countAt row i ∷ x) e
 
 -- the counts that stand in the bytes of a place are those that were put there
 counts-back : (k : Key) (row : List ℕ) → RowFits row
@@ -161,14 +196,107 @@ counts-back k row f =
     simp (low-high (countAt row 0) (f .below 0), low-high (countAt row 1) (f .below 1), low-high (countAt row 2) (f .below 2), low-high (countAt row 3) (f .below 3))
     (four-listed row (f .four))
 
+-- at a place of a whole store: what was put there stands there
 module _ (s : List ℕ) (k : Key) (row : List ℕ) (p : ℕ) (l : length s ≡ storeBytes) (h : p < places) where
-  there : 11 * p + length (placeBytesOf k row) ≤ length s
-  there = rw length-placeBytesOf (omega arith)
+  byte-there : (j : ℕ) → j < 11 → byteAt (written s (11 * p) (placeBytesOf k row)) (11 * p + j) ≡ byteAt (placeBytesOf k row) j
+  byte-there j b = byteAt-written s (11 * p) (placeBytesOf k row) j (rw length-placeBytesOf b) (omega arith)
+
+  count-there : (j : ℕ) → j + 2 ≤ 11 → numberAt (written s (11 * p) (placeBytesOf k row)) (11 * p + j) 2 ≡ numberAt (placeBytesOf k row) j 2
+  count-there j b =
+      numberAt-written-behind s (11 * p) (placeBytesOf k row) j 2 (rw length-placeBytesOf b) (rw length-placeBytesOf (omega arith))
 
   key-there : keyAt (written s (11 * p) (placeBytesOf k row)) p ≡ k
   unfolding keyAt placeBytesOf
-  key-there = ?
+  key-there = simp (rw add-zero at (byte-there 0 (omega arith)), byte-there 1 (omega arith), byte-there 2 (omega arith))
 
   row-there : RowFits row → rowAt (written s (11 * p) (placeBytesOf k row)) p ≡ row
   unfolding rowAt
-  row-there f = ?
+  row-there f =
+      simp (count-there 3 (omega arith), count-there 5 (omega arith), count-there 7 (omega arith), count-there 9 (omega arith)) (counts-back k row f)
+
+-- at any other place, what stood there
+module _ (s : List ℕ) (k : Key) (row : List ℕ) (p i : ℕ) (d : p ≡ i → ⊥) where
+  apart : (j n : ℕ) → j + n ≤ 11 → Apart (11 * i + j) n (11 * p) (length (placeBytesOf k row))
+  apart j n b = go (ltb i p) refl
+    where
+      go : (c : Bool) → ltb i p ≡ c → Apart (11 * i + j) n (11 * p) (length (placeBytesOf k row))
+      go true e = inl (omega (arith, ltb-true i p e))
+      go false e = inr (rw length-placeBytesOf (omega (arith, ltb-false i p e, d)))
+
+  byte-elsewhere : (j : ℕ) → j < 11 → byteAt (written s (11 * p) (placeBytesOf k row)) (11 * i + j) ≡ byteAt s (11 * i + j)
+  byte-elsewhere j b = byteAt-kept s (11 * p) (placeBytesOf k row) (11 * i + j) (apart j 1 (omega arith))
+
+  count-elsewhere : (j : ℕ) → j + 2 ≤ 11 → numberAt (written s (11 * p) (placeBytesOf k row)) (11 * i + j) 2 ≡ numberAt s (11 * i + j) 2
+  count-elsewhere j b = numberAt-kept s (11 * p) (placeBytesOf k row) (11 * i + j) 2 (apart j 2 b)
+
+  key-elsewhere : keyAt (written s (11 * p) (placeBytesOf k row)) i ≡ keyAt s i
+  unfolding keyAt
+  key-elsewhere = simp (rw add-zero at (byte-elsewhere 0 (omega arith)), byte-elsewhere 1 (omega arith), byte-elsewhere 2 (omega arith))
+
+  row-elsewhere : rowAt (written s (11 * p) (placeBytesOf k row)) i ≡ rowAt s i
+  unfolding rowAt
+  row-elsewhere =
+      simp (count-elsewhere 3 (omega arith), count-elsewhere 5 (omega arith), count-elsewhere 7 (omega arith), count-elsewhere 9 (omega arith))
+
+-- ---- what is read after a put
+
+-- "which reads use too": a slice that was put is read back
+pub put-then-read : (s : List ℕ) (next : ℕ) (k : Key) (row : List ℕ) → length s ≡ storeBytes → next < places → RowFits row
+    → sliceOf (putStore s next k row) k ≡ row
+unfolding sliceOf isKept putStore placeOf
+put-then-read s next k row l h f =
+    let p = putPlace s next k in
+    let t = written s (11 * p) (placeBytesOf k row) in
+    let r : p < places = put-in-range s next k h in
+    let before : (j : ℕ) → j < p → sameKey (keyAt t j) k ≡ false =
+    λ j b. ap (λ (x : Key). sameKey x k) (key-elsewhere s k row p j (λ q. omega arith)) ∙ put-before s next k j h b in
+    let hit : sameKey (keyAt t p) k ≡ true = ap (λ (x : Key). sameKey x k) (key-there s k row p l r) ∙ same-self k in
+    let e : firstFrom t k 0 places ≡ p = first-is t k 0 places p (omega arith) (omega arith) before hit in
+    simp (e, lt-ltb p places r) (row-there s k row p l r f)
+
+-- every other slice stays, unless it stood where the new one went
+pub put-keeps-others : (s : List ℕ) (next : ℕ) (k j : Key) (row : List ℕ) → length s ≡ storeBytes → next < places
+    → sameKey k j ≡ false → sameKey (keyAt s (putPlace s next k)) j ≡ false → sliceOf (putStore s next k row) j ≡ sliceOf s j
+unfolding sliceOf isKept putStore placeOf
+put-keeps-others s next k j row l h other free =
+    let e : firstFrom t j 0 places ≡ firstFrom s j 0 places = first-same s t j 0 places (λ i b. same i (eqb p i) refl) in
+    simp e (kept (ltb (firstFrom s j 0 places) places) refl)
+  where
+    p : ℕ
+    p = putPlace s next k
+
+    t : List ℕ
+    t = written s (11 * p) (placeBytesOf k row)
+
+    same : (i : ℕ) (b : Bool) → eqb p i ≡ b → sameKey (keyAt t i) j ≡ sameKey (keyAt s i) j
+    same i true q =
+        let there = ap (λ (x : Key). sameKey x j) (key-there s k row p l (put-in-range s next k h)) ∙ other ∙ sym free in
+        ap (λ (x : ℕ). sameKey (keyAt t x) j) (sym (eqb-true p i q)) ∙ there ∙ ap (λ (x : ℕ). sameKey (keyAt s x) j) (eqb-true p i q)
+    same i false q = ap (λ (x : Key). sameKey x j) (key-elsewhere s k row p i (eqb-false p i q))
+
+    kept : (b : Bool) → ltb (firstFrom s j 0 places) places ≡ b
+        → cond b (rowAt t (firstFrom s j 0 places)) zeroRow ≡ cond b (rowAt s (firstFrom s j 0 places)) zeroRow
+    kept true q =
+        let has = first-has s j 0 places (ltb-true (firstFrom s j 0 places) places q) in
+        row-elsewhere s k row p (firstFrom s j 0 places)
+        (λ d. false≢true (sym free ∙ ap (λ (x : ℕ). sameKey (keyAt s x) j) d ∙ has))
+    kept false q = refl
+
+-- ---- what is read after a clear
+
+-- a byte of zeros, or past them
+zero-at : (n i : ℕ) → byteAt (replicate n 0) i ≡ 0
+zero-at zero i = refl
+zero-at (suc n) zero = refl
+zero-at (suc n) (suc i) = zero-at n i
+
+cleared-unused : (s : List ℕ) (k : Key) (i : ℕ) → 1 ≤ k .month → sameKey (keyAt (cleared s) i) k ≡ false
+unfolding sameKey keyAt cleared
+cleared-unused s k i h = simp (zero-at (length s) (11 * i), ne-eqb 0 (k .month) (λ q. omega arith))
+
+-- "Zeroing makes all unused"
+pub cleared-absent : (s : List ℕ) (k : Key) → 1 ≤ k .month → sliceOf (cleared s) k ≡ zeroRow
+unfolding sliceOf isKept placeOf
+cleared-absent s k h =
+    let e : firstFrom (cleared s) k 0 places ≡ places = first-none (cleared s) k 0 places (λ i b. cleared-unused s k i h) ∙ zero-add places in
+    simp (e, le-ltb places places (omega arith))

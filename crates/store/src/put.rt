@@ -3,8 +3,8 @@ ghost use mathlib.Core.Path.{_≡_};
 ghost use Prim.Native.Nat.{_*_, _<_};
 ghost use Rattle.words.specs.Place.{written};
 ghost use Rattle.store.specs.Store.{rowBytes, placeBytesOf, putStore, putNext, cleared};
-use crate::find::PLACES;
 use crate::find::PLACE_BYTES;
+use crate::find::PLACES;
 use slots::Key;
 
 // Returns the place that is next after it.

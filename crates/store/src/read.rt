@@ -1,8 +1,8 @@
 // Slices, read by their keys.
 ghost use mathlib.Core.Path.{_≡_};
 ghost use Rattle.store.specs.Store.{keyOf, rowAt, sliceOf, sixOf};
-use crate::find::PLACES;
 use crate::find::PLACE_BYTES;
+use crate::find::PLACES;
 use slots::Key;
 
 pub fn slice_of(store: &[u8], k: Key) -> [u16; 4]

@@ -9,96 +9,73 @@ use mathlib.Core.Bool.{and-false}
 use borrow.Author.Needs.{needs}
 use Rattle.store.proofs.find.holds.Statement.{statement}
 use Rattle.store.proofs.find.holds.Tie as tie
-use Rattle.store.proofs.find.holds.Reads as reads
-use Rattle.store.proofs.find.holds.Lts as lts
-use Rattle.words.proofs.byte_at.Reads as byte-at-reads
 
--- src/find.rt:31:14
 mul-at : tie.Need-mul-at
 mul-at c = search needs
 
--- src/find.rt:33:8
 add-if1 : tie.Need-add-if1
 add-if1 c = search needs
 
--- src/find.rt:34:19
 add-if2 : tie.Need-add-if2
 add-if2 c = search needs
 
--- src/find.rt:34:13
 shared-slice-read-if2 : tie.Need-shared-slice-read-if2
 shared-slice-read-if2 c = search needs
 
--- src/find.rt:34:13
 cast-if2 : tie.Need-cast-if2
 cast-if2 c = omega (arith, c .shared-slice-known2 .given (11 * c .before .before .before .args .i + 2))
 
--- src/find.rt:35:13
 returns : tie.Need-returns
 unfolding sameKey keyAt
 returns c = simp (ne-eqb _ _ (c .if2 .taken), and-false)
 
--- src/find.rt:37:18
 add-if3 : tie.Need-add-if3
 add-if3 c = search needs
 
--- src/find.rt:37:12
 shared-slice-read-if3 : tie.Need-shared-slice-read-if3
 shared-slice-read-if3 c = search needs
 
--- src/find.rt:38:13
 returns-2 : tie.Need-returns-2
 unfolding sameKey keyAt
 returns-2 c = simp (ne-eqb _ _ (c .if3 .taken), and-false)
 
--- src/find.rt:40:16
 shared-slice-read-result : tie.Need-shared-slice-read-result
 shared-slice-read-result c = search needs
 
--- src/find.rt:40:9
 returns-3 : tie.Need-returns-3
 unfolding keyAt
 returns-3 c = month-decides (keyAt (c .before .before .before .before .before .before .before .args .store .now) (c .before .before .before .before .before .before .before .args .i)) (keyOf (c .before .before .before .before .before .before .before .args .month) (c .before .before .before .before .before .before .before .args .day) (c .before .before .before .before .before .before .before .args .number)) (c .before .if3 .left) (c .before .before .before .if2 .left)
 
--- src/find.rt:42:8
 byte-at-requires : tie.Need-byte-at-requires
 byte-at-requires c κs = search needs
 
--- src/find.rt:43:9
 returns-4 : tie.Need-returns-4
 unfolding sameKey keyAt
 returns-4 c = simp (sym (c .before .byte-at .ensures), ne-eqb _ _ (c .if4 .taken))
 
--- src/find.rt:45:30
 add-byte-at : tie.Need-add-byte-at
 add-byte-at c = search needs
 
--- src/find.rt:45:8
 byte-at-requires-2 : tie.Need-byte-at-requires-2
 byte-at-requires-2 c κs = search needs
 
--- src/find.rt:46:9
 returns-5 : tie.Need-returns-5
 unfolding sameKey keyAt
 returns-5 c = simp (sym (c .before .byte-at2 .ensures), ne-eqb _ _ (c .if5 .taken), and-false)
 
--- src/find.rt:48:28
 add-byte-at-2 : tie.Need-add-byte-at-2
 add-byte-at-2 c = search needs
 
--- src/find.rt:48:6
 byte-at-requires-3 : tie.Need-byte-at-requires-3
 byte-at-requires-3 c κs = search needs
 
--- src/find.rt:48:6
 cast-result : tie.Need-cast-result
 cast-result c = search needs
 
--- src/find.rt:28:1
 returns-6 : tie.Need-returns-6
 unfolding keyAt
 returns-6 c = ap (λ (b : ℕ). eqb b (c .before .before .before .before .before .before .before .args .number)) (c .byte-at3 .ensures) ∙
-  number-decides (keyAt (c .before .before .before .before .before .before .before .args .store .now) (c .before .before .before .before .before .before .before .args .i)) (keyOf (c .before .before .before .before .before .before .before .args .month) (c .before .before .before .before .before .before .before .args .day) (c .before .before .before .before .before .before .before .args .number)) (sym (c .before .before .before .before .byte-at .ensures) ∙ c .before .before .before .if4 .left) (sym (c .before .before .byte-at2 .ensures) ∙ c .before .if5 .left)
+    number-decides (keyAt (c .before .before .before .before .before .before .before .args .store .now) (c .before .before .before .before .before .before .before .args .i)) (keyOf (c .before .before .before .before .before .before .before .args .month) (c .before .before .before .before .before .before .before .args .day) (c .before .before .before .before .before .before .before .args .number)) (sym (c .before .before .before .before .byte-at .ensures) ∙ c .before .before .before .if4 .left) (sym (c .before .before .byte-at2 .ensures) ∙ c .before .if5 .left)
 
 pub holds-spec : {M : Type 1} → statement M
 holds-spec =

@@ -7,9 +7,6 @@ use native.Mathlib.Omega.{arith}
 use mathlib.Core.Path.{_≡_, sym, refl, ap, _∙_}
 use Rattle.store.proofs.find.place_of.Statement.{statement}
 use Rattle.store.proofs.find.place_of.Tie as tie
-use Rattle.store.proofs.find.place_of.Reads as reads
-use Rattle.store.proofs.find.place_of.Lts as lts
-use Rattle.store.proofs.find.holds.Reads as holds-reads
 
 abbrev Inv-loop : tie.InvT-loop
 Inv-loop store month day number i₀ i =
@@ -18,40 +15,33 @@ Inv-loop store month day number i₀ i =
 abbrev μ-loop : tie.MeasureT-loop
 μ-loop store month day number i₀ i = places - i
 
--- src/find.rt:18:5
 loop-holds : tie.Need-loop-holds Inv-loop μ-loop
 unfolding placeOf
 loop-holds c = (omega arith, refl)
 
--- src/find.rt:19:12
 holds-requires : tie.Need-holds-requires Inv-loop μ-loop
 holds-requires c κs = search needs
 
--- src/find.rt:20:13
 returns : tie.Need-returns Inv-loop μ-loop
 returns c = let s = c .before .before .before .before .before .args .store .now in let k = keyOf (c .before .before .before .before .before .args .month) (c .before .before .before .before .before .args .day) (c .before .before .before .before .before .args .number) in let i = c .before .before .before .loop .i in
-  let e : places - i ≡ suc (places - (i + 1)) = omega arith in
-  sym (first-hit s k i (places - (i + 1)) (sym (c .before .holds .ensures) ∙ c .if1 .taken)) ∙ sym (ap (firstFrom s k i) e) ∙ c .before .before .before .loop .inv .1
+    let e : places - i ≡ suc (places - (i + 1)) = omega arith in
+    sym (first-hit s k i (places - (i + 1)) (sym (c .before .holds .ensures) ∙ c .if1 .taken)) ∙ sym (ap (firstFrom s k i) e) ∙ c .before .before .before .loop .inv .1
 
--- src/find.rt:22:9
 add-i : tie.Need-add-i Inv-loop μ-loop
 add-i c = omega arith
 
--- src/find.rt:18:5
 loop-less : tie.Need-loop-less Inv-loop μ-loop
 loop-less c = omega arith
 
--- src/find.rt:18:5
 loop-again : tie.Need-loop-again Inv-loop μ-loop
 loop-again c = let s = c .before .before .before .before .before .args .store .now in let k = keyOf (c .before .before .before .before .before .args .month) (c .before .before .before .before .before .args .day) (c .before .before .before .before .before .args .number) in let i = c .before .before .before .loop .i in
-  let e : places - i ≡ suc (places - (i + 1)) = omega arith in
-  (omega arith, ap (λ (m : ℕ). firstFrom s k m (places - (i + 1))) (add-one i) ∙ sym (first-miss s k i (places - (i + 1)) (sym (c .before .holds .ensures) ∙ c .if1 .left)) ∙ sym (ap (firstFrom s k i) e) ∙ c .before .before .before .loop .inv .1)
+    let e : places - i ≡ suc (places - (i + 1)) = omega arith in
+    (omega arith, ap (λ (m : ℕ). firstFrom s k m (places - (i + 1))) (add-one i) ∙ sym (first-miss s k i (places - (i + 1)) (sym (c .before .holds .ensures) ∙ c .if1 .left)) ∙ sym (ap (firstFrom s k i) e) ∙ c .before .before .before .loop .inv .1)
 
--- src/find.rt:14:1
 returns-2 : tie.Need-returns-2 Inv-loop μ-loop
 returns-2 c = let s = c .before .before .before .args .store .now in let k = keyOf (c .before .before .before .args .month) (c .before .before .before .args .day) (c .before .before .before .args .number) in let i = c .before .loop .i in
-  let e : places - i ≡ 0 = omega arith in
-  sym (first-end s k i) ∙ sym (ap (firstFrom s k i) e) ∙ c .before .loop .inv .1
+    let e : places - i ≡ 0 = omega arith in
+    sym (first-end s k i) ∙ sym (ap (firstFrom s k i) e) ∙ c .before .loop .inv .1
 
 pub place-of-spec : {M : Type 1} → statement M
 place-of-spec =

@@ -6,66 +6,50 @@ use mathlib.Core.Path.{sym}
 use borrow.Author.Needs.{needs}
 use Rattle.store.proofs.put.put_slice.Statement.{statement}
 use Rattle.store.proofs.put.put_slice.Tie as tie
-use Rattle.store.proofs.put.put_slice.Reads as reads
-use Rattle.store.proofs.put.put_slice.Lts as lts
-use Rattle.store.proofs.find.place_of.Reads as place-of-reads
-use Rattle.store.proofs.put.write_place.Reads as write-place-reads
 
--- src/put.rt:14:58
 cast-place-of : tie.Need-cast-place-of
 cast-place-of c = search needs
 
--- src/put.rt:14:9
 place-of-requires : tie.Need-place-of-requires
 place-of-requires c κs = search needs
 
--- src/put.rt:16:9
 write-place-requires : tie.Need-write-place-requires
 write-place-requires c κs = search needs
 
--- src/put.rt:17:9
 same-length : tie.Need-same-length
 same-length c = search needs
 
--- src/put.rt:17:9
 returns : tie.Need-returns
 unfolding isKept putPlace putStore putNext
 returns c = let e = sym (c .before .before .before .before .before .place-of .ensures) in let t = lt-ltb _ _ (c .before .before .before .before .if1 .taken) in
-  (simp (e, t) (c .before .before .write-place .ensures), simp (e, t))
+    (simp (e, t) (c .before .before .write-place .ensures), simp (e, t))
 
--- src/put.rt:19:5
 write-place-requires-2 : tie.Need-write-place-requires-2
 write-place-requires-2 c κs = search needs
 
--- src/put.rt:20:15
 sub-if2 : tie.Need-sub-if2
 sub-if2 c = search needs
 
--- src/put.rt:21:16
 add-result : tie.Need-add-result
 add-result c = search needs
 
--- src/put.rt:21:9
 same-length-2 : tie.Need-same-length-2
 same-length-2 c = search needs
 
--- src/put.rt:21:9
 returns-2 : tie.Need-returns-2
 unfolding isKept putPlace putStore putNext
 returns-2 c = let e = sym (c .before .before .before .before .before .before .place-of .ensures) in let t = le-ltb _ _ (c .before .before .before .before .before .if1 .left) in
-  let h : c .before .before .before .before .before .before .before .before .before .before .args .next + 1 < places = omega arith in
-  (simp (e, t) (c .before .before .before .write-place2 .ensures), simp (e, t, lt-ltb _ _ h))
+    let h : c .before .before .before .before .before .before .before .before .before .before .args .next + 1 < places = omega arith in
+    (simp (e, t) (c .before .before .before .write-place2 .ensures), simp (e, t, lt-ltb _ _ h))
 
--- src/put.rt:11:1
 same-length-3 : tie.Need-same-length-3
 same-length-3 c = search needs
 
--- src/put.rt:11:1
 returns-3 : tie.Need-returns-3
 unfolding isKept putPlace putStore putNext
 returns-3 c = let e = sym (c .before .before .before .before .before .before .place-of .ensures) in let t = le-ltb _ _ (c .before .before .before .before .before .if1 .left) in
-  let h : places ≤ c .before .before .before .before .before .before .before .before .before .before .args .next + 1 = omega arith in
-  (simp (e, t) (c .before .before .before .write-place2 .ensures), simp (e, t, le-ltb _ _ h))
+    let h : places ≤ c .before .before .before .before .before .before .before .before .before .before .args .next + 1 = omega arith in
+    (simp (e, t) (c .before .before .before .write-place2 .ensures), simp (e, t, le-ltb _ _ h))
 
 pub put-slice-spec : {M : Type 1} → statement M
 put-slice-spec =

@@ -1,57 +1,42 @@
 use Rattle.store.specs.StoreLaws.{onward}
 use Rattle.store.specs.Store.{placeBytesOf}
-use native.Mathlib.Omega.{arith}
 use mathlib.Core.Path.{refl}
 use borrow.Author.Needs.{needs}
 use Rattle.store.proofs.put.write_place.Statement.{statement}
 use Rattle.store.proofs.put.write_place.Tie as tie
-use Rattle.store.proofs.put.write_place.Reads as reads
-use Rattle.store.proofs.put.write_place.Lts as lts
-use Rattle.store.proofs.put.write_row.Reads as write-row-reads
-use Rattle.words.proofs.put_byte.Reads as put-byte-reads
 
--- src/put.rt:30:14
 mul-at : tie.Need-mul-at
 mul-at c = search needs
 
--- src/put.rt:31:5
 put-byte-requires : tie.Need-put-byte-requires
 put-byte-requires c κs = search needs
 
--- src/put.rt:32:28
 add-put-byte : tie.Need-add-put-byte
 add-put-byte c = search needs
 
--- src/put.rt:32:5
 put-byte-requires-2 : tie.Need-put-byte-requires-2
 put-byte-requires-2 c κs = search needs
 
--- src/put.rt:33:28
 add-put-byte-2 : tie.Need-add-put-byte-2
 add-put-byte-2 c = search needs
 
--- src/put.rt:33:5
 put-byte-requires-3 : tie.Need-put-byte-requires-3
 put-byte-requires-3 c κs = search needs
 
--- src/put.rt:34:22
 add-write-row : tie.Need-add-write-row
 add-write-row c = search needs
 
--- src/put.rt:34:5
 write-row-requires : tie.Need-write-row-requires
 write-row-requires c κs = search needs
 
--- src/put.rt:27:1
 same-length : tie.Need-same-length
 same-length c = search needs
 
--- src/put.rt:27:1
 returns : tie.Need-returns
 unfolding placeBytesOf
 returns c = let to-day = onward _ _ _ _ _ _ _ (c .before .before .before .before .before .before .before .before .before .before .before .before .before .before .put-byte .ensures) (c .before .before .before .before .before .before .before .before .before .before .put-byte2 .ensures) refl in
-  let to-number = onward _ _ _ _ _ _ _ to-day (c .before .before .before .before .before .before .put-byte3 .ensures) refl in
-  onward _ _ _ _ _ _ _ to-number (c .before .before .write-row .ensures) refl
+    let to-number = onward _ _ _ _ _ _ _ to-day (c .before .before .before .before .before .before .put-byte3 .ensures) refl in
+    onward _ _ _ _ _ _ _ to-number (c .before .before .write-row .ensures) refl
 
 pub write-place-spec : {M : Type 1} → statement M
 write-place-spec =

@@ -6,64 +6,48 @@ use mathlib.Core.Path.{refl}
 use borrow.Author.Needs.{needs}
 use Rattle.store.proofs.put.write_row.Statement.{statement}
 use Rattle.store.proofs.put.write_row.Tie as tie
-use Rattle.store.proofs.put.write_row.Reads as reads
-use Rattle.store.proofs.put.write_row.Lts as lts
-use Rattle.words.proofs.put_u16.Reads as put-u16-reads
 
--- src/put.rt:42:31
 array-read-put-u16 : tie.Need-array-read-put-u16
 array-read-put-u16 c = search needs
 
--- src/put.rt:42:5
 put-u16-requires : tie.Need-put-u16-requires
 put-u16-requires c κs = search needs
 
--- src/put.rt:43:27
 add-put-u16 : tie.Need-add-put-u16
 add-put-u16 c = search needs
 
--- src/put.rt:43:35
 array-read-put-u16-2 : tie.Need-array-read-put-u16-2
 array-read-put-u16-2 c = search needs
 
--- src/put.rt:43:5
 put-u16-requires-2 : tie.Need-put-u16-requires-2
 put-u16-requires-2 c κs = search needs
 
--- src/put.rt:44:27
 add-put-u16-2 : tie.Need-add-put-u16-2
 add-put-u16-2 c = search needs
 
--- src/put.rt:44:35
 array-read-put-u16-3 : tie.Need-array-read-put-u16-3
 array-read-put-u16-3 c = search needs
 
--- src/put.rt:44:5
 put-u16-requires-3 : tie.Need-put-u16-requires-3
 put-u16-requires-3 c κs = search needs
 
--- src/put.rt:45:27
 add-put-u16-3 : tie.Need-add-put-u16-3
 add-put-u16-3 c = search needs
 
--- src/put.rt:45:35
 array-read-put-u16-4 : tie.Need-array-read-put-u16-4
 array-read-put-u16-4 c = search needs
 
--- src/put.rt:45:5
 put-u16-requires-4 : tie.Need-put-u16-requires-4
 put-u16-requires-4 c κs = search needs
 
--- src/put.rt:38:1
 same-length : tie.Need-same-length
 same-length c = search needs
 
--- src/put.rt:38:1
 returns : tie.Need-returns
 unfolding rowBytes bytesOf
 returns c = let to-em = onward _ _ _ _ _ _ _ (c .before .before .before .before .before .before .before .before .before .before .before .before .before .before .put-u16 .ensures) (c .before .before .before .before .before .before .before .before .before .before .put-u162 .ensures) refl in
-  let to-rp = onward _ _ _ _ _ _ _ to-em (c .before .before .before .before .before .before .put-u163 .ensures) (omega arith) in
-  onward _ _ _ _ _ _ _ to-rp (c .before .before .put-u164 .ensures) (omega arith)
+    let to-rp = onward _ _ _ _ _ _ _ to-em (c .before .before .before .before .before .before .put-u163 .ensures) (omega arith) in
+    onward _ _ _ _ _ _ _ to-rp (c .before .before .put-u164 .ensures) (omega arith)
 
 pub write-row-spec : {M : Type 1} → statement M
 write-row-spec =

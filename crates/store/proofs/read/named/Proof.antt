@@ -4,25 +4,17 @@ use mathlib.Core.Path.{sym}
 use borrow.Author.Needs.{needs}
 use Rattle.store.proofs.read.named.Statement.{statement}
 use Rattle.store.proofs.read.named.Tie as tie
-use Rattle.store.proofs.read.named.Reads as reads
-use Rattle.store.proofs.read.named.Lts as lts
-use Rattle.store.proofs.find.place_of.Reads as place-of-reads
-use Rattle.store.proofs.read.row_at.Reads as row-at-reads
 
--- src/read.rt:32:9
 place-of-requires : tie.Need-place-of-requires
 place-of-requires c κs = search needs
 
--- src/read.rt:34:9
 row-at-requires : tie.Need-row-at-requires
 row-at-requires c κs = search needs
 
--- src/read.rt:34:9
 returns : tie.Need-returns
 unfolding sliceOf isKept
 returns c = simp (sym (c .before .before .place-of .ensures), lt-ltb _ _ (c .before .if1 .taken), c .row-at .ensures)
 
--- src/read.rt:29:1
 returns-2 : tie.Need-returns-2
 unfolding sliceOf isKept
 returns-2 c = simp (sym (c .before .place-of .ensures), le-ltb _ _ (c .if1 .left))

@@ -2,47 +2,34 @@ use Rattle.store.specs.Store.{rowAt}
 use borrow.Author.Needs.{needs}
 use Rattle.store.proofs.read.row_at.Statement.{statement}
 use Rattle.store.proofs.read.row_at.Tie as tie
-use Rattle.store.proofs.read.row_at.Reads as reads
-use Rattle.store.proofs.read.row_at.Lts as lts
-use Rattle.words.proofs.u16_at.Reads as u16-at-reads
 
--- src/read.rt:43:14
 mul-at : tie.Need-mul-at
 mul-at c = search needs
 
--- src/read.rt:45:30
 add-u16-at : tie.Need-add-u16-at
 add-u16-at c = search needs
 
--- src/read.rt:45:9
 u16-at-requires : tie.Need-u16-at-requires
 u16-at-requires c κs = search needs
 
--- src/read.rt:46:30
 add-u16-at-2 : tie.Need-add-u16-at-2
 add-u16-at-2 c = search needs
 
--- src/read.rt:46:9
 u16-at-requires-2 : tie.Need-u16-at-requires-2
 u16-at-requires-2 c κs = search needs
 
--- src/read.rt:47:30
 add-u16-at-3 : tie.Need-add-u16-at-3
 add-u16-at-3 c = search needs
 
--- src/read.rt:47:9
 u16-at-requires-3 : tie.Need-u16-at-requires-3
 u16-at-requires-3 c κs = search needs
 
--- src/read.rt:48:30
 add-u16-at-4 : tie.Need-add-u16-at-4
 add-u16-at-4 c = search needs
 
--- src/read.rt:48:9
 u16-at-requires-4 : tie.Need-u16-at-requires-4
 u16-at-requires-4 c κs = search needs
 
--- src/read.rt:40:1
 returns : tie.Need-returns
 unfolding rowAt
 returns c = simp (c .before .before .before .u16-at .ensures, c .before .before .u16-at2 .ensures, c .before .u16-at3 .ensures, c .u16-at4 .ensures)

@@ -2,59 +2,43 @@ use Rattle.store.specs.Store.{sixOf}
 use borrow.Author.Needs.{needs}
 use Rattle.store.proofs.read.six_of.Statement.{statement}
 use Rattle.store.proofs.read.six_of.Tie as tie
-use Rattle.store.proofs.read.six_of.Reads as reads
-use Rattle.store.proofs.read.six_of.Lts as lts
-use Rattle.store.proofs.read.named.Reads as named-reads
 
--- src/read.rt:18:18
 cast-number : tie.Need-cast-number
 cast-number c = search needs
 
--- src/read.rt:20:9
 named-requires : tie.Need-named-requires
 named-requires c κs = search needs
 
--- src/read.rt:21:38
 add-named : tie.Need-add-named
 add-named c = search needs
 
--- src/read.rt:21:9
 named-requires-2 : tie.Need-named-requires-2
 named-requires-2 c κs = search needs
 
--- src/read.rt:22:38
 add-named-2 : tie.Need-add-named-2
 add-named-2 c = search needs
 
--- src/read.rt:22:9
 named-requires-3 : tie.Need-named-requires-3
 named-requires-3 c κs = search needs
 
--- src/read.rt:23:38
 add-named-3 : tie.Need-add-named-3
 add-named-3 c = search needs
 
--- src/read.rt:23:9
 named-requires-4 : tie.Need-named-requires-4
 named-requires-4 c κs = search needs
 
--- src/read.rt:24:38
 add-named-4 : tie.Need-add-named-4
 add-named-4 c = search needs
 
--- src/read.rt:24:9
 named-requires-5 : tie.Need-named-requires-5
 named-requires-5 c κs = search needs
 
--- src/read.rt:25:38
 add-named-5 : tie.Need-add-named-5
 add-named-5 c = search needs
 
--- src/read.rt:25:9
 named-requires-6 : tie.Need-named-requires-6
 named-requires-6 c κs = search needs
 
--- src/read.rt:15:1
 returns : tie.Need-returns
 unfolding sixOf
 returns c = simp (c .before .before .before .before .before .named .ensures, c .before .before .before .before .named2 .ensures, c .before .before .before .named3 .ensures, c .before .before .named4 .ensures, c .before .named5 .ensures, c .named6 .ensures)
