@@ -15,8 +15,12 @@ use borrow.Author.Tests.{ltb-true, ltb-false, lt-ltb, le-ltb, eqb-true, eqb-fals
 use Rattle.words.specs.Number.{number, bytesOf}
 use Rattle.words.specs.Place.{byteAt, numberAt, written, Apart, written-append, length-written, take-drop, part-written, byteAt-kept, byteAt-written, numberAt-kept}
 use Rattle.slots.specs.declared.key.Key.{Key}
-use Rattle.store.specs.Store.{places, storeBytes, keyAt, sameKey, firstFrom, placeOf, isKept, rowAt, zeroRow, sliceOf, countAt, rowBytes, placeBytesOf, putPlace, putStore, putNext, cleared}
+use Rattle.store.specs.Store.{places, placeBytes, storeBytes, keyAt, sameKey, firstFrom, placeOf, isKept, rowAt, zeroRow, sliceOf, countAt, rowBytes, placeBytesOf, putPlace, putStore, putNext, cleared}
 use Rattle.store.specs.FindLaws.{same-self, first-has, first-before, first-is, first-none, first-same}
+
+-- the places fill the store
+pub store-filled : places * placeBytes ≡ storeBytes
+store-filled = refl
 
 -- ---- bytes put one behind the other
 
