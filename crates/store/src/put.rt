@@ -7,7 +7,8 @@ use crate::find::PLACE_BYTES;
 use crate::find::PLACES;
 use slots::Key;
 
-// Returns the place that is next after it.
+// To the place of its key, or else to the next place in turn. Returns which place is next then: the same as before where a slice was
+// replaced, and the first after the last.
 pub fn put_slice(store: &mut [u8], next: u16, k: Key, counts: [u16; 4]) -> u16
     ensures { λ r. ⌜ (now (store .exit) ≡ putStore (now (store .entry)) next k counts) × (r ≡ putNext (now (store .entry)) next k) ⌝ }
 {
@@ -34,7 +35,7 @@ fn write_place(store: &mut [u8], i: u16, k: Key, counts: [u16; 4])
     write_row(store, at + 3, counts);
 }
 
-// Four counts, from a byte of the store on.
+// Four counts, lowest byte first, from a byte of the store on; no place begins as far on as the bound.
 fn write_row(store: &mut [u8], at: usize, counts: [u16; 4])
     requires { ⌜ at < 1000000 ⌝ }
     ensures { λ _. ⌜ now (store .exit) ≡ written (now (store .entry)) at (rowBytes counts) ⌝ }

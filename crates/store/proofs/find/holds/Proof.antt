@@ -1,7 +1,7 @@
 use lib.Dec.{eqb}
 use Prim.Native.Nat.{ℕ, _+_, _*_}
 use Rattle.store.specs.Store.{keyOf, keyAt, sameKey}
-use Rattle.store.specs.StoreLaws.{month-decides, number-decides}
+use Rattle.store.specs.FindLaws.{month-decides, number-decides}
 use borrow.Author.Tests.{ne-eqb}
 use native.Mathlib.Omega.{arith}
 use mathlib.Core.Path.{sym, ap, _∙_}
@@ -44,7 +44,9 @@ shared-slice-read-result c = search needs
 
 returns-3 : tie.Need-returns-3
 unfolding keyAt
-returns-3 c = month-decides (keyAt (c .before .before .before .before .before .before .before .args .store .now) (c .before .before .before .before .before .before .before .args .i)) (keyOf (c .before .before .before .before .before .before .before .args .month) (c .before .before .before .before .before .before .before .args .day) (c .before .before .before .before .before .before .before .args .number)) (c .before .if3 .left) (c .before .before .before .if2 .left)
+returns-3 c =
+    let start = c .before .before .before .before .before .before .before .args in
+    month-decides (keyAt (start .store .now) (start .i)) (keyOf (start .month) (start .day) (start .number)) (c .before .if3 .left) (c .before .before .before .if2 .left)
 
 byte-at-requires : tie.Need-byte-at-requires
 byte-at-requires c κs = search needs
@@ -74,8 +76,11 @@ cast-result c = search needs
 
 returns-6 : tie.Need-returns-6
 unfolding keyAt
-returns-6 c = ap (λ (b : ℕ). eqb b (c .before .before .before .before .before .before .before .args .number)) (c .byte-at3 .ensures) ∙
-    number-decides (keyAt (c .before .before .before .before .before .before .before .args .store .now) (c .before .before .before .before .before .before .before .args .i)) (keyOf (c .before .before .before .before .before .before .before .args .month) (c .before .before .before .before .before .before .before .args .day) (c .before .before .before .before .before .before .before .args .number)) (sym (c .before .before .before .before .byte-at .ensures) ∙ c .before .before .before .if4 .left) (sym (c .before .before .byte-at2 .ensures) ∙ c .before .if5 .left)
+returns-6 c =
+    let start = c .before .before .before .before .before .before .before .args in
+    ap (λ (b : ℕ). eqb b (start .number)) (c .byte-at3 .ensures)
+    ∙ number-decides (keyAt (start .store .now) (start .i)) (keyOf (start .month) (start .day) (start .number))
+    (sym (c .before .before .before .before .byte-at .ensures) ∙ c .before .before .before .if4 .left) (sym (c .before .before .byte-at2 .ensures) ∙ c .before .if5 .left)
 
 pub holds-spec : {M : Type 1} → statement M
 holds-spec =

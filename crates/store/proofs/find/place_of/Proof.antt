@@ -1,4 +1,5 @@
-use Rattle.store.specs.StoreLaws.{first-hit, first-miss, first-end}
+-- The invariant: a walk over the places that are left finds what a walk over all of them finds.
+use Rattle.store.specs.FindLaws.{first-hit, first-miss, first-end}
 use Rattle.store.specs.Store.{places, keyOf, firstFrom, placeOf}
 use Prim.Native.Nat.{ℕ, suc, _+_, _-_, _≤_}
 use borrow.Author.Needs.{needs}
@@ -23,9 +24,14 @@ holds-requires : tie.Need-holds-requires Inv-loop μ-loop
 holds-requires c κs = search needs
 
 returns : tie.Need-returns Inv-loop μ-loop
-returns c = let s = c .before .before .before .before .before .args .store .now in let k = keyOf (c .before .before .before .before .before .args .month) (c .before .before .before .before .before .args .day) (c .before .before .before .before .before .args .number) in let i = c .before .before .before .loop .i in
-    let e : places - i ≡ suc (places - (i + 1)) = omega arith in
-    sym (first-hit s k i (places - (i + 1)) (sym (c .before .holds .ensures) ∙ c .if1 .taken)) ∙ sym (ap (firstFrom s k i) e) ∙ c .before .before .before .loop .inv .1
+returns c =
+    let start = c .before .before .before .before .before .args in
+    let turn = c .before .before .before .loop in
+    let s = start .store .now in
+    let k = keyOf (start .month) (start .day) (start .number) in
+    let left = places - (turn .i + 1) in
+    let e : places - turn .i ≡ suc left = omega arith in
+    sym (first-hit s k (turn .i) left (sym (c .before .holds .ensures) ∙ c .if1 .taken)) ∙ sym (ap (firstFrom s k (turn .i)) e) ∙ turn .inv .1
 
 add-i : tie.Need-add-i Inv-loop μ-loop
 add-i c = omega arith
@@ -34,14 +40,28 @@ loop-less : tie.Need-loop-less Inv-loop μ-loop
 loop-less c = omega arith
 
 loop-again : tie.Need-loop-again Inv-loop μ-loop
-loop-again c = let s = c .before .before .before .before .before .args .store .now in let k = keyOf (c .before .before .before .before .before .args .month) (c .before .before .before .before .before .args .day) (c .before .before .before .before .before .args .number) in let i = c .before .before .before .loop .i in
-    let e : places - i ≡ suc (places - (i + 1)) = omega arith in
-    (omega arith, ap (λ (m : ℕ). firstFrom s k m (places - (i + 1))) (add-one i) ∙ sym (first-miss s k i (places - (i + 1)) (sym (c .before .holds .ensures) ∙ c .if1 .left)) ∙ sym (ap (firstFrom s k i) e) ∙ c .before .before .before .loop .inv .1)
+loop-again c =
+    let start = c .before .before .before .before .before .args in
+    let turn = c .before .before .before .loop in
+    let s = start .store .now in
+    let k = keyOf (start .month) (start .day) (start .number) in
+    let left = places - (turn .i + 1) in
+    let e : places - turn .i ≡ suc left = omega arith in (
+      omega arith,
+      ap (λ (m : ℕ). firstFrom s k m left) (add-one (turn .i))
+          ∙ sym (first-miss s k (turn .i) left (sym (c .before .holds .ensures) ∙ c .if1 .left))
+          ∙ sym (ap (firstFrom s k (turn .i)) e)
+          ∙ turn .inv .1,
+    )
 
 returns-2 : tie.Need-returns-2 Inv-loop μ-loop
-returns-2 c = let s = c .before .before .before .args .store .now in let k = keyOf (c .before .before .before .args .month) (c .before .before .before .args .day) (c .before .before .before .args .number) in let i = c .before .loop .i in
-    let e : places - i ≡ 0 = omega arith in
-    sym (first-end s k i) ∙ sym (ap (firstFrom s k i) e) ∙ c .before .loop .inv .1
+returns-2 c =
+    let start = c .before .before .before .args in
+    let turn = c .before .loop in
+    let s = start .store .now in
+    let k = keyOf (start .month) (start .day) (start .number) in
+    let e : places - turn .i ≡ 0 = omega arith in
+    sym (first-end s k (turn .i)) ∙ sym (ap (firstFrom s k (turn .i)) e) ∙ turn .inv .1
 
 pub place-of-spec : {M : Type 1} → statement M
 place-of-spec =

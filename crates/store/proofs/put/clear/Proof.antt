@@ -1,3 +1,4 @@
+-- The invariant: zeros as far as the loop has come, and behind them the store as it was.
 use Rattle.store.specs.StoreLaws.{clear-one, clear-all}
 use Prim.Native.Nat.{_≤_, _-_}
 use lib.ListN.{length, drop, replicate, length-set}
@@ -27,13 +28,17 @@ loop-less : tie.Need-loop-less Inv-loop μ-loop
 loop-less c = omega arith
 
 loop-again : tie.Need-loop-again Inv-loop μ-loop
-loop-again c = (omega arith, simp length-set (c .before .loop .inv .1), clear-one (c .before .before .args .store .now) (c .before .loop .store) (c .before .loop .i) (omega arith) (c .before .loop .inv .2))
+loop-again c =
+    let turn = c .before .loop in
+    (omega arith, simp length-set (turn .inv .1), clear-one (c .before .before .args .store .now) (turn .store) (turn .i) (omega arith) (turn .inv .2))
 
 same-length : tie.Need-same-length Inv-loop μ-loop
 same-length c = c .before .loop .inv .1
 
 returns : tie.Need-returns Inv-loop μ-loop
-returns c = clear-all (c .before .before .args .store .now) (c .before .loop .store) (c .before .loop .i) (omega arith) (omega arith) (c .before .loop .inv .2)
+returns c =
+    let turn = c .before .loop in
+    clear-all (c .before .before .args .store .now) (turn .store) (turn .i) (omega arith) (omega arith) (turn .inv .2)
 
 pub clear-spec : {M : Type 1} → statement M
 clear-spec =

@@ -21,7 +21,10 @@ same-length c = search needs
 
 returns : tie.Need-returns
 unfolding isKept putPlace putStore putNext
-returns c = let e = sym (c .before .before .before .before .before .place-of .ensures) in let t = lt-ltb _ _ (c .before .before .before .before .if1 .taken) in
+returns c =
+    let found = c .before .before .before .before in
+    let e = sym (found .before .place-of .ensures) in
+    let t = lt-ltb _ _ (found .if1 .taken) in
     (simp (e, t) (c .before .before .write-place .ensures), simp (e, t))
 
 write-place-requires-2 : tie.Need-write-place-requires-2
@@ -38,8 +41,11 @@ same-length-2 c = search needs
 
 returns-2 : tie.Need-returns-2
 unfolding isKept putPlace putStore putNext
-returns-2 c = let e = sym (c .before .before .before .before .before .before .place-of .ensures) in let t = le-ltb _ _ (c .before .before .before .before .before .if1 .left) in
-    let h : c .before .before .before .before .before .before .before .before .before .before .args .next + 1 < places = omega arith in
+returns-2 c =
+    let absent = c .before .before .before .before .before in
+    let e = sym (absent .before .place-of .ensures) in
+    let t = le-ltb _ _ (absent .if1 .left) in
+    let h : absent .before .before .before .before .before .args .next + 1 < places = omega arith in
     (simp (e, t) (c .before .before .before .write-place2 .ensures), simp (e, t, lt-ltb _ _ h))
 
 same-length-3 : tie.Need-same-length-3
@@ -47,8 +53,11 @@ same-length-3 c = search needs
 
 returns-3 : tie.Need-returns-3
 unfolding isKept putPlace putStore putNext
-returns-3 c = let e = sym (c .before .before .before .before .before .before .place-of .ensures) in let t = le-ltb _ _ (c .before .before .before .before .before .if1 .left) in
-    let h : places ≤ c .before .before .before .before .before .before .before .before .before .before .args .next + 1 = omega arith in
+returns-3 c =
+    let absent = c .before .before .before .before .before in
+    let e = sym (absent .before .place-of .ensures) in
+    let t = le-ltb _ _ (absent .if1 .left) in
+    let h : places ≤ absent .before .before .before .before .before .args .next + 1 = omega arith in
     (simp (e, t) (c .before .before .before .write-place2 .ensures), simp (e, t, le-ltb _ _ h))
 
 pub put-slice-spec : {M : Type 1} → statement M

@@ -34,9 +34,14 @@ same-length c = search needs
 
 returns : tie.Need-returns
 unfolding placeBytesOf
-returns c = let to-day = onward _ _ _ _ _ _ _ (c .before .before .before .before .before .before .before .before .before .before .before .before .before .before .put-byte .ensures) (c .before .before .before .before .before .before .before .before .before .before .put-byte2 .ensures) refl in
-    let to-number = onward _ _ _ _ _ _ _ to-day (c .before .before .before .before .before .before .put-byte3 .ensures) refl in
-    onward _ _ _ _ _ _ _ to-number (c .before .before .write-row .ensures) refl
+returns c =
+    let counts = c .before .before in
+    let slot = counts .before .before .before .before in
+    let day = slot .before .before .before .before in
+    let month = day .before .before .before .before in
+    let to-day = onward _ _ _ _ _ _ _ (month .put-byte .ensures) (day .put-byte2 .ensures) refl in
+    let to-slot = onward _ _ _ _ _ _ _ to-day (slot .put-byte3 .ensures) refl in
+    onward _ _ _ _ _ _ _ to-slot (counts .write-row .ensures) refl
 
 pub write-place-spec : {M : Type 1} → statement M
 write-place-spec =

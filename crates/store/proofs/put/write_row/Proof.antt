@@ -45,9 +45,14 @@ same-length c = search needs
 
 returns : tie.Need-returns
 unfolding rowBytes bytesOf
-returns c = let to-em = onward _ _ _ _ _ _ _ (c .before .before .before .before .before .before .before .before .before .before .before .before .before .before .put-u16 .ensures) (c .before .before .before .before .before .before .before .before .before .before .put-u162 .ensures) refl in
-    let to-rp = onward _ _ _ _ _ _ _ to-em (c .before .before .before .before .before .before .put-u163 .ensures) (omega arith) in
-    onward _ _ _ _ _ _ _ to-rp (c .before .before .put-u164 .ensures) (omega arith)
+returns c =
+    let rm = c .before .before in
+    let rp = rm .before .before .before .before in
+    let em = rp .before .before .before .before in
+    let ep = em .before .before .before .before in
+    let to-em = onward _ _ _ _ _ _ _ (ep .put-u16 .ensures) (em .put-u162 .ensures) refl in
+    let to-rp = onward _ _ _ _ _ _ _ to-em (rp .put-u163 .ensures) (omega arith) in
+    onward _ _ _ _ _ _ _ to-rp (rm .put-u164 .ensures) (omega arith)
 
 pub write-row-spec : {M : Type 1} → statement M
 write-row-spec =
