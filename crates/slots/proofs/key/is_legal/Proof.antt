@@ -2,30 +2,23 @@ use borrow.Author.Tests.{le-leb, lt-leb}
 use Rattle.slots.specs.Key.{isLegal}
 use Rattle.slots.proofs.key.is_legal.Statement.{statement}
 use Rattle.slots.proofs.key.is_legal.Tie as tie
-use Rattle.slots.proofs.key.is_legal.Reads as reads
-use Rattle.slots.proofs.key.is_legal.Lts as lts
 
--- src/key.rt:19:9
 returns : tie.Need-returns
 unfolding isLegal
 returns c = simp (lt-leb _ _ (c .if1 .taken))
 
--- src/key.rt:22:9
 returns-2 : tie.Need-returns-2
 unfolding isLegal
 returns-2 c = simp (le-leb _ _ (c .before .before .if1 .left), lt-leb _ _ (c .if2 .taken))
 
--- src/key.rt:25:9
 returns-3 : tie.Need-returns-3
 unfolding isLegal
 returns-3 c = simp (le-leb _ _ (c .before .before .before .before .if1 .left), le-leb _ _ (c .before .before .if2 .left), lt-leb _ _ (c .if3 .taken))
 
--- src/key.rt:28:9
 returns-4 : tie.Need-returns-4
 unfolding isLegal
 returns-4 c = simp (le-leb _ _ (c .before .before .before .before .before .before .if1 .left), le-leb _ _ (c .before .before .before .before .if2 .left), le-leb _ _ (c .before .before .if3 .left), lt-leb _ _ (c .if4 .taken))
 
--- src/key.rt:15:1
 returns-5 : tie.Need-returns-5
 unfolding isLegal
 returns-5 c = simp (le-leb _ _ (c .before .before .before .before .before .before .before .if1 .left), le-leb _ _ (c .before .before .before .before .before .if2 .left), le-leb _ _ (c .before .before .before .if3 .left), le-leb _ _ (c .before .if4 .left))

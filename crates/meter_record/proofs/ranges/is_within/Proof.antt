@@ -1,0 +1,28 @@
+use Rattle.meter_record.specs.Ranges.{isWithin}
+use borrow.Author.Tests.{lt-leb, le-leb}
+use mathlib.Core.Path.{sym, _∙_}
+use borrow.Author.Needs.{needs}
+use Rattle.meter_record.proofs.ranges.is_within.Statement.{statement}
+use Rattle.meter_record.proofs.ranges.is_within.Tie as tie
+
+returns : tie.Need-returns
+unfolding isWithin
+returns c = simp (lt-leb _ _ (c .if1 .taken))
+
+settings-right-requires : tie.Need-settings-right-requires
+settings-right-requires c κs = search needs
+
+bench-right-requires : tie.Need-bench-right-requires
+bench-right-requires c κs = search needs
+
+returns-2 : tie.Need-returns-2
+unfolding isWithin
+returns-2 c = simp (le-leb _ _ (c .before .before .before .if1 .left), sym (c .before .before .settings-right .ensures) ∙ c .before .if2 .taken) (c .bench-right .ensures)
+
+returns-3 : tie.Need-returns-3
+unfolding isWithin
+returns-3 c = simp (le-leb _ _ (c .before .before .if1 .left), sym (c .before .settings-right .ensures) ∙ c .if2 .left)
+
+pub is-within-spec : {M : Type 1} → statement M
+is-within-spec =
+    tie.close (tie.spec returns settings-right-requires bench-right-requires returns-2 returns-3)

@@ -1,0 +1,4 @@
+pub mod Power
+pub mod Ranges
+pub mod Record
+pub mod Display

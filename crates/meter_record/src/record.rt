@@ -1,0 +1,52 @@
+use figures::DisplayMask;
+use figures::Phases;
+use figures::Telemetry;
+use second::Protection;
+use second::Time;
+ghost use mathlib.Core.Path.{_≡_};
+ghost use Rattle.meter_record.specs.Record.{numberOf};
+
+// Eight bytes as one number, the first of them lowest.
+pub struct Password(pub u64);
+
+pub struct Passwords {
+    pub main: Password,
+    pub auxiliary: Password,
+}
+
+pub struct Record {
+    pub address: u8,
+    pub protection: Protection,
+    pub passwords: Passwords,
+    pub time: Time,
+    pub telemetry: Telemetry,
+    pub mask: DisplayMask,
+    pub active: Phases,
+    pub reactive: Phases,
+    // The interval, 15 or 30.
+    pub minutes: u8,
+    // The store's next place.
+    pub next: u16,
+}
+
+// What the bench's own calls answer.
+pub enum RecordAnswer {
+    // The record after the call.
+    Done(Record),
+    OutOfRange,
+    // A record outside its ranges was handed in.
+    Unsound,
+}
+
+impl RecordAnswer {
+    // Document 01's number.
+    pub fn number(self) -> u8
+        ensures { λ r. ⌜ r ≡ numberOf self ⌝ }
+    {
+        match self {
+            RecordAnswer::Done(_) => refusal::DONE,
+            RecordAnswer::OutOfRange => refusal::OUT_OF_RANGE,
+            RecordAnswer::Unsound => refusal::UNSOUND,
+        }
+    }
+}
