@@ -19,7 +19,7 @@ const HOUR_SECONDS: u32 = 3_600;
 
 /// Leap years of 2000 to 2099 are those that four divides (2000 is one by the rule of 400).
 fn leap(year: u8) -> bool {
-    year % 4 == 0
+    year.is_multiple_of(4)
 }
 
 pub fn month_length(year: u8, month: u8) -> u8 {
@@ -37,7 +37,7 @@ pub fn date_valid(year: u8, month: u8, day: u8) -> bool {
 
 /// Days from 2000-01-01, which is day 0.
 pub fn day_number(year: u8, month: u8, day: u8) -> u32 {
-    let years = 365 * u32::from(year) + (u32::from(year) + 3) / 4;
+    let years = 365 * u32::from(year) + u32::from(year).div_ceil(4);
     let months: u32 = (1..month).map(|m| u32::from(month_length(year, m))).sum();
     years + months + u32::from(day) - 1
 }
@@ -58,7 +58,11 @@ pub fn date_of(mut days: u32) -> (u8, u8, u8) {
 }
 
 fn year_length(year: u8) -> u32 {
-    if leap(year) { 366 } else { 365 }
+    if leap(year) {
+        366
+    } else {
+        365
+    }
 }
 
 /// 0 is Sunday; 2000-01-01 was a Saturday.

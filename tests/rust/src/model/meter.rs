@@ -81,13 +81,7 @@ pub struct Record {
 }
 
 /// A new record; a setting out of range is 27 (01, table).
-pub fn make(
-    address: u8,
-    minutes: u8,
-    telemetry: Telemetry,
-    clock: Moment,
-    season: Season,
-) -> Result<Record, Refusal> {
+pub fn make(address: u8, minutes: u8, telemetry: Telemetry, clock: Moment, season: Season) -> Result<Record, Refusal> {
     let record = Record {
         address,
         minutes,
@@ -103,7 +97,11 @@ pub fn make(
         auxiliary_password: FACTORY_PASSWORD,
         next: 0,
     };
-    if record.sound() { Ok(record) } else { Err(Refusal::OutOfRange) }
+    if record.sound() {
+        Ok(record)
+    } else {
+        Err(Refusal::OutOfRange)
+    }
 }
 
 impl Record {

@@ -98,7 +98,11 @@ fn check_parameter(function: u8, parameter: u8) -> Result<(), Refusal> {
 }
 
 fn require(holds: bool, refusal: Refusal) -> Result<(), Refusal> {
-    if holds { Ok(()) } else { Err(refusal) }
+    if holds {
+        Ok(())
+    } else {
+        Err(refusal)
+    }
 }
 
 // Function 3: parameter, offset, tariff, detail (002, figure 3).
@@ -358,9 +362,8 @@ mod tests {
     #[test]
     fn output_then_record_then_frame() {
         let mut record = meter(400, 100);
-        let outcome = |record: &mut Record, store: &mut [u8], room: usize| {
-            answer(record, store, &[9], &mut vec![0; room]).0
-        };
+        let outcome =
+            |record: &mut Record, store: &mut [u8], room: usize| answer(record, store, &[9], &mut vec![0; room]).0;
         assert_eq!(outcome(&mut record, &mut [], 63), Err(OutputTooShort));
         assert_eq!(outcome(&mut record, &mut [], 64), Err(Unsound));
         assert_eq!(outcome(&mut record, &mut empty_store(), 64), Err(NotHeard));
