@@ -1,0 +1,383 @@
+//! A frame on the wire and the meter's answer to it (01, "Frames", "Refusal numbers").
+
+use super::protection::Level;
+use super::{season, store, Phases, Protection, Record, Telemetry, STORE_BYTES};
+use crate::model::calendar::Moment;
+use crate::model::crc::{checks, crc16};
+use crate::model::refusal::Refusal::{self, *};
+use crate::model::{count_bytes, key_legal, slots, word};
+
+const READ: u8 = 3;
+const CHANGE: u8 = 16;
+const ZERO: u8 = 30;
+const UNLOCK: u8 = 31;
+const LOCK: u8 = 32;
+
+/// A frame is 4 to 64 bytes, and a reply's output has room for the longest.
+const FRAME_LENGTHS: std::ops::RangeInclusive<usize> = 4..=64;
+const OUTPUT_LENGTH: usize = 64;
+/// The top bit of the function in a refusal frame.
+const REFUSED: u8 = 0x80;
+
+/// Checks 1, 28, 2, then 10 to 15. Gives what happened and the length of the reply at the
+/// front of `out`; the output past it is unchanged.
+pub fn answer(record: &mut Record, store: &mut [u8], frame: &[u8], out: &mut [u8]) -> (Result<(), Refusal>, usize) {
+    if out.len() < OUTPUT_LENGTH {
+        return (Err(OutputTooShort), 0);
+    }
+    if !record.sound() || store.len() != STORE_BYTES {
+        return (Err(Unsound), 0);
+    }
+    if !heard(record.address, frame) {
+        return (Err(NotHeard), 0);
+    }
+    match obey(record, store, frame[1], &frame[2..frame.len() - 2]) {
+        Ok(data) => (Ok(()), reply(frame, 0, &data, out)),
+        Err(refusal) => match refusal.result() {
+            Some(result) => (Err(refusal), reply(frame, result, &[], out)),
+            None => (Err(refusal), 0),
+        },
+    }
+}
+
+/// A command of the right length and CRC, with the meter's own address or address 0.
+fn heard(address: u8, frame: &[u8]) -> bool {
+    FRAME_LENGTHS.contains(&frame.len()) && checks(frame) && (frame[0] == 0 || frame[0] == address)
+}
+
+/// The command's address and function (its top bit set where refused), the parameter, the result,
+/// the data, and the CRC. The data part begins at the fifth byte.
+fn reply(frame: &[u8], result: u8, data: &[u8], out: &mut [u8]) -> usize {
+    out[0] = frame[0];
+    out[1] = if result == 0 { frame[1] } else { frame[1] | REFUSED };
+    out[2] = reply_parameter(frame);
+    out[3] = result;
+    let end = 4 + data.len();
+    out[4..end].copy_from_slice(data);
+    let crc = crc16(&out[..end]);
+    out[end..end + 2].copy_from_slice(&crc.to_le_bytes());
+    end + 2
+}
+
+/// 0 for an unknown function and for a command without a parameter, as 31 and 32 are.
+fn reply_parameter(frame: &[u8]) -> u8 {
+    match frame[1] {
+        READ | CHANGE | ZERO => parameter(&frame[2..frame.len() - 2]),
+        _ => 0,
+    }
+}
+
+/// The message's first byte; a frame of 4 bytes counts as parameter 0.
+fn parameter(message: &[u8]) -> u8 {
+    message.first().copied().unwrap_or(0)
+}
+
+/// The message is what stands between function and CRC. Gives the reply's data.
+fn obey(record: &mut Record, store: &mut [u8], function: u8, message: &[u8]) -> Result<Vec<u8>, Refusal> {
+    match function {
+        READ => read(record, store, message),
+        CHANGE => change(record, message).map(|()| vec![]),
+        ZERO => zero(record, store, message).map(|()| vec![]),
+        UNLOCK => unlock(record, message).map(|()| vec![]),
+        LOCK => lock(record, message).map(|()| vec![]),
+        _ => Err(UnknownFunction),
+    }
+}
+
+/// Number 11 or 12, if it is one of them (design, "Decided" 5; 002, Appendix A).
+fn check_parameter(function: u8, parameter: u8) -> Result<(), Refusal> {
+    let open = match parameter {
+        8 | 9 | 40 => function == READ,
+        21 | 24 | 32 | 35 => function == READ || function == CHANGE,
+        27 | 28 => true,
+        36 => function == READ || function == ZERO,
+        37 => function == CHANGE,
+        _ => return Err(UnknownParameter),
+    };
+    require(open, NotOpen)
+}
+
+fn require(holds: bool, refusal: Refusal) -> Result<(), Refusal> {
+    if holds {
+        Ok(())
+    } else {
+        Err(refusal)
+    }
+}
+
+// Function 3: parameter, offset, tariff, detail (002, figure 3).
+
+fn read(record: &Record, store: &[u8], message: &[u8]) -> Result<Vec<u8>, Refusal> {
+    let parameter = parameter(message);
+    check_parameter(READ, parameter)?;
+    require(message.len() == 4, WrongLength)?;
+    let fields = [message[1], message[2], message[3]];
+    match parameter {
+        8 => read_powers(record.active, fields),
+        9 => read_powers(record.reactive, fields),
+        36 => read_slice(record, store, fields),
+        40 => read_six_slices(record, store, fields),
+        _ => {
+            require(fields == [0, 0, 0], WrongArgument)?;
+            Ok(read_plain(record, parameter))
+        }
+    }
+}
+
+/// Detail 0 answers the total and A, B, C, details 1 to 3 one phase (01, "Powers").
+fn read_powers(phases: Phases, fields: [u8; 3]) -> Result<Vec<u8>, Refusal> {
+    let Phases { a, b, c } = phases;
+    match fields {
+        [0, 0, 0] => Ok(float_bytes(&[phases.total(), a, b, c])),
+        [0, 0, 1] => Ok(float_bytes(&[a])),
+        [0, 0, 2] => Ok(float_bytes(&[b])),
+        [0, 0, 3] => Ok(float_bytes(&[c])),
+        _ => Err(WrongArgument),
+    }
+}
+
+fn float_bytes(floats: &[f32]) -> Vec<u8> {
+    floats.iter().flat_map(|float| float.to_bits().to_le_bytes()).collect()
+}
+
+/// Month, day and number in place of offset, tariff and detail (01, "Slices").
+fn read_slice(record: &Record, store: &[u8], key: [u8; 3]) -> Result<Vec<u8>, Refusal> {
+    let [month, day, number] = key;
+    require(key_legal(month, day, number, record.minutes), WrongArgument)?;
+    Ok(count_bytes(store::get(store, key)).to_vec())
+}
+
+/// The named slice and the five after it; the number is at most 42 or 90 (01, "Six slices").
+fn read_six_slices(record: &Record, store: &[u8], key: [u8; 3]) -> Result<Vec<u8>, Refusal> {
+    let [month, day, number] = key;
+    let last = slots(record.minutes) - 6;
+    require(key_legal(month, day, number, record.minutes) && number <= last, WrongArgument)?;
+    let row = |after| count_bytes(store::get(store, [month, day, number + after]));
+    Ok((0..6).flat_map(row).collect())
+}
+
+/// The parameters that use none of offset, tariff and detail.
+fn read_plain(record: &Record, parameter: u8) -> Vec<u8> {
+    match parameter {
+        21 => vec![record.address],
+        24 => telemetry_bytes(record.telemetry),
+        27 => record.switches.to_summer(record.clock.year).bytes().to_vec(),
+        28 => record.switches.to_winter(record.clock.year).bytes().to_vec(),
+        32 => record.clock.bytes().to_vec(),
+        _ => record.mask.to_vec(),
+    }
+}
+
+/// K, Ke, reserve: 4, 2 and 2 bytes (002, figure 13).
+fn telemetry_bytes(telemetry: Telemetry) -> Vec<u8> {
+    let mut bytes = telemetry.k.to_le_bytes().to_vec();
+    bytes.extend(telemetry.ke.to_le_bytes());
+    bytes.extend(telemetry.reserve.to_le_bytes());
+    bytes
+}
+
+// Function 16: parameter, detail, data (002, figure 5; design, "Decided" 2).
+
+fn change(record: &mut Record, message: &[u8]) -> Result<(), Refusal> {
+    let parameter = parameter(message);
+    check_parameter(CHANGE, parameter)?;
+    require(message.len() == 2 + data_length(parameter), WrongLength)?;
+    require(record.protection.level >= level_to_change(parameter), NoAccess)?;
+    let (detail, data) = (message[1], &message[2..]);
+    match parameter {
+        21 => change_address(record, detail, data[0])?,
+        24 => change_telemetry(record, detail, data)?,
+        27 => record.switches.summer = Some(season_date(detail, data)?),
+        28 => record.switches.winter = Some(season_date(detail, data)?),
+        32 => change_clock(record, detail, data)?,
+        35 => change_mask(record, detail, data)?,
+        _ => change_password(record, detail, data)?,
+    }
+    record.protection.renew();
+    Ok(())
+}
+
+fn data_length(parameter: u8) -> usize {
+    match parameter {
+        21 => 1,
+        24 | 37 => 8,
+        _ => 6,
+    }
+}
+
+/// Auxiliary opens only address, port settings (not of this meter) and display mask (01, "Protection").
+fn level_to_change(parameter: u8) -> Level {
+    match parameter {
+        21 | 35 => Level::Auxiliary,
+        _ => Level::Main,
+    }
+}
+
+fn change_address(record: &mut Record, detail: u8, address: u8) -> Result<(), Refusal> {
+    require(detail == 0 && address != 0, WrongArgument)?;
+    record.address = address;
+    Ok(())
+}
+
+/// K x Ke in its range and Ke the stored one (01, "Telemetry").
+fn change_telemetry(record: &mut Record, detail: u8, data: &[u8]) -> Result<(), Refusal> {
+    let wanted = Telemetry {
+        k: u32::from_le_bytes([data[0], data[1], data[2], data[3]]),
+        ke: word(&data[4..]),
+        reserve: word(&data[6..]),
+    };
+    require(detail == 0 && wanted.in_range() && wanted.ke == record.telemetry.ke, WrongArgument)?;
+    record.telemetry = wanted;
+    Ok(())
+}
+
+fn season_date(detail: u8, data: &[u8]) -> Result<Moment, Refusal> {
+    let date = Moment::from_bytes(data);
+    require(detail == 0 && season::writable(date), WrongArgument)?;
+    Ok(date)
+}
+
+/// Detail 2 sets date and time (002, section 4.9); the season stays (01, "Seasons").
+fn change_clock(record: &mut Record, detail: u8, data: &[u8]) -> Result<(), Refusal> {
+    let clock = Moment::from_bytes(data);
+    require(detail == 2 && clock.valid(), WrongArgument)?;
+    record.clock = clock;
+    Ok(())
+}
+
+/// Stored as written (01, "Display mask").
+fn change_mask(record: &mut Record, detail: u8, data: &[u8]) -> Result<(), Refusal> {
+    require(detail == 0, WrongArgument)?;
+    record.mask.copy_from_slice(data);
+    Ok(())
+}
+
+/// Detail 0 is the main password, 1 the auxiliary (002, section 4.14).
+fn change_password(record: &mut Record, detail: u8, data: &[u8]) -> Result<(), Refusal> {
+    let password = match detail {
+        0 => &mut record.main_password,
+        1 => &mut record.auxiliary_password,
+        _ => return Err(WrongArgument),
+    };
+    password.copy_from_slice(data);
+    Ok(())
+}
+
+// Function 30: parameter, 0 (002, figures 7 and 19).
+
+fn zero(record: &mut Record, store: &mut [u8], message: &[u8]) -> Result<(), Refusal> {
+    let parameter = parameter(message);
+    check_parameter(ZERO, parameter)?;
+    require(message.len() == 2, WrongLength)?;
+    require(record.protection.level == Level::Main, NoAccess)?;
+    require(message[1] == 0, WrongArgument)?;
+    match parameter {
+        27 => record.switches.summer = None,
+        28 => record.switches.winter = None,
+        _ => {
+            store::clear(store);
+            record.next = 0;
+        }
+    }
+    record.protection.renew();
+    Ok(())
+}
+
+// Functions 31 and 32 (002, figures 21 and 22; design, "Decided" 1).
+
+/// 0, level, password. The password is tested before the byte in the parameter's place.
+fn unlock(record: &mut Record, message: &[u8]) -> Result<(), Refusal> {
+    require(message.len() == 10, WrongLength)?;
+    let (level, password) = match message[1] {
+        0 => (Level::Main, record.main_password),
+        1 => (Level::Auxiliary, record.auxiliary_password),
+        _ => return Err(WrongArgument),
+    };
+    require(message[2..] == password, NoAccess)?;
+    require(message[0] == 0, WrongArgument)?;
+    record.protection.open(level);
+    Ok(())
+}
+
+/// 0, 0; needs no access.
+fn lock(record: &mut Record, message: &[u8]) -> Result<(), Refusal> {
+    require(message.len() == 2, WrongLength)?;
+    require(message == [0, 0], WrongArgument)?;
+    record.protection = Protection::SHUT;
+    Ok(())
+}
+
+#[cfg(test)]
+mod tests {
+    use super::*;
+    use crate::model::crc::sealed;
+    use crate::model::meter::{empty_store, make, Season, FACTORY_PASSWORD};
+
+    const NEW_YEAR: Moment = Moment { year: 0, month: 1, day: 1, hour: 0, minute: 0, second: 0 };
+
+    fn meter(k: u32, ke: u16) -> Record {
+        make(1, 30, Telemetry { k, ke, reserve: 0 }, NEW_YEAR, Season::Winter).expect("in range")
+    }
+
+    /// The number that the bytes, sealed, get from the meter.
+    fn say(record: &mut Record, bytes: &[u8]) -> u8 {
+        let (outcome, _) = answer(record, &mut empty_store(), &sealed(bytes.to_vec()), &mut [0; 64]);
+        outcome.map_or_else(Refusal::number, |()| 0)
+    }
+
+    fn open_main(record: &mut Record) {
+        assert_eq!(say(record, &[&[1, 31, 0, 0][..], &FACTORY_PASSWORD].concat()), 0);
+    }
+
+    fn say_telemetry(record: &mut Record, k: u32, ke: u16) -> u8 {
+        say(record, &[&[1, 16, 24, 0][..], &k.to_le_bytes(), &ke.to_le_bytes(), &[0, 0]].concat())
+    }
+
+    #[test]
+    fn p5() {
+        let mut record = meter(2_000, 20);
+        open_main(&mut record);
+        let answers = [2_000, 250_000, 1_999, 250_001].map(|k| say_telemetry(&mut record, k, 20));
+        assert_eq!(answers, [0, 0, 15, 15]);
+        assert_eq!(record.telemetry.k, 250_000);
+    }
+
+    #[test]
+    fn p6() {
+        let mut record = meter(400, 100);
+        open_main(&mut record);
+        assert_eq!([400, 50_000].map(|k| say_telemetry(&mut record, k, 100)), [0, 0]);
+    }
+
+    #[test]
+    fn p10_by_frames() {
+        let mut record = meter(400, 100);
+        open_main(&mut record);
+        (0..239).for_each(|_| record.second());
+        assert_eq!(say(&mut record, &[1, 30, 27, 0]), 0, "239 quiet seconds keep the level");
+        (0..240).for_each(|_| record.second());
+        assert_eq!(say(&mut record, &[1, 30, 27, 0]), 14, "the 240th ends it");
+    }
+
+    #[test]
+    fn output_then_record_then_frame() {
+        let mut record = meter(400, 100);
+        let outcome =
+            |record: &mut Record, store: &mut [u8], room: usize| answer(record, store, &[9], &mut vec![0; room]).0;
+        assert_eq!(outcome(&mut record, &mut [], 63), Err(OutputTooShort));
+        assert_eq!(outcome(&mut record, &mut [], 64), Err(Unsound));
+        assert_eq!(outcome(&mut record, &mut empty_store(), 64), Err(NotHeard));
+        record.address = 0;
+        assert_eq!(outcome(&mut record, &mut empty_store(), 64), Err(Unsound));
+    }
+
+    #[test]
+    fn output_past_the_reply_is_unchanged() {
+        let mut out = [0xEE; 70];
+        let frame = sealed(vec![1, 3, 21, 0, 0, 0]);
+        let (outcome, length) = answer(&mut meter(400, 100), &mut empty_store(), &frame, &mut out);
+        assert_eq!((outcome, length), (Ok(()), 7));
+        assert_eq!(out[..7], sealed(vec![1, 3, 21, 0, 1]));
+        assert!(out[7..].iter().all(|byte| *byte == 0xEE));
+    }
+}

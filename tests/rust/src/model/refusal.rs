@@ -1,0 +1,91 @@
+//! Refusal numbers (01, "Refusal numbers"); 0, done, is the Ok of a Result.
+
+#[derive(Clone, Copy, Debug, PartialEq, Eq)]
+pub enum Refusal {
+    /// 1: lent output too short
+    OutputTooShort,
+    /// 2: length, CRC or address wrong; the meter keeps silent
+    NotHeard,
+    /// 10
+    UnknownFunction,
+    /// 11
+    UnknownParameter,
+    /// 12: parameter not open to this function
+    NotOpen,
+    /// 13: length wrong for it
+    WrongLength,
+    /// 14: level too low, or wrong password
+    NoAccess,
+    /// 15
+    WrongArgument,
+    /// 20: no ask open
+    NoAsk,
+    /// 21: ask already open
+    AskOpen,
+    /// 22: interval or report day not in the log
+    NotInLog,
+    /// 23: reply not well formed
+    Malformed,
+    /// 24: the meter's result is not 0, and is returned
+    MeterRefused(u8),
+    /// 25: other counts than those measured
+    OtherCounts,
+    /// 26: power reply with an infinity or no number
+    NotFinite,
+    /// 27: bench setting, new log's header or request out of range
+    OutOfRange,
+    /// 28: log with a wrong header, length or cell; record outside its ranges
+    Unsound,
+    /// 30 to 35: a file's mark, version, header field, length, CRC, cell
+    FileMark,
+    FileVersion,
+    FileHeader,
+    FileLength,
+    FileCrc,
+    FileCell,
+}
+
+impl Refusal {
+    /// The number of document 01's table.
+    pub fn number(self) -> u8 {
+        use Refusal::*;
+        match self {
+            OutputTooShort => 1,
+            NotHeard => 2,
+            UnknownFunction => 10,
+            UnknownParameter => 11,
+            NotOpen => 12,
+            WrongLength => 13,
+            NoAccess => 14,
+            WrongArgument => 15,
+            NoAsk => 20,
+            AskOpen => 21,
+            NotInLog => 22,
+            Malformed => 23,
+            MeterRefused(_) => 24,
+            OtherCounts => 25,
+            NotFinite => 26,
+            OutOfRange => 27,
+            Unsound => 28,
+            FileMark => 30,
+            FileVersion => 31,
+            FileHeader => 32,
+            FileLength => 33,
+            FileCrc => 34,
+            FileCell => 35,
+        }
+    }
+
+    /// The result byte of a refusal frame: Appendix B's code for that fault, else 3
+    /// (01, after the table; design, "Decided" 4). Silent refusals have none.
+    pub fn result(self) -> Option<u8> {
+        use Refusal::*;
+        match self {
+            UnknownFunction => Some(1),
+            UnknownParameter => Some(2),
+            NoAccess => Some(4),
+            NotOpen | WrongLength | WrongArgument => Some(3),
+            _ => None,
+        }
+    }
+}

@@ -1,0 +1,108 @@
+//! The console run as a program: the meter's script, and a short talk over log and reader.
+
+use std::io::Write;
+use std::process::{Command, Stdio};
+
+/// What the console prints for these lines.
+fn console(input: &str) -> String {
+    let mut child = Command::new(env!("CARGO_BIN_EXE_console"))
+        .stdin(Stdio::piped())
+        .stdout(Stdio::piped())
+        .spawn()
+        .expect("the console starts");
+    let mut stdin = child.stdin.take().expect("a pipe");
+    let text = input.to_owned();
+    let feed = std::thread::spawn(move || stdin.write_all(text.as_bytes()));
+    let output = child.wait_with_output().expect("the console ends");
+    feed.join().expect("fed").expect("all of it");
+    String::from_utf8(output.stdout).expect("plain text")
+}
+
+/// Each line with its answer.
+fn talk(lines: &[(&str, &str)]) {
+    let input: String = lines.iter().map(|(line, _)| format!("{line}\n")).collect();
+    let output = console(&input);
+    let answers: Vec<&str> = output.lines().collect();
+    assert_eq!(answers.len(), lines.len());
+    for ((line, expected), answer) in lines.iter().zip(answers) {
+        assert_eq!(answer, *expected, "to {line}");
+    }
+}
+
+#[test]
+fn the_meters_script() {
+    let answers = console(include_str!("../scripts/meter.in"));
+    for (at, (answer, expected)) in answers.lines().zip(include_str!("../scripts/meter.out").lines()).enumerate() {
+        assert_eq!(answer, expected, "answer {}", at + 1);
+    }
+    assert_eq!(answers, include_str!("../scripts/meter.out"));
+}
+
+#[test]
+fn log_and_reader() {
+    let path = std::env::temp_dir().join(format!("metlazuel-check-{}.gel", std::process::id()));
+    let path = path.to_str().expect("a plain path");
+    talk(&[
+        ("ask 1 0 0", "28"),
+        ("reply", "28"),
+        ("report 0", "28"),
+        ("cell 0 0", "28"),
+        (&format!("save {path}"), "28"),
+        ("lapse", "0"),
+        ("open", "0 closed"),
+        ("log 2024 5 17 1 20 100", "27"),
+        ("log 1999 5 17 1 30 100", "27"),
+        ("log 2024 5 17 1 30 100", "0"),
+        ("reply 00", "20"),
+        ("ask 1 0 48", "22"),
+        ("ask 1 1 0", "22"),
+        ("ask 1 0 0", "0 010324051100536B"),
+        ("ask 1 0 48", "21"),
+        ("open", "0 1 0 0"),
+        ("log 2024 5 17 0 30 100", "27"),
+        ("open", "0 1 0 0"),
+        ("reply", "23"),
+        ("reply 010324", "23"),
+        ("open", "0 1 0 0"),
+        // 01 83 24 03 and its CRC
+        ("reply 01832403AB31", "24 3"),
+        ("open", "0 closed"),
+        ("cell 0 0", "0 gap"),
+        ("cell 0 48", "22"),
+        ("report 0", "0 48 0 0 0 0 0 0"),
+        ("report 1", "22"),
+        (&format!("save {path}"), "0"),
+        ("log 2000 1 1 62 15 1", "0"),
+        ("ask 9 61 95", "0 09032403025FFF2A"),
+        (&format!("load {path}"), "0"),
+        ("open", "0 closed"),
+        ("report 0", "0 48 0 0 0 0 0 0"),
+        ("load /nowhere/at/all", "?"),
+        ("save /nowhere/at/all", "?"),
+        ("request 1 36 5 17 0", "0 010324051100536B"),
+        ("request 1 37 0 0 0", "27"),
+        ("decode 1 36 5 17 0", "23"),
+        ("decode 1 37 0 0 0", "27"),
+        ("decode 1 36 5 17 0 01832403AB31", "24 3"),
+    ]);
+    std::fs::remove_file(path).expect("the file was written");
+}
+
+#[test]
+fn the_report_of_document_01_with_p9() {
+    talk(&[
+        ("log 2024 5 17 1 30 100", "0"),
+        ("ask 1 0 0", "0 010324051100536B"),
+        ("reply 010324000000000000000000D63A", "0"),
+        ("cell 0 0", "0 empty"),
+        ("ask 1 0 0", "0 010324051100536B"),
+        ("reply 010324000C00000003000000D62B", "0"),
+        ("ask 1 0 0", "0 010324051100536B"),
+        ("reply 010324000D0000000300000017E7", "25"),
+        ("open", "0 closed"),
+        ("cell 0 0", "0 measured 12 0 3 0"),
+        ("ask 1 0 1", "0 01032405110192AB"),
+        ("reply 010324000000000000000000D63A", "0"),
+        ("report 0", "0 46 1 1 12 0 3 0"),
+    ]);
+}
