@@ -48,8 +48,3 @@ bytes-part s a k h i = go (ltb i k) refl
     go false e =
         let z : length (take k (drop a s)) ≤ i = simp length-take (omega (arith, ltb-false i k e)) in
         rw (List·getD-eq-default (take k (drop a s)) 0 {n = i} z) (omega arith)
-
--- ---- bytes written one run behind the other
-
-pub onward : (s t u : List ℕ) (i j : ℕ) (xs ys : List ℕ) → t ≡ written s i xs → u ≡ written t j ys → i + length xs ≡ j → u ≡ written s i (xs ++ ys)
-onward s t u i j xs ys p q e = q ∙ ap₂ (λ (x : List ℕ) (k : ℕ). written x k ys) p (sym e) ∙ sym (written-append s i xs ys)

@@ -8,7 +8,7 @@ use mathlib.Core.List.{List, _++_}
 use lib.ListN.{length, getD, drop, length-replicate, getD-replicate}
 use borrow.Author.Tests.{le-leb}
 use Rattle.words.specs.Place.{written, written-fits}
-use Rattle.log.specs.ByteLaws.{onward}
+use Rattle.words.specs.Place.{onward}
 use Rattle.log.specs.Header.{cellsOf, lengthOf, isHeader, headerBytes, soundOf}
 use Rattle.log.specs.HeaderLaws.{length-headerBytes}
 use Rattle.log.specs.Cell.{cellBytes}

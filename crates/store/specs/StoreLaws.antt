@@ -24,9 +24,6 @@ store-filled = refl
 
 -- ---- bytes put one behind the other
 
-pub onward : (s t u : List ℕ) (i j : ℕ) (xs ys : List ℕ) → t ≡ written s i xs → u ≡ written t j ys → i + length xs ≡ j → u ≡ written s i (xs ++ ys)
-onward s t u i j xs ys p q e = q ∙ ap₂ (λ (x : List ℕ) (k : ℕ). written x k ys) p (sym e) ∙ sym (written-append s i xs ys)
-
 -- ---- a clear, byte by byte
 
 pub clear-one : (s t : List ℕ) (i : ℕ) → i < length s → t ≡ replicate i 0 ++ drop i s → set t i 0 ≡ replicate (i + 1) 0 ++ drop (i + 1) s

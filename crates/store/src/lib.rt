@@ -8,6 +8,7 @@ mod read;
 pub use find::PLACES;
 pub use find::STORE_BYTES;
 pub use put::clear;
+pub use put::put_row;
 pub use put::put_slice;
 pub use read::six_of;
 pub use read::slice_of;

@@ -1,6 +1,6 @@
 // Slices, put into the store, and the store made empty.
 ghost use mathlib.Core.Path.{_≡_};
-ghost use Prim.Native.Nat.{_*_, _<_};
+ghost use Prim.Native.Nat.{_*_};
 ghost use Rattle.words.specs.Place.{written};
 ghost use Rattle.store.specs.Store.{rowBytes, placeBytesOf, putStore, putNext, cleared};
 use crate::find::PLACE_BYTES;
@@ -32,18 +32,19 @@ fn write_place(store: &mut [u8], i: u16, k: Key, counts: [u16; 4])
     words::put_byte(store, at, k.month);
     words::put_byte(store, at + 1, k.day);
     words::put_byte(store, at + 2, k.number);
-    write_row(store, at + 3, counts);
+    put_row(store, at + 3, counts);
 }
 
-// Four counts, lowest byte first, from a byte of the store on; no place begins as far on as the bound.
-fn write_row(store: &mut [u8], at: usize, counts: [u16; 4])
-    requires { ⌜ at < 1000000 ⌝ }
-    ensures { λ _. ⌜ now (store .exit) ≡ written (now (store .entry)) at (rowBytes counts) ⌝ }
+// Four counts, lowest byte first, from a byte on.
+pub fn put_row(out: &mut [u8], at: usize, counts: [u16; 4])
+    ensures { λ _. ⌜ now (out .exit) ≡ written (now (out .entry)) at (rowBytes counts) ⌝ }
 {
-    words::put_u16(store, at, counts[0]);
-    words::put_u16(store, at + 2, counts[1]);
-    words::put_u16(store, at + 4, counts[2]);
-    words::put_u16(store, at + 6, counts[3]);
+    if at < out.len() {
+        words::put_u16(out, at, counts[0]);
+        words::put_u16(out, at + 2, counts[1]);
+        words::put_u16(out, at + 4, counts[2]);
+        words::put_u16(out, at + 6, counts[3]);
+    }
 }
 
 // Every place unused.

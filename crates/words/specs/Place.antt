@@ -36,6 +36,10 @@ written-append s i (x ∷ xs) ys =
     written-append (set s i x) (suc i) xs ys
     ∙ ap (λ (k : ℕ). written (written (set s i x) (suc i) xs) k ys) (suc-add i (length xs) ∙ sym (add-suc i (length xs)))
 
+-- bytes put one behind the other by two stores
+pub onward : (s t u : List ℕ) (i j : ℕ) (xs ys : List ℕ) → t ≡ written s i xs → u ≡ written t j ys → i + length xs ≡ j → u ≡ written s i (xs ++ ys)
+onward s t u i j xs ys p q e = q ∙ ap₂ (λ (x : List ℕ) (k : ℕ). written x k ys) p (sym e) ∙ sym (written-append s i xs ys)
+
 pub written-cons : (s : List ℕ) (i a b : ℕ) (bs : List ℕ)
     → written s i (a ∷ b ∷ bs) ≡ written (written s i (a ∷ [])) (i + 1) (b ∷ bs)
 written-cons s i a b bs = written-append s i (a ∷ []) (b ∷ bs)

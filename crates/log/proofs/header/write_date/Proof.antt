@@ -1,5 +1,5 @@
 use mathlib.Core.Path.{refl}
-use Rattle.log.specs.ByteLaws.{onward}
+use Rattle.words.specs.Place.{onward}
 use Rattle.log.specs.Header.{dateBytes}
 use borrow.Author.Needs.{needs}
 use Rattle.log.proofs.header.write_date.Statement.{statement}

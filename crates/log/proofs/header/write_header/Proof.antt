@@ -1,5 +1,5 @@
 use mathlib.Core.Path.{refl}
-use Rattle.log.specs.ByteLaws.{onward}
+use Rattle.words.specs.Place.{onward}
 use Rattle.words.specs.Number.{bytesOf}
 use Rattle.log.specs.Header.{dateBytes}
 use Rattle.log.specs.Header.{headerBytes}

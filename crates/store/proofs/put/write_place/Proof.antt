@@ -1,4 +1,4 @@
-use Rattle.store.specs.StoreLaws.{onward}
+use Rattle.words.specs.Place.{onward}
 use Rattle.store.specs.Store.{placeBytesOf}
 use mathlib.Core.Path.{refl}
 use borrow.Author.Needs.{needs}
@@ -23,11 +23,11 @@ add-put-byte-2 c = search needs
 put-byte-requires-3 : tie.Need-put-byte-requires-3
 put-byte-requires-3 c κs = search needs
 
-add-write-row : tie.Need-add-write-row
-add-write-row c = search needs
+add-put-row : tie.Need-add-put-row
+add-put-row c = search needs
 
-write-row-requires : tie.Need-write-row-requires
-write-row-requires c κs = search needs
+put-row-requires : tie.Need-put-row-requires
+put-row-requires c κs = search needs
 
 same-length : tie.Need-same-length
 same-length c = search needs
@@ -41,7 +41,7 @@ returns c =
     let month = day .before .before .before .before in
     let to-day = onward _ _ _ _ _ _ _ (month .put-byte .ensures) (day .put-byte2 .ensures) refl in
     let to-slot = onward _ _ _ _ _ _ _ to-day (slot .put-byte3 .ensures) refl in
-    onward _ _ _ _ _ _ _ to-slot (counts .write-row .ensures) refl
+    onward _ _ _ _ _ _ _ to-slot (counts .put-row .ensures) refl
 
 pub write-place-spec : {M : Type 1} → statement M
 write-place-spec =
@@ -53,7 +53,7 @@ write-place-spec =
     put-byte-requires-2
     add-put-byte-2
     put-byte-requires-3
-    add-write-row
-    write-row-requires
+    add-put-row
+    put-row-requires
     same-length
     returns)

@@ -1,11 +1,11 @@
-use Rattle.store.specs.StoreLaws.{onward}
+use Rattle.words.specs.Place.{onward, written-past}
 use Rattle.store.specs.Store.{rowBytes}
 use Rattle.words.specs.Number.{bytesOf}
 use native.Mathlib.Omega.{arith}
-use mathlib.Core.Path.{refl}
+use mathlib.Core.Path.{refl, sym}
 use borrow.Author.Needs.{needs}
-use Rattle.store.proofs.put.write_row.Statement.{statement}
-use Rattle.store.proofs.put.write_row.Tie as tie
+use Rattle.store.proofs.put.put_row.Statement.{statement}
+use Rattle.store.proofs.put.put_row.Tie as tie
 
 array-read-put-u16 : tie.Need-array-read-put-u16
 array-read-put-u16 c = search needs
@@ -54,8 +54,11 @@ returns c =
     let to-rp = onward _ _ _ _ _ _ _ to-em (rp .put-u163 .ensures) (omega arith) in
     onward _ _ _ _ _ _ _ to-rp (rm .put-u164 .ensures) (omega arith)
 
-pub write-row-spec : {M : Type 1} → statement M
-write-row-spec =
+returns-2 : tie.Need-returns-2
+returns-2 c = sym (written-past _ _ _ (c .if1 .left))
+
+pub put-row-spec : {M : Type 1} → statement M
+put-row-spec =
     tie.close
     (tie.spec
     array-read-put-u16
@@ -70,4 +73,5 @@ write-row-spec =
     array-read-put-u16-4
     put-u16-requires-4
     same-length
-    returns)
+    returns
+    returns-2)

@@ -1,0 +1,96 @@
+-- The data of a reply. Source: document 01, "The bench meter's record", a parameter a bullet; the forms of the figures are those that the
+-- reader decodes (`figures`).
+use mathlib.Core.Path.{_≡_, refl, _∙_, ap}
+use mathlib.Core.Bool.{Bool, true, false, cond}
+use mathlib.Core.List.{List, [], _∷_, _++_}
+use Prim.Native.Nat.{ℕ, _≤_}
+use lib.Dec.{eqb, lit≤}
+use lib.Ieee.{Float}
+use lib.ListN.{length}
+use Rattle.calendar.specs.declared.time.DateTime.{DateTime}
+use Rattle.figures.specs.Clock.{dateTimeBytes}
+use Rattle.figures.specs.Mask.{maskBytes}
+use Rattle.figures.specs.Power.{powerBytes, powersBytes}
+use Rattle.figures.specs.Telemetry.{telemetryBytes}
+use Rattle.figures.specs.declared.power.Phases.{Phases}
+use Rattle.frame.specs.declared.code.Function.{Function}
+use Rattle.frame.specs.declared.code.Function.the-variants as function
+use Rattle.frame.specs.declared.code.Parameter.{Parameter}
+use Rattle.frame.specs.declared.code.Parameter.the-variants as parameter
+use Rattle.request.specs.Subject.{keyOf}
+use Rattle.request.specs.declared.request.Request.{Request}
+use Rattle.second.specs.Season.{summerDate, winterDate}
+use Rattle.second.specs.declared.season.Time.{Time}
+use Rattle.store.specs.Store.{sliceOf, sixOf, rowBytes}
+use Rattle.meter_record.specs.declared.record.Record.{Record}
+use Rattle.meter.specs.Command.{functionIn, parameterIn, requestIn}
+
+-- "details 1 to 3 one phase"
+unfoldable pub phase : Phases → ℕ → Float
+phase p detail = cond (eqb detail 1) (p .a) (cond (eqb detail 2) (p .b) (p .c))
+
+-- "detail 0 answers the total and A, B, C"
+unfoldable pub powerData : Phases → ℕ → List ℕ
+unfolding phase
+powerData p detail = cond (eqb detail 0) (powersBytes p) (powerBytes (phase p detail))
+
+-- "the automatic one, which reads as that of the clock's year"
+abbrev pub summerShown : Time → DateTime
+summerShown t = summerDate (t .summer) (t .clock .date .year)
+
+abbrev pub winterShown : Time → DateTime
+winterShown t = winterDate (t .winter) (t .clock .date .year)
+
+-- "six rows of four counts"
+unfoldable pub rowsBytes : List (List ℕ) → List ℕ
+rowsBytes [] = []
+rowsBytes (row ∷ rows) = rowBytes row ++ rowsBytes rows
+
+-- the figures of a parameter that is read, from the record and the store
+abbrev pub figuresOf : Parameter → Record → List ℕ → Request → List ℕ
+figuresOf parameter.ActivePower r s q = powerData (r .active) (q .detail)
+figuresOf parameter.ReactivePower r s q = powerData (r .reactive) (q .detail)
+figuresOf parameter.Address r s q = r .address ∷ []
+figuresOf parameter.Telemetry r s q = telemetryBytes (r .telemetry)
+figuresOf parameter.SummerDate r s q = dateTimeBytes (summerShown (r .time))
+figuresOf parameter.WinterDate r s q = dateTimeBytes (winterShown (r .time))
+figuresOf parameter.Clock r s q = dateTimeBytes (r .time .clock)
+figuresOf parameter.DisplayMask r s q = maskBytes (r .mask)
+figuresOf parameter.Slice r s q = rowBytes (sliceOf s (keyOf q))
+figuresOf parameter.SixSlices r s q = rowsBytes (sixOf s (keyOf q))
+figuresOf parameter.Password r s q = []
+figuresOf parameter.Unknown r s q = []
+
+-- how many bytes they are
+unfoldable pub powerSize : ℕ → ℕ
+powerSize detail = cond (eqb detail 0) 16 4
+
+abbrev pub sizeOf : Parameter → ℕ → ℕ
+sizeOf parameter.ActivePower detail = powerSize detail
+sizeOf parameter.ReactivePower detail = powerSize detail
+sizeOf parameter.Address detail = 1
+sizeOf parameter.Telemetry detail = 8
+sizeOf parameter.SummerDate detail = 6
+sizeOf parameter.WinterDate detail = 6
+sizeOf parameter.Clock detail = 6
+sizeOf parameter.DisplayMask detail = 6
+sizeOf parameter.Slice detail = 8
+sizeOf parameter.SixSlices detail = 48
+sizeOf parameter.Password detail = 0
+sizeOf parameter.Unknown detail = 0
+
+-- only a read has data
+abbrev pub isRead : Function → Bool
+isRead function.Read = true
+isRead function.Change = false
+isRead function.Zero = false
+isRead function.Unlock = false
+isRead function.Lock = false
+isRead function.Unknown = false
+
+-- the data of the reply to a command that is done
+unfoldable pub dataOf : Record → List ℕ → List ℕ → List ℕ
+dataOf r s f = cond (isRead (functionIn f)) (figuresOf (parameterIn f) r s (requestIn f)) []
+
+unfoldable pub dataSize : List ℕ → ℕ
+dataSize f = cond (isRead (functionIn f)) (sizeOf (parameterIn f) ((requestIn f) .detail)) 0

@@ -1,0 +1,151 @@
+// The data of a reply: a parameter's figures, written into the part of the reply that is lent for them.
+use crate::command;
+use calendar::DateTime;
+use figures::Phases;
+use frame::code::Function;
+use frame::code::Parameter;
+use meter_record::Record;
+use request::Request;
+use second::Time;
+ghost use mathlib.Core.Path.{_≡_};
+ghost use Rattle.words.specs.Place.{written};
+ghost use Rattle.meter.specs.Reading.{phase, powerData, summerShown, winterShown, rowsBytes, figuresOf, powerSize, sizeOf, isRead, dataOf, dataSize};
+ghost use Rattle.meter.specs.Command.{functionIn};
+
+fn phase(p: Phases, detail: u8) -> f32
+    ensures { λ r. ⌜ r ≡ phase p detail ⌝ }
+{
+    match detail {
+        1 => p.a,
+        2 => p.b,
+        _ => p.c,
+    }
+}
+
+// The total and the three phases, or one of them.
+fn put_power(out: &mut [u8], p: Phases, detail: u8)
+    ensures { λ _. ⌜ now (out .exit) ≡ written (now (out .entry)) 0 (powerData p detail) ⌝ }
+{
+    if detail == 0 {
+        figures::put_powers(out, p);
+    } else {
+        figures::put_power(out, 0, phase(p, detail));
+    }
+}
+
+// The automatic dates read as those of the clock's year.
+fn summer_shown(t: Time) -> DateTime
+    ensures { λ r. ⌜ r ≡ summerShown t ⌝ }
+{
+    let summer = t.summer;
+    let clock = t.clock;
+    let date = clock.date;
+    second::summer_date(summer, date.year)
+}
+
+fn winter_shown(t: Time) -> DateTime
+    ensures { λ r. ⌜ r ≡ winterShown t ⌝ }
+{
+    let winter = t.winter;
+    let clock = t.clock;
+    let date = clock.date;
+    second::winter_date(winter, date.year)
+}
+
+// Six rows one behind the other.
+fn put_six(out: &mut [u8], rows: [[u16; 4]; 6])
+    ensures { λ _. ⌜ now (out .exit) ≡ written (now (out .entry)) 0 (rowsBytes rows) ⌝ }
+{
+    store::put_row(out, 0, rows[0]);
+    store::put_row(out, 8, rows[1]);
+    store::put_row(out, 16, rows[2]);
+    store::put_row(out, 24, rows[3]);
+    store::put_row(out, 32, rows[4]);
+    store::put_row(out, 40, rows[5]);
+}
+
+// The figures of a parameter that is read.
+fn put_figures(out: &mut [u8], p: Parameter, r: Record, store: &[u8], q: Request)
+    ensures { λ _. ⌜ now (out .exit) ≡ written (now (out .entry)) 0 (figuresOf p r (now (store .entry)) q) ⌝ }
+{
+    let active = r.active;
+    let reactive = r.reactive;
+    let telemetry = r.telemetry;
+    let mask = r.mask;
+    let time = r.time;
+    let clock = time.clock;
+    match p {
+        Parameter::ActivePower => put_power(out, active, q.detail),
+        Parameter::ReactivePower => put_power(out, reactive, q.detail),
+        Parameter::Address => words::put_byte(out, 0, r.address),
+        Parameter::Telemetry => figures::put_telemetry(out, telemetry),
+        Parameter::SummerDate => figures::put_date_time(out, summer_shown(time)),
+        Parameter::WinterDate => figures::put_date_time(out, winter_shown(time)),
+        Parameter::Clock => figures::put_date_time(out, clock),
+        Parameter::DisplayMask => figures::put_display_mask(out, mask),
+        Parameter::Slice => store::put_row(out, 0, store::slice_of(store, request::key_of(q))),
+        Parameter::SixSlices => put_six(out, store::six_of(store, request::key_of(q))),
+        Parameter::Password => {}
+        Parameter::Unknown => {}
+    }
+}
+
+// How many bytes a parameter's figures have.
+fn figure_bytes(p: Parameter, detail: u8) -> usize
+    ensures { λ r. ⌜ r ≡ sizeOf p detail ⌝ }
+{
+    match p {
+        Parameter::ActivePower => power_bytes(detail),
+        Parameter::ReactivePower => power_bytes(detail),
+        Parameter::Address => 1,
+        Parameter::Telemetry => 8,
+        Parameter::SummerDate => 6,
+        Parameter::WinterDate => 6,
+        Parameter::Clock => 6,
+        Parameter::DisplayMask => 6,
+        Parameter::Slice => 8,
+        Parameter::SixSlices => 48,
+        Parameter::Password => 0,
+        Parameter::Unknown => 0,
+    }
+}
+
+fn power_bytes(detail: u8) -> usize
+    ensures { λ r. ⌜ r ≡ powerSize detail ⌝ }
+{
+    if detail == 0 { 16 } else { 4 }
+}
+
+// Only a read has data.
+fn is_read(frame: &[u8]) -> bool
+    ensures { λ r. ⌜ r ≡ isRead (functionIn (now (frame .entry))) ⌝ }
+{
+    match command::function_in(frame) {
+        Function::Read => true,
+        Function::Change => false,
+        Function::Zero => false,
+        Function::Unlock => false,
+        Function::Lock => false,
+        Function::Unknown => false,
+    }
+}
+
+// The data of the reply to a command that is done.
+pub fn put_data(out: &mut [u8], r: Record, store: &[u8], frame: &[u8])
+    ensures { λ _. ⌜ now (out .exit) ≡ written (now (out .entry)) 0 (dataOf r (now (store .entry)) (now (frame .entry))) ⌝ }
+{
+    if is_read(frame) {
+        let p = command::parameter_in(frame);
+        put_figures(out, p, r, store, command::request_in(frame));
+    }
+}
+
+pub fn data_size(frame: &[u8]) -> usize
+    ensures { λ n. ⌜ n ≡ dataSize (now (frame .entry)) ⌝ }
+{
+    if is_read(frame) {
+        let q = command::request_in(frame);
+        return figure_bytes(command::parameter_in(frame), q.detail);
+    }
+    0
+}
