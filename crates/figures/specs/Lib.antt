@@ -3,3 +3,4 @@ pub mod Telemetry
 pub mod Mask
 pub mod Power
 pub mod PowerLaws
+pub mod Within

@@ -3,7 +3,7 @@
 use mathlib.Core.Path.{_≡_, ap, _∙_}
 use mathlib.Core.Bool.{true}
 use mathlib.Core.List.{List, _++_, append-assoc}
-use Prim.Native.Nat.{ℕ, _+_, _%_, _^_}
+use Prim.Native.Nat.{ℕ, _+_}
 use native.Mathlib.Nat.{mod-eq-of-lt}
 use lib.Dec.{T}
 use lib.Ieee.{Float, binary32, fits, ofBits}
@@ -33,7 +33,8 @@ total-fits p = add-fits binary32 _ (p .c)
 pub floatAt-front : (x : Float) (rest : List ℕ) → T (fits binary32 x) → floatAt (powerBytes x ++ rest) 0 ≡ x
 unfolding floatAt powerBytes
 floatAt-front x rest h =
-    let bits : numberAt (bytesOf 4 (bitsOf x) ++ rest) 0 4 ≡ bitsOf x = numberAt-front 4 (bitsOf x) rest ∙ mod-eq-of-lt (toBits-lt binary32 x h) in
+    let bits : numberAt (bytesOf 4 (bitsOf x) ++ rest) 0 4 ≡ bitsOf x =
+    numberAt-front 4 (bitsOf x) rest ∙ mod-eq-of-lt (toBits-lt binary32 x h) in
     ap (ofBits binary32) bits ∙ ofBits-toBits binary32 x h
 
 pub floatAt-behind : (x : Float) (rest : List ℕ) (i : ℕ) → floatAt (powerBytes x ++ rest) (4 + i) ≡ floatAt rest i
@@ -46,7 +47,8 @@ powerOf-float : (bs : List ℕ) (i : ℕ) (x : Float) → floatAt bs i ≡ x →
 unfolding powerOf
 powerOf-float bs i x e h = rw (e, h)
 
-pub powerOf-bytes : (x : Float) (rest : List ℕ) → T (fits binary32 x) → finite x ≡ true → powerOf (powerBytes x ++ rest) 0 ≡ power.Finite x
+pub powerOf-bytes : (x : Float) (rest : List ℕ) → T (fits binary32 x) → finite x ≡ true
+    → powerOf (powerBytes x ++ rest) 0 ≡ power.Finite x
 powerOf-bytes x rest f h = powerOf-float _ 0 x (floatAt-front x rest f) h
 
 -- ---- the total and the phases
@@ -56,20 +58,21 @@ pub powersOf-bytes : (p : Phases) (rest : List ℕ) → FitsPhases p
     → powersOf (powersBytes p ++ rest) ≡ powers.Finite (record { total = totalOf p; phases = p })
 unfolding powersOf powersBytes
 powersOf-bytes p rest f ha hb hc ht =
-    let S = powerBytes (totalOf p) in
-    let A = powerBytes (p .a) in
-    let B = powerBytes (p .b) in
-    let C = powerBytes (p .c) in
-    let apart : S ++ (A ++ (B ++ C)) ++ rest ≡ S ++ (A ++ (B ++ (C ++ rest))) = simp append-assoc in
-    let bs = S ++ (A ++ (B ++ (C ++ rest))) in
-    let total : powerOf bs 0 ≡ power.Finite (totalOf p) = powerOf-float bs 0 (totalOf p) (floatAt-front (totalOf p) (A ++ (B ++ (C ++ rest))) (total-fits p)) ht in
-    let a : powerOf bs 4 ≡ power.Finite (p .a) =
-    powerOf-float bs 4 (p .a) (floatAt-behind (totalOf p) (A ++ (B ++ (C ++ rest))) 0 ∙ floatAt-front (p .a) (B ++ (C ++ rest)) (f .a)) ha in
-    let b : powerOf bs 8 ≡ power.Finite (p .b) =
-    powerOf-float bs 8 (p .b)
-    (floatAt-behind (totalOf p) (A ++ (B ++ (C ++ rest))) 4 ∙ floatAt-behind (p .a) (B ++ (C ++ rest)) 0 ∙ floatAt-front (p .b) (C ++ rest) (f .b)) hb in
-    let c : powerOf bs 12 ≡ power.Finite (p .c) =
-    powerOf-float bs 12 (p .c)
-    (floatAt-behind (totalOf p) (A ++ (B ++ (C ++ rest))) 8 ∙ floatAt-behind (p .a) (B ++ (C ++ rest)) 4 ∙ floatAt-behind (p .b) (C ++ rest) 0
-    ∙ floatAt-front (p .c) rest (f .c)) hc in
-    rw (apart, total, a, b, c)
+    let from-c = powerBytes (p .c) ++ rest in
+    let from-b = powerBytes (p .b) ++ from-c in
+    let from-a = powerBytes (p .a) ++ from-b in
+    let bs = powerBytes (totalOf p) ++ from-a in
+    let apart : powerBytes (totalOf p) ++ (powerBytes (p .a) ++ (powerBytes (p .b) ++ powerBytes (p .c))) ++ rest ≡ bs = simp append-assoc in
+    let at-0 : floatAt bs 0 ≡ totalOf p = floatAt-front (totalOf p) from-a (total-fits p) in
+    let at-4 : floatAt bs 4 ≡ p .a = floatAt-behind (totalOf p) from-a 0 ∙ floatAt-front (p .a) from-b (f .a) in
+    let at-8 : floatAt bs 8 ≡ p .b =
+    floatAt-behind (totalOf p) from-a 4 ∙ floatAt-behind (p .a) from-b 0 ∙ floatAt-front (p .b) from-c (f .b) in
+    let at-12 : floatAt bs 12 ≡ p .c =
+    floatAt-behind (totalOf p) from-a 8 ∙ floatAt-behind (p .a) from-b 4 ∙ floatAt-behind (p .b) from-c 0 ∙ floatAt-front (p .c) rest (f .c) in
+    rw (
+      apart,
+      powerOf-float bs 0 (totalOf p) at-0 ht,
+      powerOf-float bs 4 (p .a) at-4 ha,
+      powerOf-float bs 8 (p .b) at-8 hb,
+      powerOf-float bs 12 (p .c) at-12 hc,
+    )
