@@ -2,3 +2,5 @@ pub mod Clock
 pub mod Telemetry
 pub mod Mask
 pub mod Power
+pub mod PowerLaws
+pub mod Within

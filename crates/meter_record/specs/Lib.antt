@@ -1,4 +1,5 @@
 pub mod Power
+pub mod PowerLaws
 pub mod Ranges
 pub mod Record
 pub mod Display
