@@ -9,8 +9,8 @@ use Rattle.store.specs.Store.{putStore, putNext}
 use Rattle.meter_record.specs.declared.record.Record.{Record}
 use Rattle.meter_record.specs.declared.record.RecordAnswer.{RecordAnswer}
 use Rattle.meter_record.specs.declared.record.RecordAnswer.the-variants.{Done, OutOfRange, Unsound}
-use Rattle.meter.specs.Answer.{isSound}
-use Rattle.meter.specs.Change.{withNext}
+use Rattle.meter.specs.Reply.{isSound}
+use Rattle.meter_record.specs.With.{withNext}
 
 -- an answer, and what the store then holds
 pub record Outcome : Type 0 where

@@ -11,9 +11,10 @@ use Rattle.frame.specs.declared.code.Parameter.the-variants as parameter
 use Rattle.second.specs.Protection.{shut, opened}
 use Rattle.store.specs.Store.{cleared}
 use Rattle.meter_record.specs.declared.record.Record.{Record}
-use Rattle.meter.specs.Access.{levelFor}
-use Rattle.meter.specs.Change.{withProtection, changed, zeroed}
-use Rattle.meter.specs.Command.{functionIn, parameterIn, detailIn}
+use Rattle.command.specs.Access.{levelFor}
+use Rattle.meter_record.specs.With.{withProtection}
+use Rattle.command.specs.Change.{changed, zeroed}
+use Rattle.command.specs.Parts.{functionIn, parameterIn, detailIn}
 
 -- the level stays, and has all its seconds
 abbrev pub renewed : Record → Record

@@ -1,10 +1,5 @@
-pub mod Verdict
-pub mod Command
-pub mod Access
-pub mod Change
-pub mod Judge
 pub mod Effect
 pub mod Reading
-pub mod Answer
+pub mod Reply
 pub mod Bench
-pub mod AnswerLaws
+pub mod ReplyLaws

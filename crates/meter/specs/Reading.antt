@@ -23,7 +23,7 @@ use Rattle.second.specs.Season.{summerDate, winterDate}
 use Rattle.second.specs.declared.season.Time.{Time}
 use Rattle.store.specs.Store.{sliceOf, sixOf, rowBytes}
 use Rattle.meter_record.specs.declared.record.Record.{Record}
-use Rattle.meter.specs.Command.{functionIn, parameterIn, requestIn}
+use Rattle.command.specs.Parts.{functionIn, parameterIn, requestIn}
 
 -- "details 1 to 3 one phase"
 unfoldable pub phase : Phases → ℕ → Float

@@ -1,5 +1,5 @@
 // Slices that the bench puts into the store.
-use crate::answer::is_sound;
+use crate::reply::is_sound;
 use meter_record::Record;
 use meter_record::RecordAnswer;
 use slots::Key;

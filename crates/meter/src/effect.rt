@@ -1,8 +1,4 @@
 // What a command that is done leaves behind: the record after it, and the store.
-use crate::access;
-use crate::change;
-use crate::command;
-use crate::command::DETAIL;
 use frame::code::Function;
 use frame::code::Parameter;
 use meter_record::Record;
@@ -15,7 +11,10 @@ fn renewed(r: Record) -> Record
 {
     let protection = r.protection;
     let level = protection.level;
-    Record { protection: second::opened(level), ..r }
+    Record {
+        protection: second::opened(level),
+        ..r
+    }
 }
 
 pub fn record_after(r: Record, frame: &[u8]) -> Record
@@ -23,13 +22,16 @@ pub fn record_after(r: Record, frame: &[u8]) -> Record
 {
     let p = command::parameter_in(frame);
     match command::function_in(frame) {
-        Function::Change => renewed(change::changed(p, r, frame)),
-        Function::Zero => renewed(change::zeroed(p, r)),
+        Function::Change => renewed(command::changed(p, r, frame)),
+        Function::Zero => renewed(command::zeroed(p, r)),
         Function::Unlock => Record {
-            protection: second::opened(access::level_for(words::byte_at(frame, DETAIL))),
+            protection: second::opened(command::level_for(words::byte_at(frame, command::DETAIL))),
             ..r
         },
-        Function::Lock => Record { protection: second::shut(), ..r },
+        Function::Lock => Record {
+            protection: second::shut(),
+            ..r
+        },
         Function::Read => r,
         Function::Unknown => r,
     }

@@ -1,18 +1,12 @@
 // The bench meter: it answers a frame as an SS-301 does, from a record and a store of slices.
 //
-// `judge` says what becomes of a command, by the record and the frame alone, in document 01's order; only what is done has effects:
-// data read into the reply, a record after it, a store made empty. The reply is put together around them.
-mod access;
-mod answer;
+// What becomes of a command is `command`'s to say; only one that is done has effects: data read into the reply, a record after it, a
+// store made empty. The reply is put together around them.
 mod bench;
-mod change;
-mod command;
 mod effect;
-mod judge;
 mod reading;
-mod verdict;
+mod reply;
 
-pub use answer::Answered;
-pub use answer::answer;
 pub use bench::put_slice;
-pub use verdict::Verdict;
+pub use reply::Answered;
+pub use reply::answer;

@@ -1,5 +1,4 @@
 // The data of a reply: a parameter's figures, written into the part of the reply that is lent for them.
-use crate::command;
 use calendar::DateTime;
 use figures::Phases;
 use frame::code::Function;
@@ -10,7 +9,7 @@ use second::Time;
 ghost use mathlib.Core.Path.{_≡_};
 ghost use Rattle.words.specs.Place.{written};
 ghost use Rattle.meter.specs.Reading.{phase, powerData, summerShown, winterShown, rowsBytes, figuresOf, powerSize, sizeOf, isRead, dataOf, dataSize};
-ghost use Rattle.meter.specs.Command.{functionIn};
+ghost use Rattle.command.specs.Parts.{functionIn};
 
 fn phase(p: Phases, detail: u8) -> f32
     ensures { λ r. ⌜ r ≡ phase p detail ⌝ }

@@ -2,4 +2,5 @@ pub mod Power
 pub mod PowerLaws
 pub mod Ranges
 pub mod Record
+pub mod With
 pub mod Display

@@ -1,0 +1,157 @@
+use Rattle.command.specs.Change.{changed}
+use borrow.Author.Needs.{needs}
+use Rattle.command.proofs.change.changed.Statement.{statement}
+use Rattle.command.proofs.change.changed.Tie as tie
+
+tail-requires : tie.Need-tail-requires
+tail-requires c κs = search needs
+
+enum-told : tie.Need-enum-told
+enum-told c = search needs
+
+byte-at-requires : tie.Need-byte-at-requires
+byte-at-requires c κs = search needs
+
+enum-told-2 : tie.Need-enum-told-2
+enum-told-2 c = search needs
+
+telemetry-of-requires : tie.Need-telemetry-of-requires
+telemetry-of-requires c κs = search needs
+
+enum-told-3 : tie.Need-enum-told-3
+enum-told-3 c = search needs
+
+date-time-of-requires : tie.Need-date-time-of-requires
+date-time-of-requires c κs = search needs
+
+enum-told-4 : tie.Need-enum-told-4
+enum-told-4 c = search needs
+
+date-time-of-requires-2 : tie.Need-date-time-of-requires-2
+date-time-of-requires-2 c κs = search needs
+
+enum-told-5 : tie.Need-enum-told-5
+enum-told-5 c = search needs
+
+date-time-of-requires-3 : tie.Need-date-time-of-requires-3
+date-time-of-requires-3 c κs = search needs
+
+enum-told-6 : tie.Need-enum-told-6
+enum-told-6 c = search needs
+
+display-mask-requires : tie.Need-display-mask-requires
+display-mask-requires c κs = search needs
+
+enum-told-7 : tie.Need-enum-told-7
+enum-told-7 c = search needs
+
+byte-at-requires-2 : tie.Need-byte-at-requires-2
+byte-at-requires-2 c κs = search needs
+
+u64-at-requires : tie.Need-u64-at-requires
+u64-at-requires c κs = search needs
+
+passwords-after-requires : tie.Need-passwords-after-requires
+passwords-after-requires c κs = search needs
+
+enum-told-8 : tie.Need-enum-told-8
+enum-told-8 c = search needs
+
+enum-told-9 : tie.Need-enum-told-9
+enum-told-9 c = search needs
+
+enum-told-10 : tie.Need-enum-told-10
+enum-told-10 c = search needs
+
+enum-told-11 : tie.Need-enum-told-11
+enum-told-11 c = search needs
+
+enum-told-12 : tie.Need-enum-told-12
+enum-told-12 c = search needs
+
+returns : tie.Need-returns
+unfolding changed
+returns c = simp (c .before .before .before .before .before .before .before .before .enum-told .given .1, c .before .before .before .before .before .before .before .byte-at .ensures, c .before .before .before .before .before .before .before .before .before .before .tail .ensures)
+
+returns-2 : tie.Need-returns-2
+unfolding changed
+returns-2 c = simp (c .before .before .before .before .before .before .before .enum-told2 .given .1, c .before .before .before .before .before .before .telemetry-of .ensures, c .before .before .before .before .before .before .before .before .before .tail .ensures)
+
+returns-3 : tie.Need-returns-3
+unfolding changed
+returns-3 c = simp (c .before .before .before .before .before .before .before .before .enum-told3 .given .1, c .before .before .before .before .before .before .before .date-time-of .ensures, c .before .before .before .before .before .before .before .before .before .before .tail .ensures)
+
+returns-4 : tie.Need-returns-4
+unfolding changed
+returns-4 c = simp (c .before .before .before .before .before .before .before .before .enum-told4 .given .1, c .before .before .before .before .before .before .before .date-time-of2 .ensures, c .before .before .before .before .before .before .before .before .before .before .tail .ensures)
+
+returns-5 : tie.Need-returns-5
+unfolding changed
+returns-5 c = simp (c .before .before .before .before .before .before .before .enum-told5 .given .1, c .before .before .before .before .before .before .date-time-of3 .ensures, c .before .before .before .before .before .before .before .before .before .tail .ensures)
+
+returns-6 : tie.Need-returns-6
+unfolding changed
+returns-6 c = simp (c .before .before .before .before .before .before .before .enum-told6 .given .1, c .before .before .before .before .before .before .display-mask .ensures, c .before .before .before .before .before .before .before .before .before .tail .ensures)
+
+returns-7 : tie.Need-returns-7
+unfolding changed
+returns-7 c = simp (c .before .before .before .before .before .before .before .before .before .before .enum-told7 .given .1, c .before .before .before .before .before .before .passwords-after .ensures, c .before .before .before .before .before .before .before .before .byte-at2 .ensures, c .before .before .before .before .before .before .before .u64-at .ensures, c .before .before .before .before .before .before .before .before .before .before .before .before .tail .ensures)
+
+returns-8 : tie.Need-returns-8
+unfolding changed
+returns-8 c = simp (c .enum-told8 .given .1)
+
+returns-9 : tie.Need-returns-9
+unfolding changed
+returns-9 c = simp (c .enum-told9 .given .1)
+
+returns-10 : tie.Need-returns-10
+unfolding changed
+returns-10 c = simp (c .enum-told10 .given .1)
+
+returns-11 : tie.Need-returns-11
+unfolding changed
+returns-11 c = simp (c .enum-told11 .given .1)
+
+returns-12 : tie.Need-returns-12
+unfolding changed
+returns-12 c = simp (c .enum-told12 .given .1)
+
+pub changed-spec : {M : Type 1} → statement M
+changed-spec =
+    tie.close
+    (tie.spec
+    tail-requires
+    enum-told
+    byte-at-requires
+    enum-told-2
+    telemetry-of-requires
+    enum-told-3
+    date-time-of-requires
+    enum-told-4
+    date-time-of-requires-2
+    enum-told-5
+    date-time-of-requires-3
+    enum-told-6
+    display-mask-requires
+    enum-told-7
+    byte-at-requires-2
+    u64-at-requires
+    passwords-after-requires
+    enum-told-8
+    enum-told-9
+    enum-told-10
+    enum-told-11
+    enum-told-12
+    returns
+    returns-2
+    returns-3
+    returns-4
+    returns-5
+    returns-6
+    returns-7
+    returns-8
+    returns-9
+    returns-10
+    returns-11
+    returns-12)

@@ -1,0 +1,116 @@
+// Protection: which level a command needs, and the commands that open and shut a level.
+use crate::parts::DATA;
+use crate::parts::DETAIL;
+use crate::parts::PARAMETER;
+use crate::verdict::Verdict;
+use frame::code::Parameter;
+use meter_record::Password;
+use meter_record::Passwords;
+use second::Level;
+ghost use mathlib.Core.Path.{_≡_};
+ghost use Rattle.command.specs.Access.{isMain, isOpen, changeAllowed, passwordFor, levelFor, unlockVerdict, lockVerdict};
+
+// The lengths of the two commands (002, figures 21 and 22).
+const UNLOCK_BYTES: usize = 14;
+
+const LOCK_BYTES: usize = 6;
+// The levels as a command names them: main 0, auxiliary 1.
+const AUXILIARY: u8 = 1;
+
+pub fn is_main(level: Level) -> bool
+    ensures { λ r. ⌜ r ≡ isMain level ⌝ }
+{
+    match level {
+        Level::Shut => false,
+        Level::Auxiliary => false,
+        Level::Main => true,
+    }
+}
+
+fn is_open(level: Level) -> bool
+    ensures { λ r. ⌜ r ≡ isOpen level ⌝ }
+{
+    match level {
+        Level::Shut => false,
+        Level::Auxiliary => true,
+        Level::Main => true,
+    }
+}
+
+// Whether a level opens a change of the parameter.
+pub fn change_allowed(p: Parameter, level: Level) -> bool
+    ensures { λ r. ⌜ r ≡ changeAllowed p level ⌝ }
+{
+    match p {
+        Parameter::Address => is_open(level),
+        Parameter::DisplayMask => is_open(level),
+        Parameter::ActivePower => is_main(level),
+        Parameter::ReactivePower => is_main(level),
+        Parameter::Telemetry => is_main(level),
+        Parameter::SummerDate => is_main(level),
+        Parameter::WinterDate => is_main(level),
+        Parameter::Clock => is_main(level),
+        Parameter::Slice => is_main(level),
+        Parameter::Password => is_main(level),
+        Parameter::SixSlices => is_main(level),
+        Parameter::Unknown => is_main(level),
+    }
+}
+
+// The password of the level that a command names.
+fn password_for(p: Passwords, named: u8) -> u64
+    ensures { λ r. ⌜ r ≡ passwordFor p named ⌝ }
+{
+    let main = p.main;
+    let auxiliary = p.auxiliary;
+    if named == AUXILIARY {
+        auxiliary.0
+    } else {
+        main.0
+    }
+}
+
+pub fn level_for(named: u8) -> Level
+    ensures { λ r. ⌜ r ≡ levelFor named ⌝ }
+{
+    if named == AUXILIARY {
+        Level::Auxiliary
+    } else {
+        Level::Main
+    }
+}
+
+pub fn unlock_verdict(p: Passwords, frame: &[u8]) -> Verdict
+    ensures { λ r. ⌜ r ≡ unlockVerdict p (now (frame .entry)) ⌝ }
+{
+    let named = words::byte_at(frame, DETAIL);
+    let right = password_for(p, named);
+    if frame.len() != UNLOCK_BYTES {
+        return Verdict::WrongLength;
+    }
+    if AUXILIARY < named {
+        return Verdict::WrongArgument;
+    }
+    if words::u64_at(frame, DATA) != right {
+        return Verdict::NoAccess;
+    }
+    if words::byte_at(frame, PARAMETER) != 0 {
+        return Verdict::WrongArgument;
+    }
+    Verdict::Done
+}
+
+pub fn lock_verdict(frame: &[u8]) -> Verdict
+    ensures { λ r. ⌜ r ≡ lockVerdict (now (frame .entry)) ⌝ }
+{
+    if frame.len() != LOCK_BYTES {
+        return Verdict::WrongLength;
+    }
+    if words::byte_at(frame, PARAMETER) != 0 {
+        return Verdict::WrongArgument;
+    }
+    if words::byte_at(frame, DETAIL) != 0 {
+        return Verdict::WrongArgument;
+    }
+    Verdict::Done
+}

@@ -1,0 +1,229 @@
+// Changes: which fit, and the record after one.
+use crate::parts::DATA;
+use crate::parts::DETAIL;
+use figures::Telemetry;
+use frame::code::Parameter;
+use meter_record::Password;
+use meter_record::Passwords;
+use meter_record::Record;
+use second::SwitchDate;
+use second::Time;
+ghost use mathlib.Core.Path.{_≡_};
+ghost use Rattle.command.specs.Change.{changeable, changeBytes, telemetryFits, detailFits, dataFits, passwordsAfter, changed, zeroable, zeroed};
+
+// The detail that sets date and time (002, section 4.9).
+const SET_CLOCK: u8 = 2;
+
+const AUXILIARY: u8 = 1;
+
+pub fn is_changeable(p: Parameter) -> bool
+    ensures { λ r. ⌜ r ≡ changeable p ⌝ }
+{
+    match p {
+        Parameter::Address => true,
+        Parameter::Telemetry => true,
+        Parameter::SummerDate => true,
+        Parameter::WinterDate => true,
+        Parameter::Clock => true,
+        Parameter::DisplayMask => true,
+        Parameter::Password => true,
+        Parameter::ActivePower => false,
+        Parameter::ReactivePower => false,
+        Parameter::Slice => false,
+        Parameter::SixSlices => false,
+        Parameter::Unknown => false,
+    }
+}
+
+// How many data bytes a change has.
+pub fn change_bytes(p: Parameter) -> usize
+    ensures { λ r. ⌜ r ≡ changeBytes p ⌝ }
+{
+    match p {
+        Parameter::Address => 1,
+        Parameter::Telemetry => 8,
+        Parameter::SummerDate => 6,
+        Parameter::WinterDate => 6,
+        Parameter::Clock => 6,
+        Parameter::DisplayMask => 6,
+        Parameter::Password => 8,
+        Parameter::ActivePower => 0,
+        Parameter::ReactivePower => 0,
+        Parameter::Slice => 0,
+        Parameter::SixSlices => 0,
+        Parameter::Unknown => 0,
+    }
+}
+
+// Whether the detail is one that a change of the parameter has.
+pub fn detail_fits(p: Parameter, detail: u8) -> bool
+    ensures { λ r. ⌜ r ≡ detailFits p detail ⌝ }
+{
+    match p {
+        Parameter::Clock => detail == SET_CLOCK,
+        Parameter::Password => detail <= AUXILIARY,
+        Parameter::Address => detail == 0,
+        Parameter::Telemetry => detail == 0,
+        Parameter::SummerDate => detail == 0,
+        Parameter::WinterDate => detail == 0,
+        Parameter::DisplayMask => detail == 0,
+        Parameter::ActivePower => detail == 0,
+        Parameter::ReactivePower => detail == 0,
+        Parameter::Slice => detail == 0,
+        Parameter::SixSlices => detail == 0,
+        Parameter::Unknown => detail == 0,
+    }
+}
+
+fn telemetry_fits(t: Telemetry, held: Telemetry) -> bool
+    ensures { λ r. ⌜ r ≡ telemetryFits t held ⌝ }
+{
+    if t.ke != held.ke {
+        return false;
+    }
+    meter_record::is_telemetry(t)
+}
+
+// Whether a change's data are a right argument.
+pub fn data_fits(p: Parameter, held: Telemetry, bytes: &[u8]) -> bool
+    ensures { λ r. ⌜ r ≡ dataFits p held (now (bytes .entry)) ⌝ }
+{
+    match p {
+        Parameter::Address => 1 <= words::byte_at(bytes, 0),
+        Parameter::Telemetry => telemetry_fits(figures::telemetry_of(bytes), held),
+        Parameter::SummerDate => second::is_switchable(figures::date_time_of(bytes)),
+        Parameter::WinterDate => second::is_switchable(figures::date_time_of(bytes)),
+        Parameter::Clock => calendar::is_time(figures::date_time_of(bytes)),
+        Parameter::DisplayMask => true,
+        Parameter::Password => true,
+        Parameter::ActivePower => true,
+        Parameter::ReactivePower => true,
+        Parameter::Slice => true,
+        Parameter::SixSlices => true,
+        Parameter::Unknown => true,
+    }
+}
+
+fn passwords_after(p: Passwords, detail: u8, password: u64) -> Passwords
+    ensures { λ r. ⌜ r ≡ passwordsAfter p detail password ⌝ }
+{
+    if detail == AUXILIARY {
+        Passwords {
+            auxiliary: Password(password),
+            ..p
+        }
+    } else {
+        Passwords {
+            main: Password(password),
+            ..p
+        }
+    }
+}
+
+// The record after a change that fits.
+pub fn changed(p: Parameter, r: Record, frame: &[u8]) -> Record
+    ensures { λ a. ⌜ a ≡ changed p r (now (frame .entry)) ⌝ }
+{
+    let time = r.time;
+    let bytes = words::tail(frame, DATA);
+    match p {
+        Parameter::Address => Record {
+            address: words::byte_at(bytes, 0),
+            ..r
+        },
+        Parameter::Telemetry => Record {
+            telemetry: figures::telemetry_of(bytes),
+            ..r
+        },
+        Parameter::SummerDate => Record {
+            time: Time {
+                summer: SwitchDate::ByHand(figures::date_time_of(bytes)),
+                ..time
+            },
+            ..r
+        },
+        Parameter::WinterDate => Record {
+            time: Time {
+                winter: SwitchDate::ByHand(figures::date_time_of(bytes)),
+                ..time
+            },
+            ..r
+        },
+        Parameter::Clock => Record {
+            time: Time {
+                clock: figures::date_time_of(bytes),
+                ..time
+            },
+            ..r
+        },
+        Parameter::DisplayMask => Record {
+            mask: figures::display_mask(bytes),
+            ..r
+        },
+        Parameter::Password => {
+            let passwords = r.passwords;
+            let detail = words::byte_at(frame, DETAIL);
+            Record {
+                passwords: passwords_after(passwords, detail, words::u64_at(bytes, 0)),
+                ..r
+            }
+        }
+        Parameter::ActivePower => r,
+        Parameter::ReactivePower => r,
+        Parameter::Slice => r,
+        Parameter::SixSlices => r,
+        Parameter::Unknown => r,
+    }
+}
+
+pub fn is_zeroable(p: Parameter) -> bool
+    ensures { λ r. ⌜ r ≡ zeroable p ⌝ }
+{
+    match p {
+        Parameter::SummerDate => true,
+        Parameter::WinterDate => true,
+        Parameter::Slice => true,
+        Parameter::Address => false,
+        Parameter::Telemetry => false,
+        Parameter::Clock => false,
+        Parameter::DisplayMask => false,
+        Parameter::Password => false,
+        Parameter::ActivePower => false,
+        Parameter::ReactivePower => false,
+        Parameter::SixSlices => false,
+        Parameter::Unknown => false,
+    }
+}
+
+// The record after a zeroing.
+pub fn zeroed(p: Parameter, r: Record) -> Record
+    ensures { λ a. ⌜ a ≡ zeroed p r ⌝ }
+{
+    let time = r.time;
+    match p {
+        Parameter::SummerDate => Record {
+            time: Time {
+                summer: SwitchDate::Automatic,
+                ..time
+            },
+            ..r
+        },
+        Parameter::WinterDate => Record {
+            time: Time {
+                winter: SwitchDate::Automatic,
+                ..time
+            },
+            ..r
+        },
+        Parameter::Slice => Record { next: 0, ..r },
+        Parameter::Address => r,
+        Parameter::Telemetry => r,
+        Parameter::Clock => r,
+        Parameter::DisplayMask => r,
+        Parameter::Password => r,
+        Parameter::ActivePower => r,
+        Parameter::ReactivePower => r,
+        Parameter::SixSlices => r,
+        Parameter::Unknown => r,
+    }
+}

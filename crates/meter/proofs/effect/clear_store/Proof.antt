@@ -1,0 +1,31 @@
+use borrow.Author.Needs.{needs}
+use Rattle.meter.proofs.effect.clear_store.Statement.{statement}
+use Rattle.meter.proofs.effect.clear_store.Tie as tie
+use Rattle.meter.proofs.effect.clear_store.Reads as reads
+use Rattle.meter.proofs.effect.clear_store.Lts as lts
+use Rattle.meter.proofs.effect.clears.Reads as clears-reads
+use Rattle.store.proofs.clear.Reads as clear-reads
+
+-- src/effect.rt:74:8
+clears-requires : tie.Need-clears-requires
+clears-requires c κs = search needs
+
+-- src/effect.rt:75:9
+clear-requires : tie.Need-clear-requires
+clear-requires c κs = search needs
+
+-- src/effect.rt:71:1
+same-length : tie.Need-same-length
+same-length c = search needs
+
+-- src/effect.rt:71:1
+returns : tie.Need-returns
+returns c = ?
+
+-- src/effect.rt:71:1
+returns-2 : tie.Need-returns-2
+returns-2 c = ?
+
+pub clear-store-spec : {M : Type 1} → statement M
+clear-store-spec =
+    tie.close (tie.spec clears-requires clear-requires same-length returns returns-2)

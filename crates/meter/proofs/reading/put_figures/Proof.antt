@@ -1,0 +1,270 @@
+use borrow.Author.Needs.{needs}
+use Rattle.meter.proofs.reading.put_figures.Statement.{statement}
+use Rattle.meter.proofs.reading.put_figures.Tie as tie
+use Rattle.meter.proofs.reading.put_figures.Reads as reads
+use Rattle.meter.proofs.reading.put_figures.Lts as lts
+use Rattle.figures.proofs.put_date_time.Reads as put-date-time-reads
+use Rattle.figures.proofs.put_display_mask.Reads as put-display-mask-reads
+use Rattle.figures.proofs.put_telemetry.Reads as put-telemetry-reads
+use Rattle.meter.proofs.reading.put_power.Reads as put-power-reads
+use Rattle.meter.proofs.reading.put_six.Reads as put-six-reads
+use Rattle.meter.proofs.reading.summer_shown.Reads as summer-shown-reads
+use Rattle.meter.proofs.reading.winter_shown.Reads as winter-shown-reads
+use Rattle.request.proofs.key_of.Reads as key-of-reads
+use Rattle.store.proofs.put_row.Reads as put-row-reads
+use Rattle.store.proofs.six_of.Reads as six-of-reads
+use Rattle.store.proofs.slice_of.Reads as slice-of-reads
+use Rattle.words.proofs.put_byte.Reads as put-byte-reads
+
+-- src/reading.rt:78:45
+enum-told : tie.Need-enum-told
+enum-told c = search needs
+
+-- src/reading.rt:78:35
+put-power-requires : tie.Need-put-power-requires
+put-power-requires c κs = search needs
+
+-- src/reading.rt:79:47
+enum-told-2 : tie.Need-enum-told-2
+enum-told-2 c = search needs
+
+-- src/reading.rt:79:37
+put-power-requires-2 : tie.Need-put-power-requires-2
+put-power-requires-2 c κs = search needs
+
+-- src/reading.rt:80:47
+enum-told-3 : tie.Need-enum-told-3
+enum-told-3 c = search needs
+
+-- src/reading.rt:80:31
+put-byte-requires : tie.Need-put-byte-requires
+put-byte-requires c κs = search needs
+
+-- src/reading.rt:81:56
+enum-told-4 : tie.Need-enum-told-4
+enum-told-4 c = search needs
+
+-- src/reading.rt:81:33
+put-telemetry-requires : tie.Need-put-telemetry-requires
+put-telemetry-requires c κs = search needs
+
+-- src/reading.rt:82:57
+enum-told-5 : tie.Need-enum-told-5
+enum-told-5 c = search needs
+
+-- src/reading.rt:82:62
+summer-shown-requires : tie.Need-summer-shown-requires
+summer-shown-requires c κs = search needs
+
+-- src/reading.rt:82:34
+put-date-time-requires : tie.Need-put-date-time-requires
+put-date-time-requires c κs = search needs
+
+-- src/reading.rt:83:57
+enum-told-6 : tie.Need-enum-told-6
+enum-told-6 c = search needs
+
+-- src/reading.rt:83:62
+winter-shown-requires : tie.Need-winter-shown-requires
+winter-shown-requires c κs = search needs
+
+-- src/reading.rt:83:34
+put-date-time-requires-2 : tie.Need-put-date-time-requires-2
+put-date-time-requires-2 c κs = search needs
+
+-- src/reading.rt:84:52
+enum-told-7 : tie.Need-enum-told-7
+enum-told-7 c = search needs
+
+-- src/reading.rt:84:29
+put-date-time-requires-3 : tie.Need-put-date-time-requires-3
+put-date-time-requires-3 c κs = search needs
+
+-- src/reading.rt:85:61
+enum-told-8 : tie.Need-enum-told-8
+enum-told-8 c = search needs
+
+-- src/reading.rt:85:35
+put-display-mask-requires : tie.Need-put-display-mask-requires
+put-display-mask-requires c κs = search needs
+
+-- src/reading.rt:86:44
+enum-told-9 : tie.Need-enum-told-9
+enum-told-9 c = search needs
+
+-- src/reading.rt:86:75
+key-of-requires : tie.Need-key-of-requires
+key-of-requires c κs = search needs
+
+-- src/reading.rt:86:52
+slice-of-requires : tie.Need-slice-of-requires
+slice-of-requires c κs = search needs
+
+-- src/reading.rt:86:29
+put-row-requires : tie.Need-put-row-requires
+put-row-requires c κs = search needs
+
+-- src/reading.rt:87:41
+enum-told-10 : tie.Need-enum-told-10
+enum-told-10 c = search needs
+
+-- src/reading.rt:87:67
+key-of-requires-2 : tie.Need-key-of-requires-2
+key-of-requires-2 c κs = search needs
+
+-- src/reading.rt:87:46
+six-of-requires : tie.Need-six-of-requires
+six-of-requires c κs = search needs
+
+-- src/reading.rt:87:33
+put-six-requires : tie.Need-put-six-requires
+put-six-requires c κs = search needs
+
+enum-told-11 : tie.Need-enum-told-11
+enum-told-11 c = search needs
+
+enum-told-12 : tie.Need-enum-told-12
+enum-told-12 c = search needs
+
+-- src/reading.rt:68:1
+same-length : tie.Need-same-length
+same-length c = search needs
+
+-- src/reading.rt:68:1
+returns : tie.Need-returns
+returns c = ?
+
+-- src/reading.rt:68:1
+same-length-2 : tie.Need-same-length-2
+same-length-2 c = search needs
+
+-- src/reading.rt:68:1
+returns-2 : tie.Need-returns-2
+returns-2 c = ?
+
+-- src/reading.rt:68:1
+same-length-3 : tie.Need-same-length-3
+same-length-3 c = search needs
+
+-- src/reading.rt:68:1
+returns-3 : tie.Need-returns-3
+returns-3 c = ?
+
+-- src/reading.rt:68:1
+same-length-4 : tie.Need-same-length-4
+same-length-4 c = search needs
+
+-- src/reading.rt:68:1
+returns-4 : tie.Need-returns-4
+returns-4 c = ?
+
+-- src/reading.rt:68:1
+same-length-5 : tie.Need-same-length-5
+same-length-5 c = search needs
+
+-- src/reading.rt:68:1
+returns-5 : tie.Need-returns-5
+returns-5 c = ?
+
+-- src/reading.rt:68:1
+same-length-6 : tie.Need-same-length-6
+same-length-6 c = search needs
+
+-- src/reading.rt:68:1
+returns-6 : tie.Need-returns-6
+returns-6 c = ?
+
+-- src/reading.rt:68:1
+same-length-7 : tie.Need-same-length-7
+same-length-7 c = search needs
+
+-- src/reading.rt:68:1
+returns-7 : tie.Need-returns-7
+returns-7 c = ?
+
+-- src/reading.rt:68:1
+same-length-8 : tie.Need-same-length-8
+same-length-8 c = search needs
+
+-- src/reading.rt:68:1
+returns-8 : tie.Need-returns-8
+returns-8 c = ?
+
+-- src/reading.rt:68:1
+same-length-9 : tie.Need-same-length-9
+same-length-9 c = search needs
+
+-- src/reading.rt:68:1
+returns-9 : tie.Need-returns-9
+returns-9 c = ?
+
+-- src/reading.rt:68:1
+same-length-10 : tie.Need-same-length-10
+same-length-10 c = search needs
+
+-- src/reading.rt:68:1
+returns-10 : tie.Need-returns-10
+returns-10 c = ?
+
+-- src/reading.rt:68:1
+returns-11 : tie.Need-returns-11
+returns-11 c = ?
+
+-- src/reading.rt:68:1
+returns-12 : tie.Need-returns-12
+returns-12 c = ?
+
+pub put-figures-spec : {M : Type 1} → statement M
+put-figures-spec =
+    tie.close
+    (tie.spec
+    enum-told
+    put-power-requires
+    enum-told-2
+    put-power-requires-2
+    enum-told-3
+    put-byte-requires
+    enum-told-4
+    put-telemetry-requires
+    enum-told-5
+    summer-shown-requires
+    put-date-time-requires
+    enum-told-6
+    winter-shown-requires
+    put-date-time-requires-2
+    enum-told-7
+    put-date-time-requires-3
+    enum-told-8
+    put-display-mask-requires
+    enum-told-9
+    key-of-requires
+    slice-of-requires
+    put-row-requires
+    enum-told-10
+    key-of-requires-2
+    six-of-requires
+    put-six-requires
+    enum-told-11
+    enum-told-12
+    same-length
+    returns
+    same-length-2
+    returns-2
+    same-length-3
+    returns-3
+    same-length-4
+    returns-4
+    same-length-5
+    returns-5
+    same-length-6
+    returns-6
+    same-length-7
+    returns-7
+    same-length-8
+    returns-8
+    same-length-9
+    returns-9
+    same-length-10
+    returns-10
+    returns-11
+    returns-12)

@@ -1,0 +1,83 @@
+-- The answer to a frame. Source: document 01, "Frames": "A reply repeats the command's address, function and parameter, then a result byte,
+-- then the data. If the result isn't 0, the function's top bit is set and no data follow: 6 bytes (house)"; "Refusal numbers".
+use mathlib.Core.Bool.{Bool, true, false, cond, _&&_, _||_}
+use mathlib.Core.List.{List, [], _∷_, _++_}
+use Prim.Native.Nat.{ℕ, _+_}
+use lib.Dec.{eqb, leb, ltb}
+use lib.ListN.{length}
+use Rattle.words.specs.Place.{byteAt, written}
+use Rattle.frame.specs.Code.{refused as topBit}
+use Rattle.frame.specs.Sealing.{framed, sealed, isSealed}
+use Rattle.store.specs.Store.{storeBytes}
+use Rattle.meter_record.specs.Ranges.{isWithin}
+use Rattle.meter_record.specs.declared.record.Record.{Record}
+use Rattle.command.specs.Parts.{parameterByte}
+use Rattle.meter.specs.Effect.{afterOf, storeAfter}
+use Rattle.command.specs.Judgement.{verdictOf}
+use Rattle.meter.specs.Reading.{dataOf, dataSize}
+use Rattle.command.specs.Verdict.{isDone, resultOf}
+use Rattle.meter.specs.declared.reply.Answered.{Answered}
+use Rattle.command.specs.declared.verdict.Verdict.{Verdict}
+use Rattle.command.specs.declared.verdict.Verdict.the-variants.{TooShort, Unsound, Silent}
+
+-- an answer, and what the store and the output then hold
+pub record Outcome : Type 0 where
+  pub answer : Answered
+  pub store : List ℕ
+  pub out : List ℕ
+
+abbrev pub outcome : Answered → List ℕ → List ℕ → Outcome
+outcome a s out = record { answer = a; store = s; out = out }
+
+-- "meter record outside its ranges"; a store of another length counts as one
+unfoldable pub isSound : Record → List ℕ → Bool
+isSound r s = eqb (length s) storeBytes && isWithin r
+
+-- "A command with its own address or address 0 is answered"; 2 is for "length, CRC or address wrong"
+unfoldable pub heard : Record → List ℕ → Bool
+heard r f = isSealed f && (eqb (byteAt f 0) 0 || eqb (byteAt f 0) (r .address))
+
+-- "If the result isn't 0, the function's top bit is set"
+unfoldable pub functionFor : Verdict → ℕ → ℕ
+functionFor v n = cond (isDone v) n (cond (leb topBit n) n (topBit + n))
+
+-- "the command's address, function and parameter, then a result byte"
+unfoldable pub headOf : Verdict → List ℕ → List ℕ
+unfolding functionFor
+headOf v f = byteAt f 0 ∷ functionFor v (byteAt f 1) ∷ parameterByte f ∷ resultOf v ∷ []
+
+-- no reply, and nothing changed
+abbrev pub unheard : Verdict → Record → List ℕ → List ℕ → Outcome
+unheard v r s out = outcome (record { verdict = v; length = 0; after = r }) s out
+
+-- the reply to a command that is done: its data behind the head, "also when the command changed" the address
+abbrev pub done : Verdict → Record → List ℕ → List ℕ → List ℕ → Outcome
+done v r s f out =
+    outcome
+    (record { verdict = v; length = 6 + length (dataOf r s f); after = afterOf r f })
+    (storeAfter s f)
+    (written out 0 (framed (headOf v f ++ dataOf r s f)))
+
+-- a refusal frame, and nothing changed
+abbrev pub refused : Verdict → Record → List ℕ → List ℕ → List ℕ → Outcome
+refused v r s f out = outcome (record { verdict = v; length = 6; after = r }) s (written out 0 (framed (headOf v f)))
+
+-- the same, from an output whose head is written: data behind it, and the CRC behind those
+abbrev pub filled : Verdict → Record → List ℕ → List ℕ → List ℕ → Outcome
+filled v r s f out =
+    outcome
+    (record { verdict = v; length = 6 + dataSize f; after = afterOf r f })
+    (storeAfter s f)
+    (sealed (written out 4 (dataOf r s f)) (4 + dataSize f))
+
+unfoldable pub replied : Verdict → Record → List ℕ → List ℕ → List ℕ → Outcome
+replied v r s f out = cond (isDone v) (done v r s f out) (refused v r s f out)
+
+-- 1, 28, 2, and then the verdict on the command
+unfoldable pub answerOf : Record → List ℕ → List ℕ → List ℕ → Outcome
+unfolding replied
+answerOf r s f out =
+    cond (ltb (length out) 64) (unheard TooShort r s out)
+    (cond (isSound r s)
+    (cond (heard r f) (replied (verdictOf r f) r s f out) (unheard Silent r s out))
+    (unheard Unsound r s out))

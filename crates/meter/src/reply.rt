@@ -1,0 +1,137 @@
+// The answer to a frame.
+use crate::effect;
+use crate::reading;
+use command::DATA;
+use command::Verdict;
+use frame::code;
+use meter_record::Record;
+ghost use mathlib.Core.Path.{_≡_};
+ghost use Prim.Native.Nat.{_≤_, _+_};
+ghost use lib.ListN.{length};
+ghost use Rattle.words.specs.Place.{written};
+ghost use Rattle.frame.specs.Sealing.{sealed};
+ghost use Rattle.meter.specs.Reply.{outcome, isSound, heard, functionFor, headOf, replied, filled, answerOf};
+ghost use Rattle.command.specs.Judgement.{verdictOf};
+
+pub struct Answered {
+    pub verdict: Verdict,
+    // The reply's bytes, at the front of the output; none where the meter is silent.
+    pub length: usize,
+    pub after: Record,
+}
+
+// A lent output holds at least the longest frame.
+const LONGEST: usize = 64;
+// A reply without data, and the bytes before its CRC.
+const BARE_BYTES: usize = 6;
+
+// Whether record and store are a meter's.
+pub fn is_sound(r: Record, store: &[u8]) -> bool
+    ensures { λ a. ⌜ a ≡ isSound r (now (store .entry)) ⌝ }
+{
+    if store.len() != store::STORE_BYTES {
+        return false;
+    }
+    meter_record::is_within(r)
+}
+
+// Whether bytes are a frame for this meter: its own address, or 0.
+fn is_heard(r: Record, frame: &[u8]) -> bool
+    ensures { λ a. ⌜ a ≡ heard r (now (frame .entry)) ⌝ }
+{
+    let address = words::byte_at(frame, 0);
+    if frame::is_sealed(frame) {
+        if address == 0 {
+            return true;
+        }
+        return address == r.address;
+    }
+    false
+}
+
+// The command's function, with its top bit set where the command is refused.
+fn function_for(v: Verdict, function: u8) -> u8
+    ensures { λ r. ⌜ r ≡ functionFor v function ⌝ }
+{
+    if command::is_done(v) {
+        return function;
+    }
+    if code::REFUSED <= function {
+        return function;
+    }
+    code::REFUSED + function
+}
+
+// The four bytes before the data: the command's address, function and parameter, and the result.
+fn put_head(out: &mut [u8], v: Verdict, frame: &[u8])
+    ensures { λ _. ⌜ now (out .exit) ≡ written (now (out .entry)) 0 (headOf v (now (frame .entry))) ⌝ }
+{
+    let head = [
+        words::byte_at(frame, 0),
+        function_for(v, words::byte_at(frame, command::FUNCTION)),
+        command::parameter_byte(frame),
+        command::result_of(v),
+    ];
+    words::put_bytes(out, 0, &head);
+}
+
+// The meter's answer: the reply goes to the front of `out`, and what the command changes in the store is changed.
+pub fn answer(r: Record, store: &mut [u8], frame: &[u8], out: &mut [u8]) -> Answered
+    ensures { λ a. ⌜ outcome a (now (store .exit)) (now (out .exit)) ≡ answerOf r (now (store .entry)) (now (frame .entry)) (now (out .entry)) ⌝ }
+{
+    if out.len() < LONGEST {
+        return Answered {
+            verdict: Verdict::TooShort,
+            length: 0,
+            after: r,
+        };
+    }
+    if is_sound(r, store) {
+        if is_heard(r, frame) {
+            return replied(r, store, frame, out);
+        }
+        return Answered {
+            verdict: Verdict::Silent,
+            length: 0,
+            after: r,
+        };
+    }
+    Answered {
+        verdict: Verdict::Unsound,
+        length: 0,
+        after: r,
+    }
+}
+
+fn replied(r: Record, store: &mut [u8], frame: &[u8], out: &mut [u8]) -> Answered
+    requires { ⌜ 64 ≤ length (now out) ⌝ }
+    ensures { λ a. ⌜ outcome a (now (store .exit)) (now (out .exit)) ≡ replied (verdictOf r (now (frame .entry))) r (now (store .entry)) (now (frame .entry)) (now (out .entry)) ⌝ }
+{
+    let v = command::judge(r, frame);
+    put_head(out, v, frame);
+    if command::is_done(v) {
+        return done(v, r, store, frame, out);
+    }
+    frame::seal(out, DATA);
+    Answered {
+        verdict: v,
+        length: BARE_BYTES,
+        after: r,
+    }
+}
+
+// The data behind the head, and what the command leaves.
+fn done(v: Verdict, r: Record, store: &mut [u8], frame: &[u8], out: &mut [u8]) -> Answered
+    requires { ⌜ 64 ≤ length (now out) ⌝ }
+    ensures { λ a. ⌜ outcome a (now (store .exit)) (now (out .exit)) ≡ filled v r (now (store .entry)) (now (frame .entry)) (now (out .entry)) ⌝ }
+{
+    let size = reading::data_size(frame);
+    reading::put_data(&mut out[DATA..], r, store, frame);
+    frame::seal(out, DATA + size);
+    effect::clear_store(store, frame);
+    Answered {
+        verdict: v,
+        length: BARE_BYTES + size,
+        after: effect::record_after(r, frame),
+    }
+}
