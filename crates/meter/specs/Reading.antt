@@ -1,12 +1,11 @@
 -- The data of a reply. Source: document 01, "The bench meter's record", a parameter a bullet; the forms of the figures are those that the
 -- reader decodes (`figures`).
-use mathlib.Core.Path.{_≡_, refl, _∙_, ap}
 use mathlib.Core.Bool.{Bool, true, false, cond}
 use mathlib.Core.List.{List, [], _∷_, _++_}
-use Prim.Native.Nat.{ℕ, _≤_}
-use lib.Dec.{eqb, lit≤}
+use Prim.Native.Nat.{ℕ}
+use lib.Dec.{eqb}
 use lib.Ieee.{Float}
-use lib.ListN.{length}
+use lib.ListN.{getD}
 use Rattle.calendar.specs.declared.time.DateTime.{DateTime}
 use Rattle.figures.specs.Clock.{dateTimeBytes}
 use Rattle.figures.specs.Mask.{maskBytes}
@@ -41,10 +40,12 @@ summerShown t = summerDate (t .summer) (t .clock .date .year)
 abbrev pub winterShown : Time → DateTime
 winterShown t = winterDate (t .winter) (t .clock .date .year)
 
--- "six rows of four counts"
-unfoldable pub rowsBytes : List (List ℕ) → List ℕ
-rowsBytes [] = []
-rowsBytes (row ∷ rows) = rowBytes row ++ rowsBytes rows
+-- "six rows of four counts", one behind the other
+abbrev rowOf : List (List ℕ) → ℕ → List ℕ
+rowOf rows i = rowBytes (getD rows i [])
+
+unfoldable pub sixBytes : List (List ℕ) → List ℕ
+sixBytes rows = rowOf rows 0 ++ (rowOf rows 1 ++ (rowOf rows 2 ++ (rowOf rows 3 ++ (rowOf rows 4 ++ rowOf rows 5))))
 
 -- the figures of a parameter that is read, from the record and the store
 abbrev pub figuresOf : Parameter → Record → List ℕ → Request → List ℕ
@@ -57,7 +58,7 @@ figuresOf parameter.WinterDate r s q = dateTimeBytes (winterShown (r .time))
 figuresOf parameter.Clock r s q = dateTimeBytes (r .time .clock)
 figuresOf parameter.DisplayMask r s q = maskBytes (r .mask)
 figuresOf parameter.Slice r s q = rowBytes (sliceOf s (keyOf q))
-figuresOf parameter.SixSlices r s q = rowsBytes (sixOf s (keyOf q))
+figuresOf parameter.SixSlices r s q = sixBytes (sixOf s (keyOf q))
 figuresOf parameter.Password r s q = []
 figuresOf parameter.Unknown r s q = []
 

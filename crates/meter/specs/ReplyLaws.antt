@@ -1,2 +1,120 @@
 -- What follows: how long a reply's data are, and that a reply's parts, written one behind the other and sealed, are its frame.
-use mathlib.Core.Path.{_≡_, refl, sym, ap, _∙_}
+use mathlib.Core.Path.{_≡_, refl, sym, ap, ap₂, _∙_}
+use mathlib.Core.Bool.{Bool, true, false, cond}
+use mathlib.Core.List.{List, [], _∷_, _++_}
+use Prim.Native.Nat.{ℕ, _+_, _≤_}
+use native.Mathlib.Omega.{arith}
+use lib.Dec.{eqb, lit≤}
+use lib.ListN.{length, length-append}
+use Rattle.words.specs.Number.{bytesOf, length-bytesOf}
+use Rattle.words.specs.Place.{written, length-written, written-append}
+use Rattle.figures.specs.Clock.{dateTimeBytes}
+use Rattle.figures.specs.Mask.{maskBytes}
+use Rattle.figures.specs.Power.{powerBytes, powersBytes, length-powerBytes}
+use Rattle.figures.specs.Telemetry.{telemetryBytes}
+use Rattle.figures.specs.declared.power.Phases.{Phases}
+use Rattle.frame.specs.Sealing.{framed, sealed, sealed-written}
+use Rattle.frame.specs.declared.code.Function.{Function}
+use Rattle.frame.specs.declared.code.Function.the-variants as function
+use Rattle.frame.specs.declared.code.Parameter.{Parameter}
+use Rattle.frame.specs.declared.code.Parameter.the-variants as parameter
+use Rattle.request.specs.declared.request.Request.{Request}
+use Rattle.store.specs.Store.{sixOf, rowBytes}
+use Rattle.meter_record.specs.declared.record.Record.{Record}
+use Rattle.command.specs.Parts.{functionIn, parameterIn, requestIn}
+use Rattle.command.specs.declared.verdict.Verdict.{Verdict}
+use Rattle.meter.specs.Reading.{powerData, sixBytes, figuresOf, powerSize, sizeOf, isRead, dataOf, dataSize}
+use Rattle.meter.specs.Reply.{outcome, headOf, filled, done, refused}
+
+-- ---- the length of the data
+
+length-power : (p : Phases) (detail : ℕ) → length (powerData p detail) ≡ powerSize detail
+unfolding powerData powerSize powersBytes
+length-power p detail = go (eqb detail 0) refl
+  where
+    go : (b : Bool) → eqb detail 0 ≡ b → length (powerData p detail) ≡ powerSize detail
+    go true e = simp (e, length-append, length-powerBytes)
+    go false e = simp (e, length-powerBytes)
+
+pub length-row : (row : List ℕ) → length (rowBytes row) ≡ 8
+unfolding rowBytes bytesOf
+length-row row = refl
+
+pub length-figures : (p : Parameter) (r : Record) (s : List ℕ) (q : Request) → length (figuresOf p r s q) ≡ sizeOf p (q .detail)
+unfolding telemetryBytes maskBytes dateTimeBytes bytesOf rowBytes sixBytes sixOf
+length-figures parameter.ActivePower r s q = length-power (r .active) (q .detail)
+length-figures parameter.ReactivePower r s q = length-power (r .reactive) (q .detail)
+length-figures parameter.Address r s q = refl
+length-figures parameter.Telemetry r s q = refl
+length-figures parameter.SummerDate r s q = refl
+length-figures parameter.WinterDate r s q = refl
+length-figures parameter.Clock r s q = refl
+length-figures parameter.DisplayMask r s q = refl
+length-figures parameter.Slice r s q = refl
+length-figures parameter.SixSlices r s q = refl
+length-figures parameter.Password r s q = refl
+length-figures parameter.Unknown r s q = refl
+
+pub length-data : (r : Record) (s f : List ℕ) → length (dataOf r s f) ≡ dataSize f
+unfolding dataOf dataSize
+length-data r s f = go (isRead (functionIn f)) refl
+  where
+    go : (b : Bool) → isRead (functionIn f) ≡ b → length (dataOf r s f) ≡ dataSize f
+    go true e = simp e (length-figures (parameterIn f) r s (requestIn f))
+    go false e = simp e
+
+power-small : (detail : ℕ) → powerSize detail ≤ 48
+unfolding powerSize
+power-small detail = go (eqb detail 0) refl
+  where
+    go : (b : Bool) → eqb detail 0 ≡ b → powerSize detail ≤ 48
+    go true e = simp e (lit≤ tt)
+    go false e = simp e (lit≤ tt)
+
+size-small : (p : Parameter) (detail : ℕ) → sizeOf p detail ≤ 48
+size-small parameter.ActivePower detail = power-small detail
+size-small parameter.ReactivePower detail = power-small detail
+size-small parameter.Address detail = lit≤ tt
+size-small parameter.Telemetry detail = lit≤ tt
+size-small parameter.SummerDate detail = lit≤ tt
+size-small parameter.WinterDate detail = lit≤ tt
+size-small parameter.Clock detail = lit≤ tt
+size-small parameter.DisplayMask detail = lit≤ tt
+size-small parameter.Slice detail = lit≤ tt
+size-small parameter.SixSlices detail = lit≤ tt
+size-small parameter.Password detail = lit≤ tt
+size-small parameter.Unknown detail = lit≤ tt
+
+-- six rows are the most
+pub data-small : (f : List ℕ) → dataSize f ≤ 48
+unfolding dataSize
+data-small f = go (isRead (functionIn f)) refl
+  where
+    go : (b : Bool) → isRead (functionIn f) ≡ b → dataSize f ≤ 48
+    go true e = simp e (size-small (parameterIn f) ((requestIn f) .detail))
+    go false e = simp e (lit≤ tt)
+
+-- ---- a reply's parts, one behind the other
+
+pub length-head : (v : Verdict) (f : List ℕ) → length (headOf v f) ≡ 4
+unfolding headOf
+length-head v f = refl
+
+-- the head alone, sealed
+pub refused-whole : (v : Verdict) (f out : List ℕ) → 64 ≤ length out → sealed (written out 0 (headOf v f)) 4 ≡ written out 0 (framed (headOf v f))
+refused-whole v f out h =
+    ap (sealed (written out 0 (headOf v f))) (sym (length-head v f)) ∙ sealed-written out (headOf v f) (rw length-head (omega arith))
+
+-- the head and the data behind it, sealed
+pub filled-whole : (v : Verdict) (r : Record) (s f out : List ℕ) → 64 ≤ length out
+    → filled v r s f (written out 0 (headOf v f)) ≡ done v r s f out
+filled-whole v r s f out h =
+    let bytes = dataOf r s f in
+    let body = headOf v f ++ bytes in
+    let size : length bytes ≡ dataSize f = length-data r s f in
+    let whole : length body ≡ 4 + dataSize f = length-append (headOf v f) bytes ∙ ap₂ _+_ (length-head v f) size in
+    let joined : written (written out 0 (headOf v f)) 4 bytes ≡ written out 0 body =
+    sym (written-append out 0 (headOf v f) bytes ∙ ap (λ (k : ℕ). written (written out 0 (headOf v f)) (0 + k) bytes) (length-head v f)) in
+    let sealing : sealed (written out 0 body) (4 + dataSize f) ≡ written out 0 (framed body) =
+    ap (sealed (written out 0 body)) (sym whole) ∙ sealed-written out body (rw whole (omega (arith, data-small f))) in
+    rw (size, joined, sealing)

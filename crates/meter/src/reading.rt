@@ -8,7 +8,7 @@ use request::Request;
 use second::Time;
 ghost use mathlib.Core.Path.{_≡_};
 ghost use Rattle.words.specs.Place.{written};
-ghost use Rattle.meter.specs.Reading.{phase, powerData, summerShown, winterShown, rowsBytes, figuresOf, powerSize, sizeOf, isRead, dataOf, dataSize};
+ghost use Rattle.meter.specs.Reading.{phase, powerData, summerShown, winterShown, sixBytes, figuresOf, powerSize, sizeOf, isRead, dataOf, dataSize};
 ghost use Rattle.command.specs.Parts.{functionIn};
 
 fn phase(p: Phases, detail: u8) -> f32
@@ -53,7 +53,7 @@ fn winter_shown(t: Time) -> DateTime
 
 // Six rows one behind the other.
 fn put_six(out: &mut [u8], rows: [[u16; 4]; 6])
-    ensures { λ _. ⌜ now (out .exit) ≡ written (now (out .entry)) 0 (rowsBytes rows) ⌝ }
+    ensures { λ _. ⌜ now (out .exit) ≡ written (now (out .entry)) 0 (sixBytes rows) ⌝ }
 {
     store::put_row(out, 0, rows[0]);
     store::put_row(out, 8, rows[1]);

@@ -1,3 +1,6 @@
+use Rattle.meter.specs.Bench.{slicePut}
+use Rattle.slots.specs.Key.{isLegal}
+use mathlib.Core.Path.{sym, ap, _∙_}
 use borrow.Author.Needs.{needs}
 use Rattle.meter.proofs.bench.put_slice.Statement.{statement}
 use Rattle.meter.proofs.bench.put_slice.Tie as tie
@@ -30,7 +33,8 @@ same-length c = search needs
 
 -- src/bench.rt:15:13
 returns : tie.Need-returns
-returns c = ?
+unfolding slicePut
+returns c = simp (sym (c .before .before .before .before .before .before .before .before .before .before .before .before .before .before .before .is-sound .ensures) ∙ c .before .before .before .before .before .before .before .before .before .before .before .before .before .before .if1 .taken, sym (c .before .before .before .before .before .before .before .before .before .before .before .before .before .slots-of .ensures), sym (c .before .before .before .before .before .before .before .before .before .before .before .before .is-legal .ensures) ∙ c .before .before .before .before .before .before .before .before .before .before .before .if2 .taken, c .before .before .before .before .before .before .before .before .before .put-slice .ensures .0, c .before .before .before .before .before .before .before .before .before .put-slice .ensures .1)
 
 -- src/bench.rt:17:9
 same-length-2 : tie.Need-same-length-2
@@ -38,7 +42,8 @@ same-length-2 c = search needs
 
 -- src/bench.rt:17:9
 returns-2 : tie.Need-returns-2
-returns-2 c = ?
+unfolding slicePut
+returns-2 c = simp (sym (c .before .before .before .before .is-sound .ensures) ∙ c .before .before .before .if1 .taken, sym (c .before .before .slots-of .ensures), sym (c .before .is-legal .ensures) ∙ c .if2 .left)
 
 -- src/bench.rt:9:1
 same-length-3 : tie.Need-same-length-3
@@ -46,7 +51,8 @@ same-length-3 c = search needs
 
 -- src/bench.rt:9:1
 returns-3 : tie.Need-returns-3
-returns-3 c = ?
+unfolding slicePut
+returns-3 c = simp (sym (c .before .is-sound .ensures) ∙ c .if1 .left)
 
 pub put-slice-spec : {M : Type 1} → statement M
 put-slice-spec =

@@ -5,13 +5,13 @@ use Rattle.meter.proofs.effect.renewed.Reads as reads
 use Rattle.meter.proofs.effect.renewed.Lts as lts
 use Rattle.second.proofs.opened.Reads as opened-reads
 
--- src/effect.rt:18:26
+-- src/effect.rt:15:21
 opened-requires : tie.Need-opened-requires
 opened-requires c κs = search needs
 
--- src/effect.rt:13:1
+-- src/effect.rt:9:1
 returns : tie.Need-returns
-returns c = ?
+returns c = rw (c .before .before .before .before .before .before .opened .ensures)
 
 pub renewed-spec : {M : Type 1} → statement M
 renewed-spec = tie.close (tie.spec opened-requires returns)
