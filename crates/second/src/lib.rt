@@ -10,6 +10,7 @@ pub use protection::is_protection;
 pub use protection::opened;
 pub use protection::quiet_second;
 pub use protection::shut;
+pub use protection::tick;
 pub use season::Season;
 pub use season::SwitchDate;
 pub use season::Time;

@@ -68,3 +68,10 @@ pub fn quiet_second(p: Protection) -> Protection
         ..p
     }
 }
+
+// The same in place, where the record stands.
+pub fn tick(p: &mut Protection)
+    ensures { λ _. ⌜ now (p .exit) ≡ quietSecond (now (p .entry)) ⌝ }
+{
+    *p = quiet_second(*p);
+}
