@@ -1,6 +1,7 @@
 // What one second does to the bench meter: to protection, which returns after 240 quiet ones, and to the clock with its seasons.
 //
-// Both are values: a step takes what stands and gives what stands a second later. Every step is total, and keeps what fits.
+// Both are values: a step takes what stands and gives what stands a second later. Every step is total, and keeps what fits. `tick` is
+// protection's step in place, for whoever lends the record.
 mod protection;
 mod season;
 
