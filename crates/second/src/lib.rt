@@ -1,6 +1,7 @@
 // What one second does to the bench meter: to protection, which returns after 240 quiet ones, and to the clock with its seasons.
 //
-// Both are values: a step takes what stands and gives what stands a second later. Every step is total, and keeps what fits.
+// Both are values: a step takes what stands and gives what stands a second later. Every step is total, and keeps what fits. `tick` is
+// protection's step in place, for whoever lends the record.
 mod protection;
 mod season;
 
@@ -10,6 +11,7 @@ pub use protection::is_protection;
 pub use protection::opened;
 pub use protection::quiet_second;
 pub use protection::shut;
+pub use protection::tick;
 pub use season::Season;
 pub use season::SwitchDate;
 pub use season::Time;

@@ -68,3 +68,11 @@ pub fn quiet_second(p: Protection) -> Protection
         ..p
     }
 }
+
+// The same in place: "one small record that each second changes". No function behind a reference to a struct is covered, so this one is
+// thin, and proved by hand.
+pub fn tick(p: &mut Protection)
+    ensures { λ _. ⌜ now (p .exit) ≡ quietSecond (now (p .entry)) ⌝ }
+{
+    *p = quiet_second(*p);
+}
