@@ -2,12 +2,13 @@
 use mathlib.Core.Path.{_≡_, refl, sym, ap, ap₂, _∙_}
 use mathlib.Core.Bool.{Bool, true, false, cond}
 use mathlib.Core.List.{List, [], _∷_, _++_}
-use Prim.Native.Nat.{ℕ, _+_, _≤_}
+use Prim.Native.Nat.{ℕ, _+_, _-_, _≤_}
 use native.Mathlib.Omega.{arith}
 use lib.Dec.{eqb, lit≤}
-use lib.ListN.{length, length-append}
-use Rattle.words.specs.Number.{bytesOf, length-bytesOf}
-use Rattle.words.specs.Place.{written, length-written, written-append}
+use lib.ListN.{length, take, drop, length-append}
+use Rattle.words.specs.Number.{bytesOf}
+use Rattle.words.specs.Part.{written-rest}
+use Rattle.words.specs.Place.{written, written-append}
 use Rattle.figures.specs.Clock.{dateTimeBytes}
 use Rattle.figures.specs.Mask.{maskBytes}
 use Rattle.figures.specs.Power.{powerBytes, powersBytes, length-powerBytes}
@@ -22,9 +23,10 @@ use Rattle.request.specs.declared.request.Request.{Request}
 use Rattle.store.specs.Store.{sixOf, rowBytes}
 use Rattle.meter_record.specs.declared.record.Record.{Record}
 use Rattle.command.specs.Parts.{functionIn, parameterIn, requestIn}
+use Rattle.command.specs.Verdict.{isDone}
 use Rattle.command.specs.declared.verdict.Verdict.{Verdict}
 use Rattle.meter.specs.Reading.{powerData, sixBytes, figuresOf, powerSize, sizeOf, isRead, dataOf, dataSize}
-use Rattle.meter.specs.Reply.{outcome, headOf, filled, done, refused}
+use Rattle.meter.specs.Reply.{outcome, headOf, filled, done, refused, replied}
 
 -- ---- the length of the data
 
@@ -118,3 +120,25 @@ filled-whole v r s f out h =
     let sealing : sealed (written out 0 body) (4 + dataSize f) ≡ written out 0 (framed body) =
     ap (sealed (written out 0 body)) (sym whole) ∙ sealed-written out body (rw whole (omega (arith, data-small f))) in
     rw (size, joined, sealing)
+
+-- what the lent data part leaves of the whole, where x is what its borrower left of it
+pub part-filled : (s x bs : List ℕ) → x ≡ written (take (length s - 4) (drop 4 s)) 0 bs
+    → take 4 s ++ (x ++ drop (length s - 4) (drop 4 s)) ≡ written s 4 bs
+part-filled s x bs e =
+    ap (λ (l : List ℕ). take 4 s ++ (l ++ drop (length s - 4) (drop 4 s))) e ∙ written-rest 4 s 0 bs
+
+-- which of the two a verdict that the judge gave leads to
+pub replied-done : (v w : Verdict) (r : Record) (s f out : List ℕ) → v ≡ w → isDone v ≡ true → done v r s f out ≡ replied w r s f out
+unfolding replied
+replied-done v w r s f out e d =
+    let q : isDone w ≡ true = ap isDone (sym e) ∙ d in
+    ap (λ (x : Verdict). done x r s f out) e ∙ sym (ap (λ (b : Bool). cond b (done w r s f out) (refused w r s f out)) q)
+
+pub replied-refused : (v w : Verdict) (r : Record) (s f out x : List ℕ) → v ≡ w → isDone v ≡ false → x ≡ written out 0 (framed (headOf v f))
+    → outcome (record { verdict = v; length = 6; after = r }) s x ≡ replied w r s f out
+unfolding replied
+replied-refused v w r s f out x e d p =
+    let q : isDone w ≡ false = ap isDone (sym e) ∙ d in
+    ap (λ (y : List ℕ). outcome (record { verdict = v; length = 6; after = r }) s y) p
+    ∙ ap (λ (y : Verdict). refused y r s f out) e
+    ∙ sym (ap (λ (b : Bool). cond b (done w r s f out) (refused w r s f out)) q)

@@ -3,29 +3,20 @@ use mathlib.Core.Path.{sym, _∙_}
 use borrow.Author.Needs.{needs}
 use Rattle.meter.proofs.effect.clear_store.Statement.{statement}
 use Rattle.meter.proofs.effect.clear_store.Tie as tie
-use Rattle.meter.proofs.effect.clear_store.Reads as reads
-use Rattle.meter.proofs.effect.clear_store.Lts as lts
-use Rattle.meter.proofs.effect.clears.Reads as clears-reads
-use Rattle.store.proofs.clear.Reads as clear-reads
 
--- src/effect.rt:76:8
 clears-requires : tie.Need-clears-requires
 clears-requires c κs = search needs
 
--- src/effect.rt:77:9
 clear-requires : tie.Need-clear-requires
 clear-requires c κs = search needs
 
--- src/effect.rt:73:1
 same-length : tie.Need-same-length
 same-length c = search needs
 
--- src/effect.rt:73:1
 returns : tie.Need-returns
 unfolding storeAfter
 returns c = simp (sym (c .before .before .before .before .before .clears .ensures) ∙ c .before .before .before .before .if1 .taken) (c .before .before .clear .ensures)
 
--- src/effect.rt:73:1
 returns-2 : tie.Need-returns-2
 unfolding storeAfter
 returns-2 c = simp (sym (c .before .clears .ensures) ∙ c .if1 .left)

@@ -3,108 +3,75 @@ use mathlib.Core.Path.{sym, _∙_}
 use borrow.Author.Needs.{needs}
 use Rattle.meter.proofs.effect.record_after.Statement.{statement}
 use Rattle.meter.proofs.effect.record_after.Tie as tie
-use Rattle.meter.proofs.effect.record_after.Reads as reads
-use Rattle.meter.proofs.effect.record_after.Lts as lts
-use Rattle.command.proofs.level_for.Reads as level-for-reads
-use Rattle.command.proofs.changed.Reads as changed-reads
-use Rattle.command.proofs.zeroed.Reads as zeroed-reads
-use Rattle.command.proofs.function_in.Reads as function-in-reads
-use Rattle.command.proofs.parameter_in.Reads as parameter-in-reads
-use Rattle.meter.proofs.effect.renewed.Reads as renewed-reads
-use Rattle.second.proofs.opened.Reads as opened-reads
-use Rattle.second.proofs.shut.Reads as shut-reads
-use Rattle.words.proofs.byte_at.Reads as byte-at-reads
 
--- src/effect.rt:23:9
 parameter-in-requires : tie.Need-parameter-in-requires
 parameter-in-requires c κs = search needs
 
--- src/effect.rt:24:11
 function-in-requires : tie.Need-function-in-requires
 function-in-requires c κs = search needs
 
--- src/effect.rt:25:37
 enum-told : tie.Need-enum-told
 enum-told c = search needs
 
--- src/effect.rt:25:37
 changed-requires : tie.Need-changed-requires
 changed-requires c κs = search needs
 
--- src/effect.rt:25:29
 renewed-requires : tie.Need-renewed-requires
 renewed-requires c κs = search needs
 
--- src/effect.rt:26:35
 enum-told-2 : tie.Need-enum-told-2
 enum-told-2 c = search needs
 
--- src/effect.rt:26:35
 zeroed-requires : tie.Need-zeroed-requires
 zeroed-requires c κs = search needs
 
--- src/effect.rt:26:27
 renewed-requires-2 : tie.Need-renewed-requires-2
 renewed-requires-2 c κs = search needs
 
--- src/effect.rt:28:59
 enum-told-3 : tie.Need-enum-told-3
 enum-told-3 c = search needs
 
--- src/effect.rt:28:59
 byte-at-requires : tie.Need-byte-at-requires
 byte-at-requires c κs = search needs
 
--- src/effect.rt:28:40
 level-for-requires : tie.Need-level-for-requires
 level-for-requires c κs = search needs
 
--- src/effect.rt:28:25
 opened-requires : tie.Need-opened-requires
 opened-requires c κs = search needs
 
--- src/effect.rt:32:25
 enum-told-4 : tie.Need-enum-told-4
 enum-told-4 c = search needs
 
--- src/effect.rt:32:25
 shut-requires : tie.Need-shut-requires
 shut-requires c κs = search needs
 
--- src/effect.rt:35:27
 enum-told-5 : tie.Need-enum-told-5
 enum-told-5 c = search needs
 
--- src/effect.rt:36:30
 enum-told-6 : tie.Need-enum-told-6
 enum-told-6 c = search needs
 
--- src/effect.rt:20:1
 returns : tie.Need-returns
 unfolding afterOf
 returns c = simp (sym (c .before .before .before .before .function-in .ensures) ∙ c .before .before .enum-told .given .1) (c .renewed .ensures ∙ rw (c .before .changed .ensures, c .before .before .before .before .before .parameter-in .ensures))
 
--- src/effect.rt:20:1
 returns-2 : tie.Need-returns-2
 unfolding afterOf
 returns-2 c = simp (sym (c .before .before .before .before .function-in .ensures) ∙ c .before .before .enum-told2 .given .1) (c .renewed2 .ensures ∙ rw (c .before .zeroed .ensures, c .before .before .before .before .before .parameter-in .ensures))
 
--- src/effect.rt:20:1
 returns-3 : tie.Need-returns-3
 unfolding afterOf
 returns-3 c = simp (sym (c .before .before .before .before .before .before .before .before .before .before .before .function-in .ensures) ∙ c .before .before .before .before .before .before .before .before .before .enum-told3 .given .1, c .before .before .before .before .before .before .opened .ensures, c .before .before .before .before .before .before .before .level-for .ensures, c .before .before .before .before .before .before .before .before .byte-at .ensures)
 
--- src/effect.rt:20:1
 returns-4 : tie.Need-returns-4
 unfolding afterOf
 returns-4 c = simp (sym (c .before .before .before .before .before .before .before .before .before .function-in .ensures) ∙ c .before .before .before .before .before .before .before .enum-told4 .given .1, c .before .before .before .before .before .before .shut .ensures)
 
--- src/effect.rt:20:1
 returns-5 : tie.Need-returns-5
 unfolding afterOf
 returns-5 c = simp (sym (c .before .before .function-in .ensures) ∙ c .enum-told5 .given .1)
 
--- src/effect.rt:20:1
 returns-6 : tie.Need-returns-6
 unfolding afterOf
 returns-6 c = simp (sym (c .before .before .function-in .ensures) ∙ c .enum-told6 .given .1)

@@ -3,35 +3,23 @@ use mathlib.Core.Path.{sym, _∙_}
 use borrow.Author.Needs.{needs}
 use Rattle.meter.proofs.reading.data_size.Statement.{statement}
 use Rattle.meter.proofs.reading.data_size.Tie as tie
-use Rattle.meter.proofs.reading.data_size.Reads as reads
-use Rattle.meter.proofs.reading.data_size.Lts as lts
-use Rattle.command.proofs.parameter_in.Reads as parameter-in-reads
-use Rattle.command.proofs.request_in.Reads as request-in-reads
-use Rattle.meter.proofs.reading.figure_bytes.Reads as figure-bytes-reads
-use Rattle.meter.proofs.reading.is_read.Reads as is-read-reads
 
--- src/reading.rt:145:8
 is-read-requires : tie.Need-is-read-requires
 is-read-requires c κs = search needs
 
--- src/reading.rt:146:13
 request-in-requires : tie.Need-request-in-requires
 request-in-requires c κs = search needs
 
--- src/reading.rt:147:29
 parameter-in-requires : tie.Need-parameter-in-requires
 parameter-in-requires c κs = search needs
 
--- src/reading.rt:147:9
 figure-bytes-requires : tie.Need-figure-bytes-requires
 figure-bytes-requires c κs = search needs
 
--- src/reading.rt:147:9
 returns : tie.Need-returns
 unfolding dataSize
 returns c = simp (sym (c .before .before .before .before .is-read .ensures) ∙ c .before .before .before .if1 .taken) (c .figure-bytes .ensures ∙ rw (c .before .parameter-in .ensures, c .before .before .request-in .ensures))
 
--- src/reading.rt:142:1
 returns-2 : tie.Need-returns-2
 unfolding dataSize
 returns-2 c = simp (sym (c .before .is-read .ensures) ∙ c .if1 .left)

@@ -1,111 +1,82 @@
 use borrow.Author.Needs.{needs}
 use Rattle.meter.proofs.reading.figure_bytes.Statement.{statement}
 use Rattle.meter.proofs.reading.figure_bytes.Tie as tie
-use Rattle.meter.proofs.reading.figure_bytes.Reads as reads
-use Rattle.meter.proofs.reading.figure_bytes.Lts as lts
-use Rattle.meter.proofs.reading.power_bytes.Reads as power-bytes-reads
 
--- src/reading.rt:97:35
 enum-told : tie.Need-enum-told
 enum-told c = search needs
 
--- src/reading.rt:97:35
 power-bytes-requires : tie.Need-power-bytes-requires
 power-bytes-requires c κs = search needs
 
--- src/reading.rt:98:37
 enum-told-2 : tie.Need-enum-told-2
 enum-told-2 c = search needs
 
--- src/reading.rt:98:37
 power-bytes-requires-2 : tie.Need-power-bytes-requires-2
 power-bytes-requires-2 c κs = search needs
 
--- src/reading.rt:99:31
 enum-told-3 : tie.Need-enum-told-3
 enum-told-3 c = search needs
 
--- src/reading.rt:100:33
 enum-told-4 : tie.Need-enum-told-4
 enum-told-4 c = search needs
 
--- src/reading.rt:101:34
 enum-told-5 : tie.Need-enum-told-5
 enum-told-5 c = search needs
 
--- src/reading.rt:102:34
 enum-told-6 : tie.Need-enum-told-6
 enum-told-6 c = search needs
 
--- src/reading.rt:103:29
 enum-told-7 : tie.Need-enum-told-7
 enum-told-7 c = search needs
 
--- src/reading.rt:104:35
 enum-told-8 : tie.Need-enum-told-8
 enum-told-8 c = search needs
 
--- src/reading.rt:105:29
 enum-told-9 : tie.Need-enum-told-9
 enum-told-9 c = search needs
 
--- src/reading.rt:106:33
 enum-told-10 : tie.Need-enum-told-10
 enum-told-10 c = search needs
 
--- src/reading.rt:107:32
 enum-told-11 : tie.Need-enum-told-11
 enum-told-11 c = search needs
 
--- src/reading.rt:108:31
 enum-told-12 : tie.Need-enum-told-12
 enum-told-12 c = search needs
 
--- src/reading.rt:93:1
 returns : tie.Need-returns
 returns c = simp (c .before .enum-told .given .1) (c .power-bytes .ensures)
 
--- src/reading.rt:93:1
 returns-2 : tie.Need-returns-2
 returns-2 c = simp (c .before .enum-told2 .given .1) (c .power-bytes2 .ensures)
 
--- src/reading.rt:93:1
 returns-3 : tie.Need-returns-3
 returns-3 c = search needs
 
--- src/reading.rt:93:1
 returns-4 : tie.Need-returns-4
 returns-4 c = search needs
 
--- src/reading.rt:93:1
 returns-5 : tie.Need-returns-5
 returns-5 c = search needs
 
--- src/reading.rt:93:1
 returns-6 : tie.Need-returns-6
 returns-6 c = search needs
 
--- src/reading.rt:93:1
 returns-7 : tie.Need-returns-7
 returns-7 c = search needs
 
--- src/reading.rt:93:1
 returns-8 : tie.Need-returns-8
 returns-8 c = search needs
 
--- src/reading.rt:93:1
 returns-9 : tie.Need-returns-9
 returns-9 c = search needs
 
--- src/reading.rt:93:1
 returns-10 : tie.Need-returns-10
 returns-10 c = search needs
 
--- src/reading.rt:93:1
 returns-11 : tie.Need-returns-11
 returns-11 c = search needs
 
--- src/reading.rt:93:1
 returns-12 : tie.Need-returns-12
 returns-12 c = search needs
 

@@ -2,20 +2,15 @@ use Rattle.meter.specs.Reading.{phase}
 use borrow.Author.Tests.{ne-eqb}
 use Rattle.meter.proofs.reading.phase.Statement.{statement}
 use Rattle.meter.proofs.reading.phase.Tie as tie
-use Rattle.meter.proofs.reading.phase.Reads as reads
-use Rattle.meter.proofs.reading.phase.Lts as lts
 
--- src/reading.rt:14:1
 returns : tie.Need-returns
 unfolding phase
 returns c = rw (c .match .keys1)
 
--- src/reading.rt:14:1
 returns-2 : tie.Need-returns-2
 unfolding phase
 returns-2 c = rw (c .match .keys2)
 
--- src/reading.rt:14:1
 returns-3 : tie.Need-returns-3
 unfolding phase
 returns-3 c = simp (ne-eqb _ _ (c .match .rest .1), ne-eqb _ _ (c .match .rest .0 .1))

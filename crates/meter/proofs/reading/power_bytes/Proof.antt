@@ -2,15 +2,11 @@ use Rattle.meter.specs.Reading.{powerSize}
 use borrow.Author.Tests.{eq-eqb, ne-eqb}
 use Rattle.meter.proofs.reading.power_bytes.Statement.{statement}
 use Rattle.meter.proofs.reading.power_bytes.Tie as tie
-use Rattle.meter.proofs.reading.power_bytes.Reads as reads
-use Rattle.meter.proofs.reading.power_bytes.Lts as lts
 
--- src/reading.rt:112:1
 returns : tie.Need-returns
 unfolding powerSize
 returns c = simp (eq-eqb _ _ (c .if1 .taken))
 
--- src/reading.rt:112:1
 returns-2 : tie.Need-returns-2
 unfolding powerSize
 returns-2 c = simp (ne-eqb _ _ (c .if1 .left))

@@ -3,122 +3,82 @@ use mathlib.Core.Path.{_∙_}
 use borrow.Author.Needs.{needs}
 use Rattle.meter.proofs.reading.put_figures.Statement.{statement}
 use Rattle.meter.proofs.reading.put_figures.Tie as tie
-use Rattle.meter.proofs.reading.put_figures.Reads as reads
-use Rattle.meter.proofs.reading.put_figures.Lts as lts
-use Rattle.figures.proofs.put_date_time.Reads as put-date-time-reads
-use Rattle.figures.proofs.put_display_mask.Reads as put-display-mask-reads
-use Rattle.figures.proofs.put_telemetry.Reads as put-telemetry-reads
-use Rattle.meter.proofs.reading.put_power.Reads as put-power-reads
-use Rattle.meter.proofs.reading.put_six.Reads as put-six-reads
-use Rattle.meter.proofs.reading.summer_shown.Reads as summer-shown-reads
-use Rattle.meter.proofs.reading.winter_shown.Reads as winter-shown-reads
-use Rattle.request.proofs.key_of.Reads as key-of-reads
-use Rattle.store.proofs.put_row.Reads as put-row-reads
-use Rattle.store.proofs.six_of.Reads as six-of-reads
-use Rattle.store.proofs.slice_of.Reads as slice-of-reads
-use Rattle.words.proofs.put_byte.Reads as put-byte-reads
 
--- src/reading.rt:77:45
 enum-told : tie.Need-enum-told
 enum-told c = search needs
 
--- src/reading.rt:77:35
 put-power-requires : tie.Need-put-power-requires
 put-power-requires c κs = search needs
 
--- src/reading.rt:78:47
 enum-told-2 : tie.Need-enum-told-2
 enum-told-2 c = search needs
 
--- src/reading.rt:78:37
 put-power-requires-2 : tie.Need-put-power-requires-2
 put-power-requires-2 c κs = search needs
 
--- src/reading.rt:79:47
 enum-told-3 : tie.Need-enum-told-3
 enum-told-3 c = search needs
 
--- src/reading.rt:79:31
 put-byte-requires : tie.Need-put-byte-requires
 put-byte-requires c κs = search needs
 
--- src/reading.rt:80:56
 enum-told-4 : tie.Need-enum-told-4
 enum-told-4 c = search needs
 
--- src/reading.rt:80:33
 put-telemetry-requires : tie.Need-put-telemetry-requires
 put-telemetry-requires c κs = search needs
 
--- src/reading.rt:81:57
 enum-told-5 : tie.Need-enum-told-5
 enum-told-5 c = search needs
 
--- src/reading.rt:81:62
 summer-shown-requires : tie.Need-summer-shown-requires
 summer-shown-requires c κs = search needs
 
--- src/reading.rt:81:34
 put-date-time-requires : tie.Need-put-date-time-requires
 put-date-time-requires c κs = search needs
 
--- src/reading.rt:82:57
 enum-told-6 : tie.Need-enum-told-6
 enum-told-6 c = search needs
 
--- src/reading.rt:82:62
 winter-shown-requires : tie.Need-winter-shown-requires
 winter-shown-requires c κs = search needs
 
--- src/reading.rt:82:34
 put-date-time-requires-2 : tie.Need-put-date-time-requires-2
 put-date-time-requires-2 c κs = search needs
 
--- src/reading.rt:83:52
 enum-told-7 : tie.Need-enum-told-7
 enum-told-7 c = search needs
 
--- src/reading.rt:83:29
 put-date-time-requires-3 : tie.Need-put-date-time-requires-3
 put-date-time-requires-3 c κs = search needs
 
--- src/reading.rt:84:61
 enum-told-8 : tie.Need-enum-told-8
 enum-told-8 c = search needs
 
--- src/reading.rt:84:35
 put-display-mask-requires : tie.Need-put-display-mask-requires
 put-display-mask-requires c κs = search needs
 
--- src/reading.rt:85:44
 enum-told-9 : tie.Need-enum-told-9
 enum-told-9 c = search needs
 
--- src/reading.rt:85:75
 key-of-requires : tie.Need-key-of-requires
 key-of-requires c κs = search needs
 
--- src/reading.rt:85:52
 slice-of-requires : tie.Need-slice-of-requires
 slice-of-requires c κs = search needs
 
--- src/reading.rt:85:29
 put-row-requires : tie.Need-put-row-requires
 put-row-requires c κs = search needs
 
--- src/reading.rt:86:41
 enum-told-10 : tie.Need-enum-told-10
 enum-told-10 c = search needs
 
--- src/reading.rt:86:67
 key-of-requires-2 : tie.Need-key-of-requires-2
 key-of-requires-2 c κs = search needs
 
--- src/reading.rt:86:46
 six-of-requires : tie.Need-six-of-requires
 six-of-requires c κs = search needs
 
--- src/reading.rt:86:33
 put-six-requires : tie.Need-put-six-requires
 put-six-requires c κs = search needs
 
@@ -128,102 +88,80 @@ enum-told-11 c = search needs
 enum-told-12 : tie.Need-enum-told-12
 enum-told-12 c = search needs
 
--- src/reading.rt:67:1
 same-length : tie.Need-same-length
 same-length c = search needs
 
--- src/reading.rt:67:1
 returns : tie.Need-returns
 unfolding written
 returns c = simp (c .before .before .before .before .enum-told .given .1) (c .before .before .put-power .ensures)
 
--- src/reading.rt:67:1
 same-length-2 : tie.Need-same-length-2
 same-length-2 c = search needs
 
--- src/reading.rt:67:1
 returns-2 : tie.Need-returns-2
 unfolding written
 returns-2 c = simp (c .before .before .before .before .enum-told2 .given .1) (c .before .before .put-power2 .ensures)
 
--- src/reading.rt:67:1
 same-length-3 : tie.Need-same-length-3
 same-length-3 c = search needs
 
--- src/reading.rt:67:1
 returns-3 : tie.Need-returns-3
 unfolding written
 returns-3 c = simp (c .before .before .before .before .enum-told3 .given .1) (c .before .before .put-byte .ensures)
 
--- src/reading.rt:67:1
 same-length-4 : tie.Need-same-length-4
 same-length-4 c = search needs
 
--- src/reading.rt:67:1
 returns-4 : tie.Need-returns-4
 unfolding written
 returns-4 c = simp (c .before .before .before .before .enum-told4 .given .1) (c .before .before .put-telemetry .ensures)
 
--- src/reading.rt:67:1
 same-length-5 : tie.Need-same-length-5
 same-length-5 c = search needs
 
--- src/reading.rt:67:1
 returns-5 : tie.Need-returns-5
 unfolding written
 returns-5 c = simp (c .before .before .before .before .before .enum-told5 .given .1) (c .before .before .put-date-time .ensures ∙ rw (c .before .before .before .summer-shown .ensures))
 
--- src/reading.rt:67:1
 same-length-6 : tie.Need-same-length-6
 same-length-6 c = search needs
 
--- src/reading.rt:67:1
 returns-6 : tie.Need-returns-6
 unfolding written
 returns-6 c = simp (c .before .before .before .before .before .enum-told6 .given .1) (c .before .before .put-date-time2 .ensures ∙ rw (c .before .before .before .winter-shown .ensures))
 
--- src/reading.rt:67:1
 same-length-7 : tie.Need-same-length-7
 same-length-7 c = search needs
 
--- src/reading.rt:67:1
 returns-7 : tie.Need-returns-7
 unfolding written
 returns-7 c = simp (c .before .before .before .before .enum-told7 .given .1) (c .before .before .put-date-time3 .ensures)
 
--- src/reading.rt:67:1
 same-length-8 : tie.Need-same-length-8
 same-length-8 c = search needs
 
--- src/reading.rt:67:1
 returns-8 : tie.Need-returns-8
 unfolding written
 returns-8 c = simp (c .before .before .before .before .enum-told8 .given .1) (c .before .before .put-display-mask .ensures)
 
--- src/reading.rt:67:1
 same-length-9 : tie.Need-same-length-9
 same-length-9 c = search needs
 
--- src/reading.rt:67:1
 returns-9 : tie.Need-returns-9
 unfolding written
 returns-9 c = simp (c .before .before .before .before .before .before .enum-told9 .given .1) (c .before .before .put-row .ensures ∙ rw (c .before .before .before .slice-of .ensures, c .before .before .before .before .key-of .ensures))
 
--- src/reading.rt:67:1
 same-length-10 : tie.Need-same-length-10
 same-length-10 c = search needs
 
--- src/reading.rt:67:1
 returns-10 : tie.Need-returns-10
 unfolding written
 returns-10 c = simp (c .before .before .before .before .before .before .enum-told10 .given .1) (c .before .before .put-six .ensures ∙ rw (c .before .before .before .six-of .ensures, c .before .before .before .before .key-of2 .ensures))
 
--- src/reading.rt:67:1
 returns-11 : tie.Need-returns-11
 unfolding written
 returns-11 c = simp (c .enum-told11 .given .1)
 
--- src/reading.rt:67:1
 returns-12 : tie.Need-returns-12
 unfolding written
 returns-12 c = simp (c .enum-told12 .given .1)

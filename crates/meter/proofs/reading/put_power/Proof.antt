@@ -4,38 +4,26 @@ use borrow.Author.Tests.{eq-eqb, ne-eqb}
 use borrow.Author.Needs.{needs}
 use Rattle.meter.proofs.reading.put_power.Statement.{statement}
 use Rattle.meter.proofs.reading.put_power.Tie as tie
-use Rattle.meter.proofs.reading.put_power.Reads as reads
-use Rattle.meter.proofs.reading.put_power.Lts as lts
-use Rattle.figures.proofs.put_power.Reads as put-power-reads
-use Rattle.figures.proofs.put_powers.Reads as put-powers-reads
-use Rattle.meter.proofs.reading.phase.Reads as phase-reads
 
--- src/reading.rt:29:9
 put-powers-requires : tie.Need-put-powers-requires
 put-powers-requires c κs = search needs
 
--- src/reading.rt:31:36
 phase-requires : tie.Need-phase-requires
 phase-requires c κs = search needs
 
--- src/reading.rt:31:9
 put-power-requires : tie.Need-put-power-requires
 put-power-requires c κs = search needs
 
--- src/reading.rt:25:1
 same-length : tie.Need-same-length
 same-length c = search needs
 
--- src/reading.rt:25:1
 returns : tie.Need-returns
 unfolding powerData
 returns c = simp (eq-eqb _ _ (c .before .before .before .before .if1 .taken)) (c .before .before .put-powers .ensures)
 
--- src/reading.rt:25:1
 same-length-2 : tie.Need-same-length-2
 same-length-2 c = search needs
 
--- src/reading.rt:25:1
 returns-2 : tie.Need-returns-2
 unfolding powerData
 returns-2 c = simp (ne-eqb _ _ (c .before .before .before .before .before .if1 .left)) (c .before .before .put-power .ensures ∙ rw (c .before .before .before .phase .ensures))

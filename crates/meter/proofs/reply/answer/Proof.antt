@@ -4,56 +4,40 @@ use mathlib.Core.Path.{sym, _∙_}
 use borrow.Author.Needs.{needs}
 use Rattle.meter.proofs.reply.answer.Statement.{statement}
 use Rattle.meter.proofs.reply.answer.Tie as tie
-use Rattle.meter.proofs.reply.answer.Reads as reads
-use Rattle.meter.proofs.reply.answer.Lts as lts
-use Rattle.meter.proofs.reply.is_heard.Reads as is-heard-reads
-use Rattle.meter.proofs.reply.is_sound.Reads as is-sound-reads
-use Rattle.meter.proofs.reply.replied.Reads as replied-reads
 
--- src/reply.rt:83:9
 returns : tie.Need-returns
 unfolding answerOf
 returns c = simp (lt-ltb _ _ (c .if1 .taken))
 
--- src/reply.rt:89:8
 is-sound-requires : tie.Need-is-sound-requires
 is-sound-requires c κs = search needs
 
--- src/reply.rt:90:12
 is-heard-requires : tie.Need-is-heard-requires
 is-heard-requires c κs = search needs
 
--- src/reply.rt:91:13
 replied-requires : tie.Need-replied-requires
 replied-requires c κs = search needs
 
--- src/reply.rt:91:13
 same-length : tie.Need-same-length
 same-length c = search needs
 
--- src/reply.rt:91:13
 same-length-2 : tie.Need-same-length-2
 same-length-2 c = search needs
 
--- src/reply.rt:91:13
 returns-2 : tie.Need-returns-2
 unfolding answerOf
 returns-2 c = simp (le-ltb _ _ (c .before .before .before .before .before .before .before .before .before .before .before .before .if1 .left), sym (c .before .before .before .before .before .before .before .before .before .before .is-sound .ensures) ∙ c .before .before .before .before .before .before .before .before .before .if2 .taken, sym (c .before .before .before .before .before .before .before .before .is-heard .ensures) ∙ c .before .before .before .before .before .before .before .if3 .taken) (c .before .before .before .before .replied .ensures)
 
--- src/reply.rt:93:9
 same-length-3 : tie.Need-same-length-3
 same-length-3 c = search needs
 
--- src/reply.rt:93:9
 returns-3 : tie.Need-returns-3
 unfolding answerOf
 returns-3 c = simp (le-ltb _ _ (c .before .before .before .before .before .if1 .left), sym (c .before .before .before .is-sound .ensures) ∙ c .before .before .if2 .taken, sym (c .before .is-heard .ensures) ∙ c .if3 .left)
 
--- src/reply.rt:79:1
 same-length-4 : tie.Need-same-length-4
 same-length-4 c = search needs
 
--- src/reply.rt:79:1
 returns-4 : tie.Need-returns-4
 unfolding answerOf
 returns-4 c = simp (le-ltb _ _ (c .before .before .before .if1 .left), sym (c .before .is-sound .ensures) ∙ c .if2 .left)

@@ -3,20 +3,14 @@ use borrow.Author.Tests.{eq-eqb, ne-eqb}
 use borrow.Author.Needs.{needs}
 use Rattle.meter.proofs.reply.is_sound.Statement.{statement}
 use Rattle.meter.proofs.reply.is_sound.Tie as tie
-use Rattle.meter.proofs.reply.is_sound.Reads as reads
-use Rattle.meter.proofs.reply.is_sound.Lts as lts
-use Rattle.meter_record.proofs.is_within.Reads as is-within-reads
 
--- src/reply.rt:33:9
 returns : tie.Need-returns
 unfolding isSound
 returns c = simp (ne-eqb _ _ (c .if1 .taken))
 
--- src/reply.rt:35:5
 is-within-requires : tie.Need-is-within-requires
 is-within-requires c κs = search needs
 
--- src/reply.rt:29:1
 returns-2 : tie.Need-returns-2
 unfolding isSound
 returns-2 c = simp (eq-eqb _ _ (c .before .if1 .left)) (c .is-within .ensures)

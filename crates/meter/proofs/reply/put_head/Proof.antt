@@ -1,49 +1,33 @@
 use Rattle.meter.specs.Reply.{headOf}
-use mathlib.Core.Path.{sym, _∙_}
+use mathlib.Core.Path.{_∙_}
 use borrow.Author.Needs.{needs}
 use Rattle.meter.proofs.reply.put_head.Statement.{statement}
 use Rattle.meter.proofs.reply.put_head.Tie as tie
-use Rattle.meter.proofs.reply.put_head.Reads as reads
-use Rattle.meter.proofs.reply.put_head.Lts as lts
-use Rattle.command.proofs.parameter_byte.Reads as parameter-byte-reads
-use Rattle.command.proofs.result_of.Reads as result-of-reads
-use Rattle.meter.proofs.reply.function_for.Reads as function-for-reads
-use Rattle.words.proofs.byte_at.Reads as byte-at-reads
-use Rattle.words.proofs.put_bytes.Reads as put-bytes-reads
 
--- src/reply.rt:70:9
 byte-at-requires : tie.Need-byte-at-requires
 byte-at-requires c κs = search needs
 
--- src/reply.rt:71:25
 byte-at-requires-2 : tie.Need-byte-at-requires-2
 byte-at-requires-2 c κs = search needs
 
--- src/reply.rt:71:9
 function-for-requires : tie.Need-function-for-requires
 function-for-requires c κs = search needs
 
--- src/reply.rt:72:9
 parameter-byte-requires : tie.Need-parameter-byte-requires
 parameter-byte-requires c κs = search needs
 
--- src/reply.rt:73:9
 result-of-requires : tie.Need-result-of-requires
 result-of-requires c κs = search needs
 
--- src/reply.rt:75:30
 slice-aggregate-put-bytes : tie.Need-slice-aggregate-put-bytes
 slice-aggregate-put-bytes c = search needs
 
--- src/reply.rt:75:5
 put-bytes-requires : tie.Need-put-bytes-requires
 put-bytes-requires c κs = search needs
 
--- src/reply.rt:66:1
 same-length : tie.Need-same-length
 same-length c = search needs
 
--- src/reply.rt:66:1
 returns : tie.Need-returns
 unfolding headOf
 returns c = c .before .before .put-bytes .ensures ∙ rw (c .before .before .before .before .before .before .before .before .before .byte-at .ensures, c .before .before .before .before .before .before .before .function-for .ensures, c .before .before .before .before .before .before .before .before .byte-at2 .ensures, c .before .before .before .before .before .before .parameter-byte .ensures, c .before .before .before .before .before .result-of .ensures)
