@@ -66,7 +66,7 @@ zeroVerdict r f =
     let p = parameterIn f in
     checked (known p) (zeroable p) (eqb (length f) 6) (isMain (r .protection .level)) (eqb (byteAt f 3) 0)
 
-verdictBy : Function → Record → List ℕ → Verdict
+unfoldable pub verdictBy : Function → Record → List ℕ → Verdict
 unfolding readVerdict changeVerdict zeroVerdict
 verdictBy function.Read r f = readVerdict r f
 verdictBy function.Change r f = changeVerdict r f

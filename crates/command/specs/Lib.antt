@@ -3,3 +3,5 @@ pub mod Parts
 pub mod Access
 pub mod Change
 pub mod Judgement
+pub mod KeepLaws
+pub mod JudgementLaws

@@ -20,7 +20,7 @@ use Rattle.command.specs.Parts.{functionIn, parameterIn, detailIn}
 abbrev pub renewed : Record → Record
 renewed r = withProtection r (opened (r .protection .level))
 
-afterBy : Function → Record → List ℕ → Record
+unfoldable pub afterBy : Function → Record → List ℕ → Record
 afterBy function.Change r f = renewed (changed (parameterIn f) r f)
 afterBy function.Zero r f = renewed (zeroed (parameterIn f) r)
 afterBy function.Unlock r f = withProtection r (opened (levelFor (detailIn f)))
@@ -47,7 +47,7 @@ isSlice parameter.Password = false
 isSlice parameter.SixSlices = false
 isSlice parameter.Unknown = false
 
-clearsBy : Function → Parameter → Bool
+unfoldable pub clearsBy : Function → Parameter → Bool
 clearsBy function.Zero p = isSlice p
 clearsBy function.Read p = false
 clearsBy function.Change p = false

@@ -3,3 +3,4 @@ pub mod Reading
 pub mod Reply
 pub mod Bench
 pub mod ReplyLaws
+pub mod KeepLaws

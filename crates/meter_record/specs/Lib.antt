@@ -4,3 +4,4 @@ pub mod Ranges
 pub mod Record
 pub mod With
 pub mod Display
+pub mod RangeLaws

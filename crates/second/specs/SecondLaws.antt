@@ -73,12 +73,26 @@ earlier-is-time u n (time.At v) e h = seconds-earlier u n v e .valid
 earlier-is-time u n time.NotATime e h = h
 earlier-is-time u n time.OutOfRange e h = h
 
+-- what fits, part by part
+pub record Fitting (t : Time) : Type 0 where
+  pub clock : isTime (t .clock) ≡ true
+  pub summer : isChoice (t .summer) ≡ true
+  pub winter : isChoice (t .winter) ≡ true
+
+pub fitting : (t : Time) → isFitting t ≡ true → Fitting t
+unfolding isFitting
+fitting t h =
+    let a = both (isTime (t .clock) && isChoice (t .summer)) (isChoice (t .winter)) h in
+    let b = both (isTime (t .clock)) (isChoice (t .summer)) (a .0) in
+    record { clock = b .0; summer = b .1; winter = a .1 }
+
+pub is-fitting : (t : Time) → Fitting t → isFitting t ≡ true
+unfolding isFitting
+is-fitting t f = ap₂ _&&_ (ap₂ _&&_ (f .clock) (f .summer)) (f .winter)
+
 -- the clock moved, and the season with it or not
 moved-fits : (t : Time) (u : DateTime) (s : Season) → isFitting t ≡ true → isTime u ≡ true → isFitting (shows t u s) ≡ true
-unfolding isFitting
-moved-fits t u s h e =
-    let a = both (isTime (t .clock) && isChoice (t .summer)) (isChoice (t .winter)) h in
-    ap₂ _&&_ (ap₂ _&&_ e (both (isTime (t .clock)) (isChoice (t .summer)) (a .0) .1)) (a .1)
+moved-fits t u s h e = let f = fitting t h in is-fitting (shows t u s) (record { clock = e; summer = f .summer; winter = f .winter })
 
 into-winter-fits : (t : Time) (u : DateTime) → isFitting t ≡ true → isTime u ≡ true → isFitting (intoWinter t u) ≡ true
 unfolding intoWinter
