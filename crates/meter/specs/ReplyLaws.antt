@@ -73,7 +73,7 @@ power-small detail = go (eqb detail 0) refl
     go true e = simp e (lit≤ tt)
     go false e = simp e (lit≤ tt)
 
-size-small : (p : Parameter) (detail : ℕ) → sizeOf p detail ≤ 48
+pub size-small : (p : Parameter) (detail : ℕ) → sizeOf p detail ≤ 48
 size-small parameter.ActivePower detail = power-small detail
 size-small parameter.ReactivePower detail = power-small detail
 size-small parameter.Address detail = lit≤ tt

@@ -1,0 +1,181 @@
+-- Demand 2. "What the bench meter answers from its record, the reader decodes to the same figures. A change happens only with the access it
+-- needs, and then changes the named parameter alone, save that protection's 240 seconds start again."
+--
+-- The meter answers by the definition that the contract of `answer` cites (`meter/specs/Reply.antt`), the reader decodes by that of `decode`
+-- (`reader/specs/Reply.antt`). The figures that a record and its store hold for a request are `held` (`Held.antt`).
+use mathlib.Core.Path.{_≡_, refl, sym, ap, ap₂, subst, _∙_}
+use mathlib.Core.Bool.{Bool, true, false, cond, _&&_}
+use mathlib.Core.List.{List, [], _∷_, _++_}
+use Prim.Native.Nat.{ℕ, _+_, _≤_, _<_}
+use native.Mathlib.Omega.{arith}
+use lib.Dec.{eqb, leb, ltb, lit≤}
+use lib.ListN.{length, take, drop}
+use borrow.Author.Tests.{ltb-false}
+use Rattle.decide.specs.Test.{both}
+use Rattle.words.specs.Number.{Bytes, bytesOf}
+use Rattle.words.specs.Place.{byteAt, written}
+use Rattle.frame.specs.Code.{functionOf, parameterOf}
+use Rattle.frame.specs.Sealing.{framed, length-framed}
+use Rattle.crc16.specs.Crc.{crcOf}
+use Rattle.frame.specs.declared.code.Function.{Function}
+use Rattle.frame.specs.declared.code.Function.the-variants as function
+use Rattle.frame.specs.declared.code.Parameter.{Parameter}
+use Rattle.slots.specs.Day.{slotsOf, slots-at-most}
+use Rattle.request.specs.Request.{requestFrame}
+use Rattle.request.specs.RequestLaws.{subject-wider}
+use Rattle.request.specs.Subject.{keyOf, subjectOf, subjectFor, mostSlots, askable, dataBytes}
+use Rattle.request.specs.declared.request.Request.{Request}
+use Rattle.request.specs.declared.subject.Subject.{Subject}
+use Rattle.store.specs.Store.{sliceOf, sixOf, storeBytes}
+use Rattle.meter_record.specs.RangeLaws.{Within, within}
+use Rattle.meter_record.specs.Ranges.{isWithin}
+use Rattle.meter_record.specs.declared.record.Record.{Record}
+use Rattle.command.specs.Judgement.{verdictOf, verdictBy, readVerdict}
+use Rattle.command.specs.JudgementLaws.{read-accepted}
+use Rattle.command.specs.Parts.{functionIn, parameterByte, parameterIn, requestIn}
+use Rattle.command.specs.Verdict.{numberOf, isDone}
+use Rattle.command.specs.declared.verdict.Verdict.{Verdict}
+use Rattle.command.specs.declared.verdict.Verdict.the-variants.{Done, TooShort, Unsound, Silent, UnknownFunction, UnknownParameter, NotOpen, WrongLength, NoAccess, WrongArgument}
+use Rattle.meter.specs.Reading.{figuresOf, sizeOf, dataOf}
+use Rattle.meter.specs.Reply.{Outcome, isSound, heard, functionFor, headOf, done, replied, answerOf}
+use Rattle.meter.specs.ReplyLaws.{length-figures, size-small}
+use Rattle.reader.specs.Reply.{decodedOf, repliedOf, figuresOf as figuresIn}
+use Rattle.reader.specs.declared.reply.Decoded.{Decoded}
+use Rattle.demands.specs.Held.{held, FitsRecord, same-size, found-again}
+use Rattle.demands.specs.Wire.{OfBytes, bytes-cons, slice-fits, figures-bytes, replyBody, reply-formed, front-again}
+
+-- ---- the claim: what is read
+
+-- the meter's answer to a read request, and the bytes of its reply
+abbrev pub answered : Record → List ℕ → Request → List ℕ → Outcome
+answered r s q out = answerOf r s (requestFrame q) out
+
+abbrev pub replyIn : Outcome → List ℕ
+replyIn o = take (o .answer .length) (o .out)
+
+-- a request's fields are bytes
+pub record FitsRequest (q : Request) : Type 0 where
+  pub address : q .address < 256
+  pub parameter : q .parameter < 256
+
+-- "What the bench meter answers from its record, the reader decodes to the same figures": for every record, store and request that is
+-- answered with 0
+abbrev pub Demand2Read : Type 0
+Demand2Read =
+    (r : Record) (s : List ℕ) (q : Request) (out : List ℕ) → FitsRecord r → Bytes s → FitsRequest q
+    → numberOf ((answered r s q out) .answer .verdict) ≡ 0
+    → decodedOf q (replyIn (answered r s q out)) ≡ held (parameterOf (q .parameter)) r s q
+
+-- ---- what an answer with 0 has passed
+
+only-done : (v : Verdict) → numberOf v ≡ 0 → v ≡ Done
+only-done Done h = refl
+only-done TooShort h = absurd (omega arith)
+only-done Unsound h = absurd (omega arith)
+only-done Silent h = absurd (omega arith)
+only-done UnknownFunction h = absurd (omega arith)
+only-done UnknownParameter h = absurd (omega arith)
+only-done NotOpen h = absurd (omega arith)
+only-done WrongLength h = absurd (omega arith)
+only-done NoAccess h = absurd (omega arith)
+only-done WrongArgument h = absurd (omega arith)
+
+pub record Passed (r : Record) (s f out : List ℕ) : Type 0 where
+  pub room : 64 ≤ length out
+  pub sound : isSound r s ≡ true
+  pub verdict : verdictOf r f ≡ Done
+  pub whole : answerOf r s f out ≡ done Done r s f out
+
+pub passed : (r : Record) (s f out : List ℕ) → numberOf ((answerOf r s f out) .answer .verdict) ≡ 0 → Passed r s f out
+unfolding answerOf replied
+passed r s f out h = go (ltb (length out) 64) refl (isSound r s) refl (heard r f) refl (verdictOf r f) refl
+  where
+    go : (a : Bool) → ltb (length out) 64 ≡ a → (b : Bool) → isSound r s ≡ b → (c : Bool) → heard r f ≡ c → (v : Verdict) → verdictOf r f ≡ v
+        → Passed r s f out
+    go true e b k c l v m = absurd (omega (arith, simp e at h))
+    go false e false k c l v m = absurd (omega (arith, simp (e, k) at h))
+    go false e true k false l v m = absurd (omega (arith, simp (e, k, l) at h))
+    go false e true k true l Done m = record { room = ltb-false (length out) 64 e; sound = k; verdict = m; whole = simp (e, k, l, m) }
+    go false e true k true l TooShort m = absurd (omega (arith, simp (e, k, l, m) at h))
+    go false e true k true l Unsound m = absurd (omega (arith, simp (e, k, l, m) at h))
+    go false e true k true l Silent m = absurd (omega (arith, simp (e, k, l, m) at h))
+    go false e true k true l UnknownFunction m = absurd (omega (arith, simp (e, k, l, m) at h))
+    go false e true k true l UnknownParameter m = absurd (omega (arith, simp (e, k, l, m) at h))
+    go false e true k true l NotOpen m = absurd (omega (arith, simp (e, k, l, m) at h))
+    go false e true k true l WrongLength m = absurd (omega (arith, simp (e, k, l, m) at h))
+    go false e true k true l NoAccess m = absurd (omega (arith, simp (e, k, l, m) at h))
+    go false e true k true l WrongArgument m = absurd (omega (arith, simp (e, k, l, m) at h))
+
+-- ---- the request's frame, as the meter takes it apart
+
+request-read : (q : Request) → functionIn (requestFrame q) ≡ function.Read
+unfolding requestFrame framed functionOf
+request-read q = refl
+
+request-parameter : (q : Request) → parameterByte (requestFrame q) ≡ q .parameter
+unfolding requestFrame framed functionOf parameterByte bytesOf
+request-parameter q = refl
+
+request-again : (q : Request) → requestIn (requestFrame q) ≡ q
+unfolding requestFrame framed requestIn
+request-again q = refl
+
+-- a request that is answered with 0 asks for something
+asked : (r : Record) (q : Request) → verdictOf r (requestFrame q) ≡ Done → askable (subjectOf q (slotsOf (r .minutes))) ≡ true
+unfolding verdictOf verdictBy
+asked r q h =
+    let f = requestFrame q in
+    let v : readVerdict r f ≡ Done = sym (ap (λ (fn : Function). verdictBy fn r f) (request-read q)) ∙ h in
+    ap (λ (x : Request). askable (subjectOf x (slotsOf (r .minutes)))) (sym (request-again q)) ∙ read-accepted r f (ap isDone v) .fits
+
+-- the reply's bytes before its CRC
+body : (r : Record) (s : List ℕ) (q : Request)
+    → headOf Done (requestFrame q) ++ dataOf r s (requestFrame q) ≡ replyBody q (figuresOf (parameterOf (q .parameter)) r s q)
+unfolding headOf functionFor dataOf requestFrame framed functionOf requestIn parameterByte bytesOf
+body r s q = refl
+
+length-of-data : (r : Record) (s : List ℕ) (q : Request)
+    → length (dataOf r s (requestFrame q)) ≡ length (figuresOf (parameterOf (q .parameter)) r s q)
+unfolding dataOf requestFrame framed functionOf requestIn parameterByte bytesOf
+length-of-data r s q = refl
+
+figures-small : (p : Parameter) (r : Record) (s : List ℕ) (q : Request) → length (figuresOf p r s q) ≤ 48
+figures-small p r s q = rw length-figures (size-small p (q .detail))
+
+-- the reply, taken from the lent output
+reply-is : (r : Record) (s : List ℕ) (q : Request) (out : List ℕ) → Passed r s (requestFrame q) out
+    → replyIn (answered r s q out) ≡ framed (replyBody q (figuresOf (parameterOf (q .parameter)) r s q))
+reply-is r s q out p =
+    let f = requestFrame q in
+    let figures = figuresOf (parameterOf (q .parameter)) r s q in
+    let d : length (dataOf r s f) ≡ length figures = length-of-data r s q in
+    let small : length figures ≤ 48 = figures-small (parameterOf (q .parameter)) r s q in
+    let l : length (framed (replyBody q figures)) ≡ 6 + length (dataOf r s f) = length-framed (replyBody q figures) ∙ omega (arith, d) in
+    ap replyIn (p .whole)
+    ∙ ap (λ (b : List ℕ). take (6 + length (dataOf r s f)) (written out 0 (framed b))) (body r s q)
+    ∙ front-again out (framed (replyBody q figures)) (6 + length (dataOf r s f)) l (omega (arith, p .room, d, small))
+
+-- the reader's answer to it
+decoded-is : (r : Record) (s : List ℕ) (q : Request) → Within r → FitsRecord r → Bytes s → FitsRequest q
+    → askable (subjectOf q (slotsOf (r .minutes))) ≡ true
+    → decodedOf q (framed (replyBody q (figuresOf (parameterOf (q .parameter)) r s q))) ≡ held (parameterOf (q .parameter)) r s q
+unfolding decodedOf repliedOf framed subjectOf
+decoded-is r s q w f b k h =
+    let p = parameterOf (q .parameter) in
+    let slots = slotsOf (r .minutes) in
+    let figures = figuresOf p r s q in
+    let y = framed (replyBody q figures) in
+    let size : length figures ≡ dataBytes (subjectFor p q slots) = length-figures p r s q ∙ sym (same-size p q slots h) in
+    let bytes : OfBytes (replyBody q figures) =
+    bytes-cons (q .address) (k .address) (bytes-cons 3 (lit≤ tt) (bytes-cons (q .parameter) (k .parameter) (bytes-cons 0 (lit≤ tt) (figures-bytes p r s q w f)))) in
+    let formed = reply-formed q figures (dataBytes (subjectFor p q slots)) bytes size in
+    rw (subject-wider q slots (slots-at-most (r .minutes)) h, h, formed)
+    (found-again p r s q slots (bytesOf 2 (crcOf (replyBody q figures))) w f (slice-fits s (keyOf q) b) h)
+
+-- "What the bench meter answers from its record, the reader decodes to the same figures."
+pub demand-2-read : Demand2Read
+unfolding isSound
+demand-2-read r s q out f b k h =
+    let p = passed r s (requestFrame q) out h in
+    let w = within r (both (eqb (length s) storeBytes) (isWithin r) (p .sound) .1) in
+    ap (decodedOf q) (reply-is r s q out p) ∙ decoded-is r s q w f b k (asked r q (p .verdict))
