@@ -4,3 +4,4 @@ pub mod History
 pub mod Held
 pub mod Wire
 pub mod Demand2
+pub mod Changes
