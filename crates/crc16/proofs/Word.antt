@@ -1,21 +1,18 @@
--- A word of 64 bits more: what its 64 shifts leave, by few shifts and xors.
-use mathlib.Core.Path.{_≡_, refl}
+-- The rules of the ways to compute: each side is linear over xor, so a computed test at the powers of two shows it.
+use mathlib.Core.Path.{_≡_, refl, sym, ap, ap₂, _∙_}
+use mathlib.Core.Bool.{Bool, true}
 use Prim.Native.Nat.{ℕ, _*_, _/_, _%_, _^_, _<_}
+use native.Mathlib.Nat.{mod-lt, mod-eq-of-lt, lt-of-le-of-lt}
 use lib.Dec.{eqb}
-use lib.Bits.{bitXor}
-use Rattle.crc16.specs.Crc.{times, bitStep}
-use Rattle.crc16.specs.Linear.{Linear, linear-compose, linear-times, linear-xor, linear-shl, linear-shr, linear-low, linear-bitStep, linear-agree-test}
+use lib.Pow.{pow-pos, shr-le}
+use lib.Bits.{bitXor, xor-lt}
+use lib.Count.{ones, onesIn}
 use Rattle.decide.specs.Test.{everyBelow}
+use Rattle.crc16.specs.Crc.{times, bitStep}
+use Rattle.crc16.specs.Linear.{Linear, linear-compose, linear-times, linear-xor, linear-shl, linear-shr, linear-low, linear-parityIn, onesIn-low, linear-bitStep, linear-agree-test}
+use Rattle.crc16.specs.Word.{register, linear-register, up, byX64, belowX30, belowX15}
 
--- a << k in 64 bits
-abbrev up : ℕ → ℕ → ℕ
-up k a = a * 2 ^ k % 2 ^ 64
-
-abbrev spread : ℕ → ℕ
-spread a = bitXor (bitXor (bitXor a (up 45 a)) (up 56 a)) (up 59 a)
-
-abbrev pub fold : ℕ → ℕ
-fold a = bitXor (bitXor (spread a / 2 ^ 19) (spread a / 2 ^ 8)) (spread a / 2 ^ 5)
+-- ---- the ways are linear
 
 linear-id : Linear (λ x. x)
 linear-id = record { apart = λ a b. refl }
@@ -23,18 +20,97 @@ linear-id = record { apart = λ a b. refl }
 linear-up : (k : ℕ) → Linear (up k)
 linear-up k = linear-compose (linear-low 64) (linear-shl k)
 
-linear-spread : Linear spread
-linear-spread = linear-xor (linear-xor (linear-xor linear-id (linear-up 45)) (linear-up 56)) (linear-up 59)
+linear-byX64 : Linear byX64
+linear-byX64 = linear-xor (linear-xor (linear-shr 19) (linear-shr 8)) (linear-shr 5)
 
-linear-fold : Linear fold
-linear-fold =
-    linear-compose (linear-xor (linear-xor (linear-shr 19) (linear-shr 8)) (linear-shr 5)) linear-spread
+linear-belowX30 : Linear belowX30
+linear-belowX30 =
+    linear-xor
+    (linear-xor (linear-compose (linear-up 34) (linear-shr 34)) (linear-up 30))
+    (linear-compose (linear-shr 2) (linear-up 30))
 
-pub fold-rule : (a : ℕ) → a < 2 ^ 64 → times 64 bitStep (fold a) ≡ times 128 bitStep a
-unfolding everyBelow times bitStep
-fold-rule =
+linear-belowX15 : Linear belowX15
+linear-belowX15 =
+    linear-xor
+    (linear-xor (linear-compose (linear-up 49) (linear-shr 49)) (linear-up 15))
+    (linear-compose (linear-shr 1) (linear-up 15))
+
+-- ---- n bits more: f for the n that fall out of a, and g for the n of w that come in
+
+module _ (n : ℕ) {f g : ℕ → ℕ} (lf : Linear f) (lg : Linear g) where
+  more : everyBelow (λ k. eqb (register (f (2 ^ k))) (times n bitStep (register (2 ^ k)))) 64 ≡ true
+      → everyBelow (λ k. eqb (register (g (2 ^ k))) (times n bitStep (2 ^ k))) n ≡ true
+      → (a w : ℕ) → a < 2 ^ 64 → w < 2 ^ n → register (bitXor (f a) (g w)) ≡ times n bitStep (bitXor (register a) w)
+  more out into a w ha hw =
+      let steps = linear-times n linear-bitStep in
+      let fs : register (f a) ≡ times n bitStep (register a) =
+      linear-agree-test (linear-compose linear-register lf) (linear-compose steps linear-register) 64 out a ha in
+      let gs : register (g w) ≡ times n bitStep w = linear-agree-test (linear-compose linear-register lg) steps n into w hw in
+      linear-register .apart (f a) (g w) ∙ ap₂ bitXor fs gs ∙ sym (steps .apart (register a) w)
+
+abbrev outByte : ℕ → ℕ
+outByte a = bitXor (a / 2 ^ 8) (byX64 (up 56 a))
+
+pub more-byte : (a b : ℕ) → a < 2 ^ 64 → b < 2 ^ 8 → register (bitXor (outByte a) (up 56 b)) ≡ times 8 bitStep (bitXor (register a) b)
+unfolding everyBelow register times bitStep
+more-byte = more 8 (linear-xor (linear-shr 8) (linear-compose linear-byX64 (linear-up 56))) (linear-up 56) refl refl
+
+abbrev outHalf : ℕ → ℕ
+outHalf a = bitXor (a / 2 ^ 32) (byX64 (up 32 a))
+
+pub more-half : (a w : ℕ) → a < 2 ^ 64 → w < 2 ^ 32 → register (bitXor (outHalf a) (up 32 w)) ≡ times 32 bitStep (bitXor (register a) w)
+unfolding everyBelow register times bitStep
+more-half = more 32 (linear-xor (linear-shr 32) (linear-compose linear-byX64 (linear-up 32))) (linear-up 32) refl refl
+
+abbrev outWord : ℕ → ℕ
+outWord a = byX64 (bitXor (bitXor (bitXor a (up 45 a)) (up 56 a)) (up 59 a))
+
+linear-outWord : Linear outWord
+linear-outWord =
+    linear-compose linear-byX64 (linear-xor (linear-xor (linear-xor linear-id (linear-up 45)) (linear-up 56)) (linear-up 59))
+
+pub more-word : (a w : ℕ) → a < 2 ^ 64 → w < 2 ^ 64 → register (bitXor (outWord a) w) ≡ times 64 bitStep (bitXor (register a) w)
+unfolding everyBelow register times bitStep
+more-word = more 64 linear-outWord linear-id refl refl
+
+-- ---- the register itself
+
+-- modulo Q, what x ^ 16 times a is
+abbrev pub belowQ : ℕ → ℕ
+belowQ a = belowX15 (belowX15 (bitXor (belowX30 (belowX30 a) / 2) (belowX30 (belowX30 a) / 2 ^ 2)))
+
+up-lt : (k a : ℕ) → up k a < 2 ^ 64
+up-lt k a = mod-lt (a * 2 ^ k) (pow-pos 64)
+
+belowX15-lt : (a : ℕ) → belowX15 a < 2 ^ 64
+belowX15-lt a =
+    xor-lt 64 (bitXor (up 49 (a / 2 ^ 49)) (up 15 a)) (up 15 a / 2)
+    (xor-lt 64 (up 49 (a / 2 ^ 49)) (up 15 a) (up-lt 49 (a / 2 ^ 49)) (up-lt 15 a))
+    (lt-of-le-of-lt (shr-le (up 15 a) 1) (up-lt 15 a))
+
+linear-belowQ : Linear belowQ
+linear-belowQ =
+    linear-compose linear-belowX15
+    (linear-compose linear-belowX15
+    (linear-compose (linear-xor (linear-shr 1) (linear-shr 2)) (linear-compose linear-belowX30 linear-belowX30)))
+
+below-lt : (a : ℕ) → belowQ a < 2 ^ 64
+below-lt a = belowX15-lt (belowX15 (bitXor (belowX30 (belowX30 a) / 2) (belowX30 (belowX30 a) / 2 ^ 2)))
+
+settle-looks : (a : ℕ) → a < 2 ^ 64 → bitXor (belowQ a / 2 ^ 48) (onesIn 64 (bitXor a (belowQ a)) % 2 * 0xC001) ≡ register a
+unfolding everyBelow register times bitStep onesIn
+settle-looks =
     linear-agree-test
-    (linear-compose (linear-times 64 linear-bitStep) linear-fold)
-    (linear-times 128 linear-bitStep)
+    (linear-xor
+    (linear-compose (linear-shr 48) linear-belowQ)
+    (linear-compose (linear-parityIn 64 0xC001) (linear-xor linear-id linear-belowQ)))
+    linear-register
     64
     refl
+
+-- and Q besides, where it has an odd number of terms and a an even one, or the other way round
+pub settle : (a : ℕ) → a < 2 ^ 64 → bitXor (belowQ a / 2 ^ 48) (ones (bitXor a (belowQ a)) % 2 * 0xC001) ≡ register a
+settle a h =
+    let both = bitXor a (belowQ a) in
+    let looks : onesIn 64 both ≡ ones both = onesIn-low 64 both ∙ ap ones (mod-eq-of-lt (xor-lt 64 a (belowQ a) h (below-lt a))) in
+    ap (λ (n : ℕ). bitXor (belowQ a / 2 ^ 48) (n % 2 * 0xC001)) (sym looks) ∙ settle-looks a h

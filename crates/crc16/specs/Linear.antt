@@ -4,16 +4,16 @@
 use mathlib.Core.Path.{_≡_, refl, sym, ap, ap₂, _∙_, subst}
 use mathlib.Core.Bool.{true}
 use Prim.Native.Nat.{ℕ, zero, suc, _+_, _*_, _/_, _%_, _^_, _<_}
-use native.Mathlib.Nat.{le-of-suc-le-suc, not-suc-le-zero, add-zero, zero-mul, one-mul, mod-lt, zero-lt-suc, le-step, le-refl, mul-one}
-use native.Mathlib.Numerals.{one-add}
+use native.Mathlib.Nat.{le-of-suc-le-suc, not-suc-le-zero, add-zero, zero-mul, one-mul, mod-lt, zero-lt-suc, le-step, le-refl, mul-one, mod-one}
+use native.Mathlib.Numerals.{one-add, add-one}
 use native.Mathlib.Omega.{arith}
 use lib.Dec.{eqb}
 use borrow.Author.Tests.{eqb-true}
 use Rattle.decide.specs.Test.{everyBelow, below}
 use lib.Arith.{bin-ind, lt-one}
-use lib.Pow.{pow-pos, split, shr-lt}
+use lib.Pow.{pow-pos, split, shr-lt, mod-mod-pow, field}
 use lib.Bits.{bitXor, differ, xor-step, xor-zero-r, xor-self, xor-comm, xor-shr, xor-mod, xor-block, xor-shifted, shifted-half, shifted-even}
-use lib.Count.{ones, ones-step}
+use lib.Count.{ones, onesIn, ones-step}
 use Rattle.crc16.specs.Crc.{times, bitStep, eightBits, polynomial}
 
 -- ---- xor
@@ -135,6 +135,23 @@ pub linear-parity : (c : ℕ) → Linear (λ x. ones x % 2 * c)
 linear-parity c = record {
   apart = λ a b.
       ap (λ (x : ℕ). x * c) (parity-apart a b) ∙ bits-times c (ones a % 2) (ones b % 2) (bit (ones a)) (bit (ones b));
+}
+
+-- k looks count the ones of the k low bits
+pub onesIn-low : (k n : ℕ) → onesIn k n ≡ ones (n % 2 ^ k)
+unfolding ones onesIn
+onesIn-low zero n = sym (ap ones (mod-one n))
+onesIn-low (suc k) n =
+    ap (λ (x : ℕ). n % 2 + x) (onesIn-low k (n / 2))
+    ∙ sym (ap₂ (λ (x y : ℕ). x + ones y) (mod-mod-pow n k 1) (field n k 1))
+    ∙ sym (ones-step (n % 2 ^ (k + 1)))
+    ∙ ap (λ (m : ℕ). ones (n % 2 ^ m)) (add-one k)
+
+-- the same for the k low bits, by k looks, which antt computes at a number of any size
+pub linear-parityIn : (k c : ℕ) → Linear (λ x. onesIn k x % 2 * c)
+linear-parityIn k c = record {
+  apart = λ a b.
+      rw (onesIn-low k (bitXor a b), onesIn-low k a, onesIn-low k b) (linear-compose (linear-parity c) (linear-low k) .apart a b);
 }
 
 -- ---- a linear function is known by what it does to the powers of two

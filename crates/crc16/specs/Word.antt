@@ -19,6 +19,24 @@ use Rattle.crc16.specs.Linear.{Linear, linear-times, linear-bitStep, xor
 unfoldable pub register : ℕ → ℕ
 register a = times 64 bitStep a
 
+-- ---- ways to compute, on 64 bits of which bit i stands for x ^ (63 - i)
+
+-- a << k
+abbrev pub up : ℕ → ℕ → ℕ
+up k a = a * 2 ^ k % 2 ^ 64
+
+-- z times x ^ 64, which is x ^ 19 + x ^ 8 + x ^ 5
+abbrev pub byX64 : ℕ → ℕ
+byX64 z = bitXor (bitXor (z / 2 ^ 19) (z / 2 ^ 8)) (z / 2 ^ 5)
+
+-- what stands at x ^ 30 and above goes to x ^ 2 + 1
+abbrev pub belowX30 : ℕ → ℕ
+belowX30 a = bitXor (bitXor (up 34 (a / 2 ^ 34)) (up 30 a)) (up 30 a / 2 ^ 2)
+
+-- what stands at x ^ 15 and above goes to x + 1
+abbrev pub belowX15 : ℕ → ℕ
+belowX15 a = bitXor (bitXor (up 49 (a / 2 ^ 49)) (up 15 a)) (up 15 a / 2)
+
 -- ---- laws
 
 pub linear-register : Linear register

@@ -1,0 +1,17 @@
+use borrow.Author.Needs.{needs}
+use Rattle.crc16.proofs.word_more.Statement.{statement}
+use Rattle.crc16.proofs.word_more.Tie as tie
+use Rattle.crc16.proofs.word_more.Reads as reads
+use Rattle.crc16.proofs.word_more.Lts as lts
+use Rattle.crc16.proofs.by_x64.Reads as by-x64-reads
+
+-- src/lib.rt:45:5
+by-x64-requires : tie.Need-by-x64-requires
+by-x64-requires c κs = search needs
+
+-- src/lib.rt:42:1
+returns : tie.Need-returns
+returns c = ?
+
+pub word-more-spec : {M : Type 1} → statement M
+word-more-spec = tie.close (tie.spec by-x64-requires returns)
