@@ -1,47 +1,54 @@
+-- `crc16::by_bytes` meets its contract. The loop's invariant: what a stands for goes on over the bytes not yet passed to the register after
+-- them all. The measure is what is left of the length.
+use mathlib.Core.Path.{_≡_, refl, sym, _∙_}
+use Prim.Native.Nat.{_-_, _≤_, _<_}
+use native.Mathlib.Numerals.{add-one}
+use native.Mathlib.Omega.{arith}
+use lib.ListN.{length, drop, drop-of-length-le}
+use lib.Seq.{drop-cons}
+use Rattle.crc16.specs.Crc.{crcFrom}
+use Rattle.crc16.specs.Word.{register}
 use Rattle.crc16.proofs.by_bytes.Statement.{statement}
 use Rattle.crc16.proofs.by_bytes.Tie as tie
-use Rattle.crc16.proofs.by_bytes.Reads as reads
-use Rattle.crc16.proofs.by_bytes.Lts as lts
-use Rattle.crc16.proofs.byte_more.Reads as byte-more-reads
-use Rattle.crc16.proofs.settled.Reads as settled-reads
 
 abbrev Inv-loop : tie.InvT-loop
-Inv-loop start bytes at a₀ i₀ a i = ?
+Inv-loop start bytes at a₀ i₀ a i = crcFrom (register a) (drop i bytes) ≡ crcFrom (register start) (drop at bytes)
 
 abbrev μ-loop : tie.MeasureT-loop
-μ-loop start bytes at a₀ i₀ a i = ?
+μ-loop start bytes at a₀ i₀ a i = length bytes - i
 
--- src/lib.rt:79:5
 loop-holds : tie.Need-loop-holds Inv-loop μ-loop
-loop-holds c = ?
+loop-holds c = refl
 
--- src/lib.rt:80:26
 shared-slice-read-byte-more : tie.Need-shared-slice-read-byte-more Inv-loop μ-loop
-shared-slice-read-byte-more c = ?
+shared-slice-read-byte-more c = omega arith
 
--- src/lib.rt:80:9
 byte-more-requires : tie.Need-byte-more-requires Inv-loop μ-loop
-byte-more-requires c κs = ?
+byte-more-requires c κs = tt
 
--- src/lib.rt:81:9
 add-i : tie.Need-add-i Inv-loop μ-loop
-add-i c = ?
+add-i c = omega arith
 
--- src/lib.rt:79:5
 loop-less : tie.Need-loop-less Inv-loop μ-loop
-loop-less c = ?
+loop-less c = omega arith
 
--- src/lib.rt:79:5
 loop-again : tie.Need-loop-again Inv-loop μ-loop
-loop-again c = ?
+unfolding crcFrom
+loop-again c =
+    let bytes = c .before .before .before .before .before .args .bytes .now in
+    let i = c .before .before .before .loop .i in
+    let more : i < length bytes = omega arith in
+    rw (c .byte-more .ensures, add-one) (rw (drop-cons bytes i 0) at (c .before .before .before .loop .inv))
 
--- src/lib.rt:83:5
 settled-requires : tie.Need-settled-requires Inv-loop μ-loop
-settled-requires c κs = ?
+settled-requires c κs = tt
 
--- src/lib.rt:74:1
 returns : tie.Need-returns Inv-loop μ-loop
-returns c = ?
+unfolding crcFrom
+returns c =
+    let bytes = c .before .before .before .before .args .bytes .now in
+    let past : length bytes ≤ c .before .before .loop .i = omega arith in
+    c .settled .ensures ∙ (rw (drop-of-length-le bytes past) at (c .before .before .loop .inv))
 
 pub by-bytes-spec : {M : Type 1} → statement M
 by-bytes-spec =

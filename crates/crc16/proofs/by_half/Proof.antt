@@ -1,3 +1,6 @@
+use Rattle.crc16.specs.Word.{register, crcFrom-number}
+use native.Mathlib.Omega.{arith}
+use mathlib.Core.Path.{_∙_}
 use borrow.Author.Needs.{needs}
 use Rattle.crc16.proofs.by_half.Statement.{statement}
 use Rattle.crc16.proofs.by_half.Tie as tie
@@ -37,7 +40,7 @@ by-bytes-requires-2 c κs = search needs
 
 -- src/lib.rt:87:1
 returns-2 : tie.Need-returns-2
-returns-2 c = ?
+returns-2 c = c .by-bytes2 .ensures ∙ (rw (c .before .half-more .ensures, c .before .before .u32-at .ensures) (crcFrom-number 4 (c .before .before .before .before .before .args .at) (register (c .before .before .before .before .before .args .a)) (c .before .before .before .before .before .args .bytes .now) (λ i. c .before .before .before .before .shared-slice-known .given i .fits) (omega arith)))
 
 pub by-half-spec : {M : Type 1} → statement M
 by-half-spec =

@@ -1,3 +1,7 @@
+use Rattle.crc16.proofs.Word.{more-byte}
+use Rattle.crc16.specs.Crc.{byteStep, eightBits}
+use Prim.Native.Nat.{_<_, _^_}
+use mathlib.Core.Path.{_≡_, ap, _∙_}
 use borrow.Author.Needs.{needs}
 use Rattle.crc16.proofs.byte_more.Statement.{statement}
 use Rattle.crc16.proofs.byte_more.Tie as tie
@@ -11,7 +15,8 @@ by-x64-requires c κs = search needs
 
 -- src/lib.rt:28:1
 returns : tie.Need-returns
-returns c = ?
+unfolding byteStep eightBits
+returns c = rw (c .by-x64 .ensures) (more-byte (c .before .args .a) (c .before .args .byte) (search needs) (search needs))
 
 pub byte-more-spec : {M : Type 1} → statement M
 byte-more-spec = tie.close (tie.spec by-x64-requires returns)

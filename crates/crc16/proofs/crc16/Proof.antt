@@ -1,52 +1,52 @@
+-- `crc16::crc16` meets its contract. The loop's invariant: what a stands for goes on over the bytes not yet passed to the CRC of them all.
+-- The measure is what is left of the length.
+use mathlib.Core.Path.{_≡_, refl, _∙_}
+use Prim.Native.Nat.{_-_, _≤_}
+use native.Mathlib.Omega.{arith}
+use lib.ListN.{length, drop}
+use Rattle.crc16.specs.Crc.{crcOf, crcFrom, times, bitStep}
+use Rattle.crc16.specs.Word.{register, crcFrom-number}
 use Rattle.crc16.proofs.crc16.Statement.{statement}
 use Rattle.crc16.proofs.crc16.Tie as tie
-use Rattle.crc16.proofs.crc16.Reads as reads
-use Rattle.crc16.proofs.crc16.Lts as lts
-use Rattle.crc16.proofs.by_half.Reads as by-half-reads
-use Rattle.crc16.proofs.word_more.Reads as word-more-reads
-use Rattle.words.proofs.u64_at.Reads as u64-at-reads
 
 abbrev Inv-loop : tie.InvT-loop
-Inv-loop bytes a₀ i₀ a i = ?
+Inv-loop bytes a₀ i₀ a i = (i ≤ length bytes) × (crcFrom (register a) (drop i bytes) ≡ crcOf bytes)
 
 abbrev μ-loop : tie.MeasureT-loop
-μ-loop bytes a₀ i₀ a i = ?
+μ-loop bytes a₀ i₀ a i = length bytes - i
 
--- src/lib.rt:103:5
 loop-holds : tie.Need-loop-holds Inv-loop μ-loop
-loop-holds c = ?
+unfolding crcOf register times bitStep
+loop-holds c = (omega arith, refl)
 
--- src/lib.rt:103:16
 sub-loop : tie.Need-sub-loop Inv-loop μ-loop
-sub-loop c = ?
+sub-loop c = omega arith
 
--- src/lib.rt:104:26
 u64-at-requires : tie.Need-u64-at-requires Inv-loop μ-loop
-u64-at-requires c κs = ?
+u64-at-requires c κs = tt
 
--- src/lib.rt:104:9
 word-more-requires : tie.Need-word-more-requires Inv-loop μ-loop
-word-more-requires c κs = ?
+word-more-requires c κs = tt
 
--- src/lib.rt:105:9
 add-i : tie.Need-add-i Inv-loop μ-loop
-add-i c = ?
+add-i c = omega arith
 
--- src/lib.rt:103:5
 loop-less : tie.Need-loop-less Inv-loop μ-loop
-loop-less c = ?
+loop-less c = omega arith
 
--- src/lib.rt:103:5
 loop-again : tie.Need-loop-again Inv-loop μ-loop
-loop-again c = ?
+loop-again c =
+    let bytes = c .before .before .before .before .before .args .bytes .now in
+    let a = c .before .before .before .loop .a in
+    let i = c .before .before .before .loop .i in
+    let passed = crcFrom-number 8 i (register a) bytes (λ k. c .before .before .before .before .shared-slice-known .given k .fits) (omega arith) in
+    (omega arith, rw (c .word-more .ensures, c .before .u64-at .ensures) (passed ∙ c .before .before .before .loop .inv .1))
 
--- src/lib.rt:107:5
 by-half-requires : tie.Need-by-half-requires Inv-loop μ-loop
-by-half-requires c κs = ?
+by-half-requires c κs = omega arith
 
--- src/lib.rt:98:1
 returns : tie.Need-returns Inv-loop μ-loop
-returns c = ?
+returns c = c .by-half .ensures ∙ c .before .before .loop .inv .1
 
 pub crc16-spec : {M : Type 1} → statement M
 crc16-spec =

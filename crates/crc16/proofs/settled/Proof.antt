@@ -1,3 +1,8 @@
+use Rattle.crc16.proofs.Word.{settle, belowQ}
+use lib.Count.{ones}
+use lib.Bits.{bitXor, xor-lt}
+use native.Mathlib.Omega.{arith}
+use Prim.Native.Nat.{_*_, _/_, _%_, _^_, _<_}
 use borrow.Author.Needs.{needs}
 use Rattle.crc16.proofs.settled.Statement.{statement}
 use Rattle.crc16.proofs.settled.Tie as tie
@@ -32,11 +37,11 @@ mul-result c = search needs
 
 -- src/lib.rt:70:5
 cast-result-2 : tie.Need-cast-result-2
-cast-result-2 c = ?
+cast-result-2 c = record { fits = xor-lt 16 (c .below-x152 .result / 2 ^ 48) (ones (bitXor (c .before .before .before .before .args .a) (c .below-x152 .result)) % 2 * 0xC001) (omega arith) (omega arith) }
 
 -- src/lib.rt:65:1
 returns : tie.Need-returns
-returns c = ?
+returns c = rw (c .below-x152 .ensures, c .before .below-x15 .ensures, c .before .before .below-x302 .ensures, c .before .before .before .below-x30 .ensures) (settle (c .before .before .before .before .args .a) (search needs))
 
 pub settled-spec : {M : Type 1} → statement M
 settled-spec =
