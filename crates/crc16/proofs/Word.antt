@@ -1,6 +1,6 @@
--- The rules of the ways to compute: each side is linear over xor, so a computed test at the powers of two shows it.
+-- The rules of the ways to compute: both sides are linear over xor, so a test that antt computes at the powers of two shows each.
 use mathlib.Core.Path.{_≡_, refl, sym, ap, ap₂, _∙_}
-use mathlib.Core.Bool.{Bool, true}
+use mathlib.Core.Bool.{true}
 use Prim.Native.Nat.{ℕ, _*_, _/_, _%_, _^_, _<_}
 use native.Mathlib.Nat.{mod-lt, mod-eq-of-lt, lt-of-le-of-lt}
 use lib.Dec.{eqb}
@@ -9,13 +9,10 @@ use lib.Bits.{bitXor, xor-lt}
 use lib.Count.{ones, onesIn}
 use Rattle.decide.specs.Test.{everyBelow}
 use Rattle.crc16.specs.Crc.{times, bitStep}
-use Rattle.crc16.specs.Linear.{Linear, linear-compose, linear-times, linear-xor, linear-shl, linear-shr, linear-low, linear-parityIn, onesIn-low, linear-bitStep, linear-agree-test}
+use Rattle.crc16.specs.Linear.{Linear, linear-id, linear-compose, linear-times, linear-xor, linear-shl, linear-shr, linear-low, linear-parityIn, onesIn-low, linear-bitStep, linear-agree-test}
 use Rattle.crc16.specs.Word.{register, linear-register, up, byX64, belowX30, belowX15}
 
 -- ---- the ways are linear
-
-linear-id : Linear (λ x. x)
-linear-id = record { apart = λ a b. refl }
 
 linear-up : (k : ℕ) → Linear (up k)
 linear-up k = linear-compose (linear-low 64) (linear-shl k)
@@ -75,7 +72,7 @@ more-word = more 64 linear-outWord linear-id refl refl
 
 -- ---- the register itself
 
--- modulo Q, what x ^ 16 times a is
+-- a times x ^ 16, which is x ^ 2 + x, modulo Q
 abbrev pub belowQ : ℕ → ℕ
 belowQ a = belowX15 (belowX15 (bitXor (belowX30 (belowX30 a) / 2) (belowX30 (belowX30 a) / 2 ^ 2)))
 
@@ -108,7 +105,7 @@ settle-looks =
     64
     refl
 
--- and Q besides, where it has an odd number of terms and a an even one, or the other way round
+-- and Q is added where that makes the number of terms odd or even as a's is
 pub settle : (a : ℕ) → a < 2 ^ 64 → bitXor (belowQ a / 2 ^ 48) (ones (bitXor a (belowQ a)) % 2 * 0xC001) ≡ register a
 settle a h =
     let both = bitXor a (belowQ a) in

@@ -14,7 +14,7 @@ use lib.Arith.{bin-ind, lt-one}
 use lib.Pow.{pow-pos, split, shr-lt, mod-mod-pow, field}
 use lib.Bits.{bitXor, differ, xor-step, xor-zero-r, xor-self, xor-comm, xor-shr, xor-mod, xor-block, xor-shifted, shifted-half, shifted-even}
 use lib.Count.{ones, onesIn, ones-step}
-use Rattle.crc16.specs.Crc.{times, bitStep, eightBits, polynomial}
+use Rattle.crc16.specs.Crc.{times, bitStep, polynomial}
 
 -- ---- xor
 
@@ -66,6 +66,9 @@ pub record Linear (f : ℕ → ℕ) : Type 0 where
 
 pub linear-zero : {f : ℕ → ℕ} → Linear f → f 0 ≡ 0
 linear-zero {f} lf = lf .apart 0 0 ∙ xor-self (f 0)
+
+pub linear-id : Linear (λ x. x)
+linear-id = record { apart = λ a b. refl }
 
 pub linear-compose : {f g : ℕ → ℕ} → Linear f → Linear g → Linear (λ x. f (g x))
 linear-compose {f} {g} lf lg = record { apart = λ a b. ap f (lg .apart a b) ∙ lf .apart (g a) (g b) }
@@ -187,10 +190,6 @@ pub linear-bitStep : Linear bitStep
 unfolding bitStep
 linear-bitStep = linear-xor (linear-shr 1) (linear-bit polynomial)
 
-pub linear-eightBits : Linear eightBits
-unfolding eightBits
-linear-eightBits = linear-times 8 linear-bitStep
-
 -- while the bits that fall out are 0, a step only brings the register down one place
 pub bitStep-shifted : (q k : ℕ) → bitStep (q * 2 ^ suc k) ≡ q * 2 ^ k
 unfolding bitStep
@@ -206,10 +205,3 @@ steps-shifted (suc k) q = ap (times k bitStep) (bitStep-shifted q k) ∙ steps-s
 pub steps-parts : (n q x : ℕ) → times n bitStep (bitXor (q * 2 ^ n) x) ≡ bitXor q (times n bitStep x)
 steps-parts n q x =
     linear-times n linear-bitStep .apart (q * 2 ^ n) x ∙ ap (λ (z : ℕ). bitXor z (times n bitStep x)) (steps-shifted n q)
-
--- so eight bits of any register are those of its low byte, with the rest eight places down
-pub eightBits-parts : (y : ℕ) → eightBits y ≡ bitXor (y / 256) (eightBits (y % 256))
-unfolding eightBits
-eightBits-parts y =
-    let parts : bitXor (y / 256 * 256) (y % 256) ≡ y = xor-shifted (y / 256) 8 (y % 256) (mod-lt y (pow-pos 8)) ∙ split y 8 in
-    ap eightBits (sym parts) ∙ steps-parts 8 (y / 256) (y % 256)

@@ -1,5 +1,5 @@
--- The CRC by whole words. Sixty-four bits stand for the register that is left when they are all shifted out, so many words stand for one
--- register, and the next word's bytes may be joined to any of them. Document 01 asks for no particular way to compute the CRC.
+-- The CRC by numbers of several bytes. Sixty-four bits stand for the register that is left when they are all shifted out, so a register has
+-- many that stand for it, and the code goes from any of the one to any of the next. Document 01 asks for no particular way.
 use mathlib.Core.Path.{_≡_, refl, sym, ap, _∙_}
 use mathlib.Core.List.{List, [], _∷_}
 use Prim.Native.Nat.{ℕ, zero, suc, _+_, _*_, _/_, _%_, _^_, _≤_, _<_}
@@ -19,21 +19,22 @@ use Rattle.crc16.specs.Linear.{Linear, linear-times, linear-bitStep, xor
 unfoldable pub register : ℕ → ℕ
 register a = times 64 bitStep a
 
--- ---- ways to compute, on 64 bits of which bit i stands for x ^ (63 - i)
+-- ---- ways to compute. As a polynomial, bit i of 64 is x ^ (63 - i), and a shift is a product with x modulo (x + 1) Q, where Q is
+-- x ^ 15 + x + 1.
 
--- a << k
+-- a << k in 64 bits
 abbrev pub up : ℕ → ℕ → ℕ
 up k a = a * 2 ^ k % 2 ^ 64
 
--- z times x ^ 64, which is x ^ 19 + x ^ 8 + x ^ 5
+-- z times x ^ 64, which is x ^ 19 + x ^ 8 + x ^ 5, where nothing falls out
 abbrev pub byX64 : ℕ → ℕ
 byX64 z = bitXor (bitXor (z / 2 ^ 19) (z / 2 ^ 8)) (z / 2 ^ 5)
 
--- what stands at x ^ 30 and above goes to x ^ 2 + 1
+-- modulo Q, x ^ 30 is x ^ 2 + 1
 abbrev pub belowX30 : ℕ → ℕ
 belowX30 a = bitXor (bitXor (up 34 (a / 2 ^ 34)) (up 30 a)) (up 30 a / 2 ^ 2)
 
--- what stands at x ^ 15 and above goes to x + 1
+-- modulo Q, x ^ 15 is x + 1
 abbrev pub belowX15 : ℕ → ℕ
 belowX15 a = bitXor (bitXor (up 49 (a / 2 ^ 49)) (up 15 a)) (up 15 a / 2)
 

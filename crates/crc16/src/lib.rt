@@ -1,9 +1,9 @@
 // The Modbus serial line CRC-16, eight bytes at a time and with no table.
 //
-// Sixty-four bits stand for the register that 64 shifts leave of them. Bit i stands for x^(63 - i), and a shift is a product with x
-// modulo x^16 + x^15 + x^2 + 1, which is A001 hex with its bits turned round. That is (x + 1) Q with Q = x^15 + x + 1. Modulo Q, x^60 is
-// x^4 + 1 and x^64 is x^8 + x^4, which is x^19 + x^8 + x^5; these are an odd number of terms, as x^64 is modulo x + 1, so x^64 is
-// x^19 + x^8 + x^5 modulo the whole. So 64 shifts are three.
+// Sixty-four bits stand for the register that 64 shifts leave of them. As a polynomial modulo 2, bit i of them is x^(63 - i), and a shift is
+// a product with x modulo P = x^16 + x^15 + x^2 + 1, which is A001 hex with its bits turned round. P is (x + 1) Q, where Q is x^15 + x + 1.
+// Modulo Q, x^60 is x^4 + 1, so x^64 is x^8 + x^4; and x^4 is x^19 + x^5. So modulo Q, x^64 is x^19 + x^8 + x^5; modulo x + 1 both are 1; and
+// they are the same modulo P.
 ghost use mathlib.Core.Path.{_≡_};
 ghost use Prim.Native.Nat.{_≤_};
 ghost use lib.ListN.{length, drop};
@@ -14,17 +14,17 @@ ghost use Rattle.crc16.specs.Word.{register, byX64, belowX30, belowX15};
 // Stands for the register's start, FFFF hex.
 const START: u64 = 0x0F14;
 
-// Q, which is 0 modulo itself and has an odd number of terms.
+// Q as a register, whose bit i is x^(15 - i).
 const Q: u32 = 0xC001;
 
-// z x^64, where nothing falls out below.
+// z x^64, as far as nothing falls out.
 fn by_x64(z: u64) -> u64
     ensures { λ r. ⌜ r ≡ byX64 z ⌝ }
 {
     (z >> 19) ^ (z >> 8) ^ (z >> 5)
 }
 
-// One byte more: eight bits fall out and come in again above.
+// One byte more: the eight bits that fall out are folded in, and the byte comes in above.
 fn byte_more(a: u64, byte: u8) -> u64
     ensures { λ r. ⌜ register r ≡ byteStep (register a) byte ⌝ }
 {
@@ -38,7 +38,7 @@ fn half_more(a: u64, half: u32) -> u64
     (a >> 32) ^ by_x64(a << 32) ^ ((half as u64) << 32)
 }
 
-// Eight bytes more: all bits fall out, and what falls out of these anew is joined to them before.
+// Eight bytes more: what falls out of a >> 19, a >> 8 and a >> 5 goes the same way as a.
 fn word_more(a: u64, word: u64) -> u64
     ensures { λ r. ⌜ register r ≡ crcFrom (register a) (bytesOf 8 word) ⌝ }
 {
@@ -61,7 +61,8 @@ fn below_x15(a: u64) -> u64
     ((a >> 49) << 49) ^ t ^ (t >> 1)
 }
 
-// The register itself, a x^16: first modulo Q, where x^16 is x^2 + x, and then modulo x + 1, where an even number of terms is 0.
+// The register itself, which is a x^16: first modulo Q, where x^16 is x^2 + x, and then modulo x + 1, where only the number of terms
+// counts. Q has an odd number of them.
 fn settled(a: u64) -> u16
     ensures { λ r. ⌜ r ≡ register a ⌝ }
 {

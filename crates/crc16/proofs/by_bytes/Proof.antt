@@ -1,6 +1,6 @@
 -- `crc16::by_bytes` meets its contract. The loop's invariant: what a stands for goes on over the bytes not yet passed to the register after
 -- them all. The measure is what is left of the length.
-use mathlib.Core.Path.{_≡_, refl, sym, _∙_}
+use mathlib.Core.Path.{_≡_, refl, _∙_}
 use Prim.Native.Nat.{_-_, _≤_, _<_}
 use native.Mathlib.Numerals.{add-one}
 use native.Mathlib.Omega.{arith}

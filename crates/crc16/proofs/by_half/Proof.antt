@@ -4,41 +4,28 @@ use mathlib.Core.Path.{_∙_}
 use borrow.Author.Needs.{needs}
 use Rattle.crc16.proofs.by_half.Statement.{statement}
 use Rattle.crc16.proofs.by_half.Tie as tie
-use Rattle.crc16.proofs.by_half.Reads as reads
-use Rattle.crc16.proofs.by_half.Lts as lts
-use Rattle.crc16.proofs.by_bytes.Reads as by-bytes-reads
-use Rattle.crc16.proofs.half_more.Reads as half-more-reads
-use Rattle.words.proofs.u32_at.Reads as u32-at-reads
 
--- src/lib.rt:91:8
 sub-if1 : tie.Need-sub-if1
 sub-if1 c = search needs
 
--- src/lib.rt:92:9
 by-bytes-requires : tie.Need-by-bytes-requires
 by-bytes-requires c κs = search needs
 
--- src/lib.rt:92:9
 returns : tie.Need-returns
 returns c = search needs
 
--- src/lib.rt:94:27
 u32-at-requires : tie.Need-u32-at-requires
 u32-at-requires c κs = search needs
 
--- src/lib.rt:94:14
 half-more-requires : tie.Need-half-more-requires
 half-more-requires c κs = search needs
 
--- src/lib.rt:94:61
 add-by-bytes : tie.Need-add-by-bytes
 add-by-bytes c = search needs
 
--- src/lib.rt:94:5
 by-bytes-requires-2 : tie.Need-by-bytes-requires-2
 by-bytes-requires-2 c κs = search needs
 
--- src/lib.rt:87:1
 returns-2 : tie.Need-returns-2
 returns-2 c = c .by-bytes2 .ensures ∙ (rw (c .before .half-more .ensures, c .before .before .u32-at .ensures) (crcFrom-number 4 (c .before .before .before .before .before .args .at) (register (c .before .before .before .before .before .args .a)) (c .before .before .before .before .before .args .bytes .now) (λ i. c .before .before .before .before .shared-slice-known .given i .fits) (omega arith)))
 

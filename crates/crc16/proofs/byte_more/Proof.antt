@@ -1,19 +1,12 @@
 use Rattle.crc16.proofs.Word.{more-byte}
 use Rattle.crc16.specs.Crc.{byteStep, eightBits}
-use Prim.Native.Nat.{_<_, _^_}
-use mathlib.Core.Path.{_≡_, ap, _∙_}
 use borrow.Author.Needs.{needs}
 use Rattle.crc16.proofs.byte_more.Statement.{statement}
 use Rattle.crc16.proofs.byte_more.Tie as tie
-use Rattle.crc16.proofs.byte_more.Reads as reads
-use Rattle.crc16.proofs.byte_more.Lts as lts
-use Rattle.crc16.proofs.by_x64.Reads as by-x64-reads
 
--- src/lib.rt:31:16
 by-x64-requires : tie.Need-by-x64-requires
 by-x64-requires c κs = search needs
 
--- src/lib.rt:28:1
 returns : tie.Need-returns
 unfolding byteStep eightBits
 returns c = rw (c .by-x64 .ensures) (more-byte (c .before .args .a) (c .before .args .byte) (search needs) (search needs))

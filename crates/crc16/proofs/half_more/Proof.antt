@@ -1,22 +1,17 @@
 use Rattle.crc16.proofs.Word.{more-half}
 use Rattle.crc16.specs.Word.{crcFrom-bytesOf, register}
-use mathlib.Core.Path.{_≡_, sym, _∙_}
+use mathlib.Core.Path.{sym, _∙_}
 use borrow.Author.Needs.{needs}
 use Rattle.crc16.proofs.half_more.Statement.{statement}
 use Rattle.crc16.proofs.half_more.Tie as tie
-use Rattle.crc16.proofs.half_more.Reads as reads
-use Rattle.crc16.proofs.half_more.Lts as lts
-use Rattle.crc16.proofs.by_x64.Reads as by-x64-reads
 
--- src/lib.rt:38:17
 by-x64-requires : tie.Need-by-x64-requires
 by-x64-requires c κs = search needs
 
--- src/lib.rt:35:1
 returns : tie.Need-returns
 returns c = rw (c .by-x64 .ensures)
-  (more-half (c .before .args .a) (c .before .args .half) (search needs) (search needs)
-  ∙ sym (crcFrom-bytesOf 4 (register (c .before .args .a)) (c .before .args .half) (search needs)))
+    (more-half (c .before .args .a) (c .before .args .half) (search needs) (search needs)
+    ∙ sym (crcFrom-bytesOf 4 (register (c .before .args .a)) (c .before .args .half) (search needs)))
 
 pub half-more-spec : {M : Type 1} → statement M
 half-more-spec = tie.close (tie.spec by-x64-requires returns)

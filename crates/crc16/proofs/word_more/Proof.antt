@@ -1,22 +1,17 @@
 use Rattle.crc16.proofs.Word.{more-word}
 use Rattle.crc16.specs.Word.{crcFrom-bytesOf, register}
-use mathlib.Core.Path.{_≡_, sym, _∙_}
+use mathlib.Core.Path.{sym, _∙_}
 use borrow.Author.Needs.{needs}
 use Rattle.crc16.proofs.word_more.Statement.{statement}
 use Rattle.crc16.proofs.word_more.Tie as tie
-use Rattle.crc16.proofs.word_more.Reads as reads
-use Rattle.crc16.proofs.word_more.Lts as lts
-use Rattle.crc16.proofs.by_x64.Reads as by-x64-reads
 
--- src/lib.rt:45:5
 by-x64-requires : tie.Need-by-x64-requires
 by-x64-requires c κs = search needs
 
--- src/lib.rt:42:1
 returns : tie.Need-returns
 returns c = rw (c .by-x64 .ensures)
-  (more-word (c .before .args .a) (c .before .args .word) (search needs) (search needs)
-  ∙ sym (crcFrom-bytesOf 8 (register (c .before .args .a)) (c .before .args .word) (search needs)))
+    (more-word (c .before .args .a) (c .before .args .word) (search needs) (search needs)
+    ∙ sym (crcFrom-bytesOf 8 (register (c .before .args .a)) (c .before .args .word) (search needs)))
 
 pub word-more-spec : {M : Type 1} → statement M
 word-more-spec = tie.close (tie.spec by-x64-requires returns)
