@@ -1,7 +1,8 @@
-use Rattle.crc16.specs.Word.{register, crcFrom-number}
-use native.Mathlib.Omega.{arith}
+-- `crc16::by_half` meets its contract: the four bytes are passed by their number.
 use mathlib.Core.Path.{_∙_}
+use native.Mathlib.Omega.{arith}
 use borrow.Author.Needs.{needs}
+use Rattle.crc16.specs.Word.{register, crcFrom-number}
 use Rattle.crc16.proofs.by_half.Statement.{statement}
 use Rattle.crc16.proofs.by_half.Tie as tie
 
@@ -27,7 +28,11 @@ by-bytes-requires-2 : tie.Need-by-bytes-requires-2
 by-bytes-requires-2 c κs = search needs
 
 returns-2 : tie.Need-returns-2
-returns-2 c = c .by-bytes2 .ensures ∙ (rw (c .before .half-more .ensures, c .before .before .u32-at .ensures) (crcFrom-number 4 (c .before .before .before .before .before .args .at) (register (c .before .before .before .before .before .args .a)) (c .before .before .before .before .before .args .bytes .now) (λ i. c .before .before .before .before .shared-slice-known .given i .fits) (omega arith)))
+returns-2 c =
+    let start = c .before .before .before .before .before .args in
+    let known = c .before .before .before .before .shared-slice-known .given in
+    let passed = crcFrom-number 4 (start .at) (register (start .a)) (start .bytes .now) (λ i. known i .fits) (omega arith) in
+    c .by-bytes2 .ensures ∙ (rw (c .before .half-more .ensures, c .before .before .u32-at .ensures) passed)
 
 pub by-half-spec : {M : Type 1} → statement M
 by-half-spec =

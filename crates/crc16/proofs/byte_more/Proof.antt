@@ -1,6 +1,7 @@
-use Rattle.crc16.proofs.Word.{more-byte}
-use Rattle.crc16.specs.Crc.{byteStep, eightBits}
+-- `crc16::byte_more` meets its contract, by the rule of eight bits more.
 use borrow.Author.Needs.{needs}
+use Rattle.crc16.specs.Crc.{byteStep, eightBits}
+use Rattle.crc16.proofs.Word.{more-byte}
 use Rattle.crc16.proofs.byte_more.Statement.{statement}
 use Rattle.crc16.proofs.byte_more.Tie as tie
 

@@ -39,7 +39,8 @@ loop-again c =
     let bytes = c .before .before .before .before .before .args .bytes .now in
     let a = c .before .before .before .loop .a in
     let i = c .before .before .before .loop .i in
-    let passed = crcFrom-number 8 i (register a) bytes (λ k. c .before .before .before .before .shared-slice-known .given k .fits) (omega arith) in
+    let known = c .before .before .before .before .shared-slice-known .given in
+    let passed = crcFrom-number 8 i (register a) bytes (λ k. known k .fits) (omega arith) in
     (omega arith, rw (c .word-more .ensures, c .before .u64-at .ensures) (passed ∙ c .before .before .before .loop .inv .1))
 
 by-half-requires : tie.Need-by-half-requires Inv-loop μ-loop

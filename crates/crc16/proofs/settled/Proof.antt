@@ -1,9 +1,10 @@
-use Rattle.crc16.proofs.Word.{settle}
+-- `crc16::settled` meets its contract, by the rule of the last fold.
+use Prim.Native.Nat.{_*_, _/_, _%_, _^_}
+use native.Mathlib.Omega.{arith}
 use lib.Count.{ones}
 use lib.Bits.{bitXor, xor-lt}
-use native.Mathlib.Omega.{arith}
-use Prim.Native.Nat.{_*_, _/_, _%_, _^_}
 use borrow.Author.Needs.{needs}
+use Rattle.crc16.proofs.Word.{settle}
 use Rattle.crc16.proofs.settled.Statement.{statement}
 use Rattle.crc16.proofs.settled.Tie as tie
 
@@ -26,10 +27,16 @@ mul-result : tie.Need-mul-result
 mul-result c = search needs
 
 cast-result-2 : tie.Need-cast-result-2
-cast-result-2 c = record { fits = xor-lt 16 (c .below-x152 .result / 2 ^ 48) (ones (bitXor (c .before .before .before .before .args .a) (c .below-x152 .result)) % 2 * 0xC001) (omega arith) (omega arith) }
+cast-result-2 c =
+    let a = c .before .before .before .before .args .a in
+    let low = c .below-x152 .result in
+    record { fits = xor-lt 16 (low / 2 ^ 48) (ones (bitXor a low) % 2 * 0xC001) (omega arith) (omega arith) }
 
 returns : tie.Need-returns
-returns c = rw (c .below-x152 .ensures, c .before .below-x15 .ensures, c .before .before .below-x302 .ensures, c .before .before .before .below-x30 .ensures) (settle (c .before .before .before .before .args .a) (search needs))
+returns c =
+    let first = c .before .before .before in
+    rw (c .below-x152 .ensures, c .before .below-x15 .ensures, c .before .before .below-x302 .ensures, first .below-x30 .ensures)
+    (settle (first .before .args .a) (search needs))
 
 pub settled-spec : {M : Type 1} → statement M
 settled-spec =
