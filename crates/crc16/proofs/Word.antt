@@ -9,7 +9,7 @@ use lib.Bits.{bitXor, xor-lt}
 use lib.Count.{ones, onesIn}
 use Rattle.decide.specs.Test.{everyBelow}
 use Rattle.crc16.specs.Crc.{times, bitStep}
-use Rattle.crc16.specs.Linear.{Linear, linear-id, linear-compose, linear-times, linear-xor, linear-shl, linear-shr, linear-low, linear-parityIn, onesIn-low, linear-bitStep, linear-agree-test}
+use Rattle.crc16.specs.Linear.{Linear, linear-id, linear-compose, linear-times, linear-xor, linear-shl, linear-shr, linear-low, linear-parityIn, onesIn-low, linear-bitStep, linear-agree-test, xor-assoc}
 use Rattle.crc16.specs.Word.{register, linear-register, up, byX64, belowX30, belowX15}
 
 -- ---- the ways are linear
@@ -69,6 +69,36 @@ linear-outWord =
 pub more-word : (a w : ℕ) → a < 2 ^ 64 → w < 2 ^ 64 → register (bitXor (outWord a) w) ≡ times 64 bitStep (bitXor (register a) w)
 unfolding everyBelow register times bitStep
 more-word = more 64 linear-outWord linear-id refl refl
+
+-- ---- 128 bits more: those of a fall out, and m stands for the two words that come in
+
+abbrev outPair : ℕ → ℕ
+outPair a =
+    bitXor (bitXor (bitXor (a / 2 ^ 23) (a / 2 ^ 16)) (a / 2 ^ 9)) (byX64 (bitXor (bitXor (up 41 a) (up 48 a)) (up 55 a)))
+
+linear-outPair : Linear outPair
+linear-outPair =
+    linear-xor (linear-xor (linear-xor (linear-shr 23) (linear-shr 16)) (linear-shr 9))
+    (linear-compose linear-byX64 (linear-xor (linear-xor (linear-up 41) (linear-up 48)) (linear-up 55)))
+
+out-pair : (a : ℕ) → a < 2 ^ 64 → register (outPair a) ≡ register (register (register a))
+unfolding everyBelow register times bitStep
+out-pair =
+    linear-agree-test
+    (linear-compose linear-register linear-outPair)
+    (linear-compose linear-register (linear-compose linear-register linear-register))
+    64
+    refl
+
+pub more-pair : (a m first second : ℕ) → a < 2 ^ 64 → register m ≡ register (bitXor (register first) second)
+    → register (bitXor (outPair a) m) ≡ register (bitXor (register (bitXor (register a) first)) second)
+more-pair a m first second h e =
+    linear-register .apart (outPair a) m
+    ∙ ap₂ bitXor (out-pair a h) e
+    ∙ sym (linear-register .apart (register (register a)) (bitXor (register first) second))
+    ∙ ap register
+    (sym (xor-assoc (register (register a)) (register first) second)
+    ∙ ap (λ (x : ℕ). bitXor x second) (sym (linear-register .apart (register a) first)))
 
 -- ---- the register itself
 

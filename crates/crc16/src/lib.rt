@@ -45,6 +45,15 @@ fn word_more(a: u64, word: u64) -> u64
     by_x64(a ^ (a << 45) ^ (a << 56) ^ (a << 59)) ^ word
 }
 
+// Sixteen bytes more: x^128 is x^23 + x^16 + x^9 in the same way, and what falls out goes by x^64. The two words do not wait for a.
+fn pair_more(a: u64, first: u64, second: u64) -> u64
+    ensures { λ r. ⌜ register r ≡ crcFrom (crcFrom (register a) (bytesOf 8 first)) (bytesOf 8 second) ⌝ }
+{
+    let kept = (a >> 23) ^ (a >> 16) ^ (a >> 9);
+    let out = (a << 41) ^ (a << 48) ^ (a << 55);
+    kept ^ by_x64(out) ^ word_more(first, second)
+}
+
 // Modulo Q, x^30 is x^2 + 1.
 fn below_x30(a: u64) -> u64
     ensures { λ r. ⌜ r ≡ belowX30 a ⌝ }
@@ -95,15 +104,26 @@ fn by_half(a: u64, bytes: &[u8], at: usize) -> u16
     by_bytes(half_more(a, words::u32_at(bytes, at)), bytes, at + 4)
 }
 
+// The bytes from a place on, the first eight of them at once.
+fn by_word(a: u64, bytes: &[u8], at: usize) -> u16
+    requires { ⌜ at ≤ length (now bytes) ⌝ }
+    ensures { λ r. ⌜ r ≡ crcFrom (register a) (drop at (now (bytes .entry))) ⌝ }
+{
+    if bytes.len() - at < 8 {
+        return by_half(a, bytes, at);
+    }
+    by_half(word_more(a, words::u64_at(bytes, at)), bytes, at + 8)
+}
+
 // The CRC of a frame's bytes before it; its low byte travels first.
 pub fn crc16(bytes: &[u8]) -> u16
     ensures { λ r. ⌜ r ≡ crcOf (now (bytes .entry)) ⌝ }
 {
     let mut a = START;
     let mut i = 0;
-    while 8 <= bytes.len() - i {
-        a = word_more(a, words::u64_at(bytes, i));
-        i += 8;
+    while 16 <= bytes.len() - i {
+        a = pair_more(a, words::u64_at(bytes, i), words::u64_at(bytes, i + 8));
+        i += 16;
     }
-    by_half(a, bytes, i)
+    by_word(a, bytes, i)
 }

@@ -1,9 +1,11 @@
 -- `crc16::crc16` meets its contract. The loop's invariant: what a stands for goes on over the bytes not yet passed to the CRC of them all.
 -- The measure is what is left of the length.
 use mathlib.Core.Path.{_≡_, refl, _∙_}
-use Prim.Native.Nat.{_-_, _≤_}
+use Prim.Native.Nat.{_+_, _-_, _≤_}
 use native.Mathlib.Omega.{arith}
 use lib.ListN.{length, drop}
+use Rattle.words.specs.Number.{bytesOf}
+use Rattle.words.specs.Place.{numberAt}
 use Rattle.crc16.specs.Crc.{crcOf, crcFrom, times, bitStep}
 use Rattle.crc16.specs.Word.{register, crcFrom-number}
 use Rattle.crc16.proofs.crc16.Statement.{statement}
@@ -25,8 +27,14 @@ sub-loop c = omega arith
 u64-at-requires : tie.Need-u64-at-requires Inv-loop μ-loop
 u64-at-requires c κs = tt
 
-word-more-requires : tie.Need-word-more-requires Inv-loop μ-loop
-word-more-requires c κs = tt
+add-u64-at : tie.Need-add-u64-at Inv-loop μ-loop
+add-u64-at c = omega arith
+
+u64-at-requires-2 : tie.Need-u64-at-requires-2 Inv-loop μ-loop
+u64-at-requires-2 c κs = tt
+
+pair-more-requires : tie.Need-pair-more-requires Inv-loop μ-loop
+pair-more-requires c κs = tt
 
 add-i : tie.Need-add-i Inv-loop μ-loop
 add-i c = omega arith
@@ -36,18 +44,24 @@ loop-less c = omega arith
 
 loop-again : tie.Need-loop-again Inv-loop μ-loop
 loop-again c =
-    let bytes = c .before .before .before .before .before .args .bytes .now in
-    let a = c .before .before .before .loop .a in
-    let i = c .before .before .before .loop .i in
-    let known = c .before .before .before .before .shared-slice-known .given in
-    let passed = crcFrom-number 8 i (register a) bytes (λ k. known k .fits) (omega arith) in
-    (omega arith, rw (c .word-more .ensures, c .before .u64-at .ensures) (passed ∙ c .before .before .before .loop .inv .1))
+    let top = c .before .before .before .before in
+    let bytes = top .before .before .args .bytes .now in
+    let known = top .before .shared-slice-known .given in
+    let i = top .loop .i in
+    let r = register (top .loop .a) in
+    let first = crcFrom-number 8 i r bytes (λ k. known k .fits) (omega arith) in
+    let second = crcFrom-number 8 (i + 8) (crcFrom r (bytesOf 8 (numberAt bytes i 8))) bytes (λ k. known k .fits) (omega arith) in
+    let both : i + 16 ≡ i + 8 + 8 = omega arith in (
+      omega arith,
+      rw (c .pair-more .ensures, c .before .u64-at2 .ensures, c .before .before .u64-at .ensures, both)
+          (second ∙ first ∙ top .loop .inv .1),
+    )
 
-by-half-requires : tie.Need-by-half-requires Inv-loop μ-loop
-by-half-requires c κs = omega arith
+by-word-requires : tie.Need-by-word-requires Inv-loop μ-loop
+by-word-requires c κs = omega arith
 
 returns : tie.Need-returns Inv-loop μ-loop
-returns c = c .by-half .ensures ∙ c .before .before .loop .inv .1
+returns c = c .by-word .ensures ∙ c .before .before .loop .inv .1
 
 pub crc16-spec : {M : Type 1} → statement M
 crc16-spec =
@@ -58,9 +72,11 @@ crc16-spec =
     loop-holds
     sub-loop
     u64-at-requires
-    word-more-requires
+    add-u64-at
+    u64-at-requires-2
+    pair-more-requires
     add-i
     loop-less
     loop-again
-    by-half-requires
+    by-word-requires
     returns)
