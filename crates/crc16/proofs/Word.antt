@@ -1,7 +1,7 @@
 -- The rules of the ways to compute: both sides are linear over xor, so a test that antt computes at the powers of two shows each.
 use mathlib.Core.Path.{_≡_, refl, sym, ap, ap₂, _∙_}
 use mathlib.Core.Bool.{true}
-use Prim.Native.Nat.{ℕ, _*_, _/_, _%_, _^_, _<_}
+use Prim.Native.Nat.{ℕ, _-_, _*_, _/_, _%_, _^_, _<_}
 use native.Mathlib.Nat.{mod-lt, mod-eq-of-lt, lt-of-le-of-lt}
 use lib.Dec.{eqb}
 use lib.Pow.{pow-pos, shr-le}
@@ -45,20 +45,22 @@ module _ (n : ℕ) {f g : ℕ → ℕ} (lf : Linear f) (lg : Linear g) where
       let gs : register (g w) ≡ times n bitStep w = linear-agree-test (linear-compose linear-register lg) steps n into w hw in
       linear-register .apart (f a) (g w) ∙ ap₂ bitXor fs gs ∙ sym (steps .apart (register a) w)
 
-abbrev outByte : ℕ → ℕ
-outByte a = bitXor (a / 2 ^ 8) (byX64 (up 56 a))
+-- where what falls out comes in again without falling out anew
+abbrev outLow : ℕ → ℕ → ℕ
+outLow n a = bitXor (a / 2 ^ n) (byX64 (up (64 - n) a))
 
-pub more-byte : (a b : ℕ) → a < 2 ^ 64 → b < 2 ^ 8 → register (bitXor (outByte a) (up 56 b)) ≡ times 8 bitStep (bitXor (register a) b)
+linear-outLow : (n : ℕ) → Linear (outLow n)
+linear-outLow n = linear-xor (linear-shr n) (linear-compose linear-byX64 (linear-up (64 - n)))
+
+pub more-byte : (a b : ℕ) → a < 2 ^ 64 → b < 2 ^ 8 → register (bitXor (outLow 8 a) (up 56 b)) ≡ times 8 bitStep (bitXor (register a) b)
 unfolding everyBelow register times bitStep
-more-byte = more 8 (linear-xor (linear-shr 8) (linear-compose linear-byX64 (linear-up 56))) (linear-up 56) refl refl
+more-byte = more 8 (linear-outLow 8) (linear-up 56) refl refl
 
-abbrev outHalf : ℕ → ℕ
-outHalf a = bitXor (a / 2 ^ 32) (byX64 (up 32 a))
-
-pub more-half : (a w : ℕ) → a < 2 ^ 64 → w < 2 ^ 32 → register (bitXor (outHalf a) (up 32 w)) ≡ times 32 bitStep (bitXor (register a) w)
+pub more-half : (a w : ℕ) → a < 2 ^ 64 → w < 2 ^ 32 → register (bitXor (outLow 32 a) (up 32 w)) ≡ times 32 bitStep (bitXor (register a) w)
 unfolding everyBelow register times bitStep
-more-half = more 32 (linear-xor (linear-shr 32) (linear-compose linear-byX64 (linear-up 32))) (linear-up 32) refl refl
+more-half = more 32 (linear-outLow 32) (linear-up 32) refl refl
 
+-- where all of a falls out
 abbrev outWord : ℕ → ℕ
 outWord a = byX64 (bitXor (bitXor (bitXor a (up 45 a)) (up 56 a)) (up 59 a))
 

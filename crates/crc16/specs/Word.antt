@@ -1,14 +1,14 @@
 -- The CRC by numbers of several bytes. Sixty-four bits stand for the register that is left when they are all shifted out, so a register has
 -- many that stand for it, and the code goes from any of the one to any of the next. Document 01 asks for no particular way.
-use mathlib.Core.Path.{_≡_, refl, sym, ap, _∙_}
+use mathlib.Core.Path.{_≡_, sym, ap, _∙_}
 use mathlib.Core.List.{List, [], _∷_}
 use Prim.Native.Nat.{ℕ, zero, suc, _+_, _*_, _/_, _%_, _^_, _≤_, _<_}
-use native.Mathlib.Nat.{add-zero, add-suc, suc-mul, zero-mul, pow-suc, pow-zero, mod-lt, zero-lt-suc}
+use native.Mathlib.Nat.{add-zero, add-suc, suc-mul, zero-mul, pow-suc, mod-lt, zero-lt-suc}
 use native.Mathlib.Omega.{arith}
 use lib.Arith.{lt-one}
 use lib.Pow.{pow-pos, split}
 use lib.Bits.{bitXor, xor-comm, xor-shifted, xor-zero-r}
-use lib.ListN.{length, getD, take, drop, length-drop, take-append-drop}
+use lib.ListN.{length, take, drop, length-drop, take-append-drop}
 use lib.Seq.{drop-drop, getD-drop, length-take-le}
 use Rattle.words.specs.Number.{Bytes, number, bytesOf, bytesOf-number}
 use Rattle.words.specs.Place.{numberAt}

@@ -1,4 +1,4 @@
-// The Modbus serial line CRC-16, eight bytes at a time and with no table.
+// The Modbus serial line CRC-16, sixteen bytes at a time and with no table.
 //
 // Sixty-four bits stand for the register that 64 shifts leave of them. As a polynomial modulo 2, bit i of them is x^(63 - i), and a shift is
 // a product with x modulo P = x^16 + x^15 + x^2 + 1, which is A001 hex with its bits turned round. P is (x + 1) Q, where Q is x^15 + x + 1.
