@@ -1,16 +1,38 @@
 -- The rules of the ways to compute: both sides are linear over xor, so a test that antt computes at the powers of two shows each.
 use mathlib.Core.Path.{_≡_, refl, sym, ap, ap₂, _∙_}
 use mathlib.Core.Bool.{true}
-use Prim.Native.Nat.{ℕ, _-_, _*_, _/_, _%_, _^_, _<_}
+use Prim.Native.Nat.{ℕ, _+_, _-_, _*_, _/_, _%_, _^_, _<_}
 use native.Mathlib.Nat.{mod-lt, mod-eq-of-lt, lt-of-le-of-lt}
 use lib.Dec.{eqb}
 use lib.Pow.{pow-pos, shr-le}
-use lib.Bits.{bitXor, xor-lt}
+use lib.Bits.{bitXor, xor-comm, xor-lt}
 use lib.Count.{ones, onesIn}
 use Rattle.decide.specs.Test.{everyBelow}
-use Rattle.crc16.specs.Crc.{times, bitStep}
-use Rattle.crc16.specs.Linear.{Linear, linear-id, linear-compose, linear-times, linear-xor, linear-shl, linear-shr, linear-low, linear-parityIn, onesIn-low, linear-bitStep, linear-agree-test, xor-assoc}
-use Rattle.crc16.specs.Word.{register, linear-register, up, byX64, belowX30, belowX15}
+use Rattle.crc16.specs.Crc.{times, bitStep, polynomial}
+use Rattle.crc16.specs.Linear.{Linear, linear-id, linear-compose, linear-times, linear-xor, linear-shl, linear-shr, linear-low, linear-bit, linear-parityIn, onesIn-low, linear-bitStep, linear-agree-test, xor-assoc}
+use Rattle.crc16.specs.Word.{register, linear-register, times-add, times-same, up, byX64, belowX30, belowX15}
+
+-- ---- the computed test
+
+-- One shift with its halves changed round, so that antt goes through A001 hex's few digits, and only where a 1 falls out.
+abbrev quick : ℕ → ℕ
+quick r = bitXor (r % 2 * polynomial) (r / 2)
+
+linear-quick : Linear quick
+linear-quick = linear-xor (linear-bit polynomial) (linear-shr 1)
+
+quick-steps : (n r : ℕ) → times n bitStep r ≡ times n quick r
+unfolding bitStep
+quick-steps n = times-same n bitStep quick (λ x. xor-comm (x / 2) (x % 2 * polynomial))
+
+-- m shifts of f and n shifts of g are the same where they are at the powers of two
+tested : (m n : ℕ) {f g : ℕ → ℕ} → Linear f → Linear g → (w : ℕ)
+    → everyBelow (λ k. eqb (times m quick (f (2 ^ k))) (times n quick (g (2 ^ k)))) w ≡ true
+    → (x : ℕ) → x < 2 ^ w → times m bitStep (f x) ≡ times n bitStep (g x)
+tested m n {f} {g} lf lg w t x h =
+    quick-steps m (f x)
+    ∙ linear-agree-test (linear-compose (linear-times m linear-quick) lf) (linear-compose (linear-times n linear-quick) lg) w t x h
+    ∙ sym (quick-steps n (g x))
 
 -- ---- the ways are linear
 
@@ -35,15 +57,17 @@ linear-belowX15 =
 -- ---- n bits more: f for the n that fall out of a, and g for the n of w that come in
 
 module _ (n : ℕ) {f g : ℕ → ℕ} (lf : Linear f) (lg : Linear g) where
-  more : everyBelow (λ k. eqb (register (f (2 ^ k))) (times n bitStep (register (2 ^ k)))) 64 ≡ true
-      → everyBelow (λ k. eqb (register (g (2 ^ k))) (times n bitStep (2 ^ k))) n ≡ true
+  more : everyBelow (λ k. eqb (times 64 quick (f (2 ^ k))) (times (n + 64) quick (2 ^ k))) 64 ≡ true
+      → everyBelow (λ k. eqb (times 64 quick (g (2 ^ k))) (times n quick (2 ^ k))) n ≡ true
       → (a w : ℕ) → a < 2 ^ 64 → w < 2 ^ n → register (bitXor (f a) (g w)) ≡ times n bitStep (bitXor (register a) w)
+  unfolding register
   more out into a w ha hw =
-      let steps = linear-times n linear-bitStep in
-      let fs : register (f a) ≡ times n bitStep (register a) =
-      linear-agree-test (linear-compose linear-register lf) (linear-compose steps linear-register) 64 out a ha in
-      let gs : register (g w) ≡ times n bitStep w = linear-agree-test (linear-compose linear-register lg) steps n into w hw in
-      linear-register .apart (f a) (g w) ∙ ap₂ bitXor fs gs ∙ sym (steps .apart (register a) w)
+      let falls : register (f a) ≡ times n bitStep (register a) =
+      tested 64 (n + 64) lf linear-id 64 out a ha ∙ times-add n 64 bitStep a in
+      let comes : register (g w) ≡ times n bitStep w = tested 64 n lg linear-id n into w hw in
+      linear-register .apart (f a) (g w)
+      ∙ ap₂ bitXor falls comes
+      ∙ sym (linear-times n linear-bitStep .apart (register a) w)
 
 -- where what falls out comes in again without falling out anew
 abbrev outLow : ℕ → ℕ → ℕ
@@ -53,11 +77,11 @@ linear-outLow : (n : ℕ) → Linear (outLow n)
 linear-outLow n = linear-xor (linear-shr n) (linear-compose linear-byX64 (linear-up (64 - n)))
 
 pub more-byte : (a b : ℕ) → a < 2 ^ 64 → b < 2 ^ 8 → register (bitXor (outLow 8 a) (up 56 b)) ≡ times 8 bitStep (bitXor (register a) b)
-unfolding everyBelow register times bitStep
+unfolding everyBelow times
 more-byte = more 8 (linear-outLow 8) (linear-up 56) refl refl
 
 pub more-half : (a w : ℕ) → a < 2 ^ 64 → w < 2 ^ 32 → register (bitXor (outLow 32 a) (up 32 w)) ≡ times 32 bitStep (bitXor (register a) w)
-unfolding everyBelow register times bitStep
+unfolding everyBelow times
 more-half = more 32 (linear-outLow 32) (linear-up 32) refl refl
 
 -- where all of a falls out
@@ -69,7 +93,7 @@ linear-outWord =
     linear-compose linear-byX64 (linear-xor (linear-xor (linear-xor linear-id (linear-up 45)) (linear-up 56)) (linear-up 59))
 
 pub more-word : (a w : ℕ) → a < 2 ^ 64 → w < 2 ^ 64 → register (bitXor (outWord a) w) ≡ times 64 bitStep (bitXor (register a) w)
-unfolding everyBelow register times bitStep
+unfolding everyBelow times
 more-word = more 64 linear-outWord linear-id refl refl
 
 -- ---- 128 bits more: those of a fall out, and m stands for the two words that come in
@@ -84,13 +108,9 @@ linear-outPair =
     (linear-compose linear-byX64 (linear-xor (linear-xor (linear-up 41) (linear-up 48)) (linear-up 55)))
 
 out-pair : (a : ℕ) → a < 2 ^ 64 → register (outPair a) ≡ register (register (register a))
-unfolding everyBelow register times bitStep
-out-pair =
-    linear-agree-test
-    (linear-compose linear-register linear-outPair)
-    (linear-compose linear-register (linear-compose linear-register linear-register))
-    64
-    refl
+unfolding everyBelow times register
+out-pair a h =
+    tested 64 192 linear-outPair linear-id 64 refl a h ∙ times-add 128 64 bitStep a ∙ times-add 64 64 bitStep (register a)
 
 pub more-pair : (a m first second : ℕ) → a < 2 ^ 64 → register m ≡ register (bitXor (register first) second)
     → register (bitXor (outPair a) m) ≡ register (bitXor (register (bitXor (register a) first)) second)
@@ -127,13 +147,13 @@ below-lt : (a : ℕ) → belowQ a < 2 ^ 64
 below-lt a = belowX15-lt (belowX15 (bitXor (belowX30 (belowX30 a) / 2) (belowX30 (belowX30 a) / 2 ^ 2)))
 
 settle-looks : (a : ℕ) → a < 2 ^ 64 → bitXor (belowQ a / 2 ^ 48) (onesIn 64 (bitXor a (belowQ a)) % 2 * 0xC001) ≡ register a
-unfolding everyBelow register times bitStep onesIn
+unfolding everyBelow times register onesIn
 settle-looks =
-    linear-agree-test
+    tested 0 64
     (linear-xor
     (linear-compose (linear-shr 48) linear-belowQ)
     (linear-compose (linear-parityIn 64 0xC001) (linear-xor linear-id linear-belowQ)))
-    linear-register
+    linear-id
     64
     refl
 

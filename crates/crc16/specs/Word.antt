@@ -1,6 +1,6 @@
 -- The CRC by numbers of several bytes. Sixty-four bits stand for the register that is left when they are all shifted out, so a register has
 -- many that stand for it, and the code goes from any of the one to any of the next. Document 01 asks for no particular way.
-use mathlib.Core.Path.{_≡_, sym, ap, _∙_}
+use mathlib.Core.Path.{_≡_, refl, sym, ap, _∙_}
 use mathlib.Core.List.{List, [], _∷_}
 use Prim.Native.Nat.{ℕ, zero, suc, _+_, _*_, _/_, _%_, _^_, _≤_, _<_}
 use native.Mathlib.Nat.{add-zero, add-suc, suc-mul, zero-mul, pow-suc, mod-lt, zero-lt-suc}
@@ -49,6 +49,12 @@ pub times-add : (m n : ℕ) (f : ℕ → ℕ) (r : ℕ) → times (m + n) f r �
 unfolding times
 times-add m zero f r = ap (λ (k : ℕ). times k f r) (add-zero m)
 times-add m (suc n) f r = ap (λ (k : ℕ). times k f r) (add-suc m n) ∙ times-add m n f (f r)
+
+-- what does the same once does the same n times
+pub times-same : (n : ℕ) (f g : ℕ → ℕ) → ((x : ℕ) → f x ≡ g x) → (r : ℕ) → times n f r ≡ times n g r
+unfolding times
+times-same zero f g same r = refl
+times-same (suc n) f g same r = ap (times n f) (same r) ∙ times-same n f g same (g r)
 
 -- k bytes at once: their number is xored into the register, and eight bits for each are shifted out
 pub crcFrom-bytesOf : (k r n : ℕ) → n < 256 ^ k → crcFrom r (bytesOf k n) ≡ times (k * 8) bitStep (bitXor r n)
