@@ -50,14 +50,49 @@ static NOINLINE uint16_t c_crc_words(const uint8_t *p, size_t n)
 }
 
 // No table: what the crate crc16 computes, in C.
+static uint64_t by_x64(uint64_t z)
+{
+    return z >> 19 ^ z >> 8 ^ z >> 5;
+}
+
+static uint64_t word_more(uint64_t a, uint64_t word)
+{
+    return by_x64(a ^ a << 45 ^ a << 56 ^ a << 59) ^ word;
+}
+
+static uint16_t settled(uint64_t a)
+{
+    uint64_t b = a, c;
+    for (int k = 0; k < 2; k++)
+        b = b >> 34 << 34 ^ b << 30 ^ b << 30 >> 2;
+    c = b >> 1 ^ b >> 2;
+    for (int k = 0; k < 2; k++)
+        c = c >> 49 << 49 ^ c << 15 ^ c << 15 >> 1;
+    return (uint16_t)(c >> 48 ^ (__builtin_parityll(a ^ c) ? 0xC001u : 0));
+}
+
 static NOINLINE uint16_t c_crc_fold(const uint8_t *p, size_t n)
 {
-    uint32_t r = 0xFFFF;
-    while (n--) {
-        uint32_t y = r ^ *p++, x = y & 0xFF;
-        r = y >> 8 ^ x << 6 ^ x << 7 ^ (__builtin_parity(x) ? 0xC001u : 0);
+    uint64_t a = 0x0F14, first, second;
+    uint32_t half;
+    for (; n >= 16; p += 16, n -= 16) {
+        memcpy(&first, p, 8);
+        memcpy(&second, p + 8, 8);
+        a = a >> 23 ^ a >> 16 ^ a >> 9 ^ by_x64(a << 41 ^ a << 48 ^ a << 55) ^ word_more(first, second);
     }
-    return (uint16_t)r;
+    if (n >= 8) {
+        memcpy(&first, p, 8);
+        a = word_more(a, first);
+        p += 8, n -= 8;
+    }
+    if (n >= 4) {
+        memcpy(&half, p, 4);
+        a = a >> 32 ^ by_x64(a << 32) ^ (uint64_t)half << 32;
+        p += 4, n -= 4;
+    }
+    for (; n != 0; p++, n--)
+        a = a >> 8 ^ by_x64(a << 56) ^ (uint64_t)*p << 56;
+    return settled(a);
 }
 
 // ---- a log's file and day report in plain C
@@ -238,6 +273,7 @@ static void compare(void)
         same_read(FULL - n, FULL);
         same_report(IMAGE - n, 0, 8);
         same_report(n, 0, 8);
+        same_crc(n, n);
         same_crc(n, 8 * n);
     }
     for (unsigned day = 0; day < 256; day++)
@@ -301,6 +337,9 @@ static void ours_crc(void) { sink += metlazuel_crc16(file, IMAGE); }
 static void appendix_crc(void) { sink += c_crc_appendix(file, IMAGE); }
 static void words_crc(void) { sink += c_crc_words(file, IMAGE); }
 static void fold_crc(void) { sink += c_crc_fold(file, IMAGE); }
+static void ours_short(void) { sink += metlazuel_crc16(file, 14); }
+static void appendix_short(void) { sink += c_crc_appendix(file, 14); }
+static void fold_short(void) { sink += c_crc_fold(file, 14); }
 static void ours_read(void) { sink += metlazuel_read_file(file, FULL, ours_out, FULL, &length); }
 static void plain_read(void) { sink += c_read_file(file, FULL, c_out, FULL, &length); }
 static void ours_report(void) { sink += metlazuel_day_report(file, IMAGE, 30, row, 7); }
@@ -338,6 +377,8 @@ int main(void)
     time_both("CRC of 53,582 bytes, C by 002's two tables", ours_crc, appendix_crc, 20);
     time_both("CRC of 53,582 bytes, C by one 16-bit table", ours_crc, words_crc, 20);
     time_both("CRC of 53,582 bytes, C by the same fold", ours_crc, fold_crc, 20);
+    time_both("CRC of 14 bytes, C by 002's two tables", ours_short, appendix_short, 5000);
+    time_both("CRC of 14 bytes, C by the same fold", ours_short, fold_short, 5000);
     time_both("file of 62 days of 15 minutes read", ours_read, plain_read, 20);
     time_both("report of a day of 96 slots", ours_report, plain_report, 5000);
     return 0;

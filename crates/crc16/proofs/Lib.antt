@@ -1,1 +1,1 @@
-pub mod Fold
+pub mod Word

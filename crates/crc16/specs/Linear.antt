@@ -4,17 +4,17 @@
 use mathlib.Core.Path.{_≡_, refl, sym, ap, ap₂, _∙_, subst}
 use mathlib.Core.Bool.{true}
 use Prim.Native.Nat.{ℕ, zero, suc, _+_, _*_, _/_, _%_, _^_, _<_}
-use native.Mathlib.Nat.{le-of-suc-le-suc, not-suc-le-zero, add-zero, zero-mul, one-mul, mod-lt, zero-lt-suc, le-step, le-refl, mul-one}
-use native.Mathlib.Numerals.{one-add}
+use native.Mathlib.Nat.{le-of-suc-le-suc, not-suc-le-zero, add-zero, zero-mul, one-mul, mod-lt, zero-lt-suc, le-step, le-refl, mul-one, mod-one}
+use native.Mathlib.Numerals.{one-add, add-one}
 use native.Mathlib.Omega.{arith}
 use lib.Dec.{eqb}
 use borrow.Author.Tests.{eqb-true}
 use Rattle.decide.specs.Test.{everyBelow, below}
 use lib.Arith.{bin-ind, lt-one}
-use lib.Pow.{pow-pos, split, shr-lt}
+use lib.Pow.{pow-pos, split, shr-lt, mod-mod-pow, field}
 use lib.Bits.{bitXor, differ, xor-step, xor-zero-r, xor-self, xor-comm, xor-shr, xor-mod, xor-block, xor-shifted, shifted-half, shifted-even}
-use lib.Count.{ones, ones-step}
-use Rattle.crc16.specs.Crc.{times, bitStep, eightBits, polynomial}
+use lib.Count.{ones, onesIn, ones-step}
+use Rattle.crc16.specs.Crc.{times, bitStep, polynomial}
 
 -- ---- xor
 
@@ -66,6 +66,9 @@ pub record Linear (f : ℕ → ℕ) : Type 0 where
 
 pub linear-zero : {f : ℕ → ℕ} → Linear f → f 0 ≡ 0
 linear-zero {f} lf = lf .apart 0 0 ∙ xor-self (f 0)
+
+pub linear-id : Linear (λ x. x)
+linear-id = record { apart = λ a b. refl }
 
 pub linear-compose : {f g : ℕ → ℕ} → Linear f → Linear g → Linear (λ x. f (g x))
 linear-compose {f} {g} lf lg = record { apart = λ a b. ap f (lg .apart a b) ∙ lf .apart (g a) (g b) }
@@ -137,6 +140,23 @@ linear-parity c = record {
       ap (λ (x : ℕ). x * c) (parity-apart a b) ∙ bits-times c (ones a % 2) (ones b % 2) (bit (ones a)) (bit (ones b));
 }
 
+-- k looks count the ones of the k low bits
+pub onesIn-low : (k n : ℕ) → onesIn k n ≡ ones (n % 2 ^ k)
+unfolding ones onesIn
+onesIn-low zero n = sym (ap ones (mod-one n))
+onesIn-low (suc k) n =
+    ap (λ (x : ℕ). n % 2 + x) (onesIn-low k (n / 2))
+    ∙ sym (ap₂ (λ (x y : ℕ). x + ones y) (mod-mod-pow n k 1) (field n k 1))
+    ∙ sym (ones-step (n % 2 ^ (k + 1)))
+    ∙ ap (λ (m : ℕ). ones (n % 2 ^ m)) (add-one k)
+
+-- the same for the k low bits, by k looks, which antt computes at a number of any size
+pub linear-parityIn : (k c : ℕ) → Linear (λ x. onesIn k x % 2 * c)
+linear-parityIn k c = record {
+  apart = λ a b.
+      rw (onesIn-low k (bitXor a b), onesIn-low k a, onesIn-low k b) (linear-compose (linear-parity c) (linear-low k) .apart a b);
+}
+
 -- ---- a linear function is known by what it does to the powers of two
 
 module _ {f g : ℕ → ℕ} (lf : Linear f) (lg : Linear g) where
@@ -170,10 +190,6 @@ pub linear-bitStep : Linear bitStep
 unfolding bitStep
 linear-bitStep = linear-xor (linear-shr 1) (linear-bit polynomial)
 
-pub linear-eightBits : Linear eightBits
-unfolding eightBits
-linear-eightBits = linear-times 8 linear-bitStep
-
 -- while the bits that fall out are 0, a step only brings the register down one place
 pub bitStep-shifted : (q k : ℕ) → bitStep (q * 2 ^ suc k) ≡ q * 2 ^ k
 unfolding bitStep
@@ -189,10 +205,3 @@ steps-shifted (suc k) q = ap (times k bitStep) (bitStep-shifted q k) ∙ steps-s
 pub steps-parts : (n q x : ℕ) → times n bitStep (bitXor (q * 2 ^ n) x) ≡ bitXor q (times n bitStep x)
 steps-parts n q x =
     linear-times n linear-bitStep .apart (q * 2 ^ n) x ∙ ap (λ (z : ℕ). bitXor z (times n bitStep x)) (steps-shifted n q)
-
--- so eight bits of any register are those of its low byte, with the rest eight places down
-pub eightBits-parts : (y : ℕ) → eightBits y ≡ bitXor (y / 256) (eightBits (y % 256))
-unfolding eightBits
-eightBits-parts y =
-    let parts : bitXor (y / 256 * 256) (y % 256) ≡ y = xor-shifted (y / 256) 8 (y % 256) (mod-lt y (pow-pos 8)) ∙ split y 8 in
-    ap eightBits (sym parts) ∙ steps-parts 8 (y / 256) (y % 256)

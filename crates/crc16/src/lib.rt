@@ -1,32 +1,129 @@
-// The Modbus serial line CRC-16.
+// The Modbus serial line CRC-16, sixteen bytes at a time and with no table.
+//
+// Sixty-four bits stand for the register that 64 shifts leave of them. As a polynomial modulo 2, bit i of them is x^(63 - i), and a shift is
+// a product with x modulo P = x^16 + x^15 + x^2 + 1, which is A001 hex with its bits turned round. P is (x + 1) Q, where Q is x^15 + x + 1.
+// Modulo Q, x^60 is x^4 + 1, so x^64 is x^8 + x^4; and x^4 is x^19 + x^5. So modulo Q, x^64 is x^19 + x^8 + x^5; modulo x + 1 both are 1; and
+// they are the same modulo P.
 ghost use mathlib.Core.Path.{_≡_};
-ghost use Rattle.crc16.specs.Crc.{byteStep, crcOf};
+ghost use Prim.Native.Nat.{_≤_};
+ghost use lib.ListN.{length, drop};
+ghost use Rattle.words.specs.Number.{bytesOf};
+ghost use Rattle.crc16.specs.Crc.{byteStep, crcFrom, crcOf};
+ghost use Rattle.crc16.specs.Word.{register, byX64, belowX30, belowX15};
 
-// What the register starts at.
-const START: u32 = 0xFFFF;
+// Stands for the register's start, FFFF hex.
+const START: u64 = 0x0F14;
 
-// What an odd number of ones in the byte that falls out leaves in the register.
-const ODD: u32 = 0xC001;
+// Q as a register, whose bit i is x^(15 - i).
+const Q: u32 = 0xC001;
 
-// The register after one byte more. Eight shifts bring its high part down eight places, and the byte
-// x that falls out leaves x << 6, x << 7 and, where it has an odd number of ones, ODD: no table.
-fn next(register: u32, byte: u8) -> u32
-    ensures { λ r. ⌜ r ≡ byteStep register byte ⌝ }
+// z x^64, as far as nothing falls out.
+fn by_x64(z: u64) -> u64
+    ensures { λ r. ⌜ r ≡ byX64 z ⌝ }
 {
-    let y = register ^ (byte as u32);
-    let x = y & 0xFF;
-    (y >> 8) ^ ((x << 6) ^ (x << 7) ^ (u32::count_ones(x) % 2 * ODD))
+    (z >> 19) ^ (z >> 8) ^ (z >> 5)
+}
+
+// One byte more: the eight bits that fall out are folded in, and the byte comes in above.
+fn byte_more(a: u64, byte: u8) -> u64
+    ensures { λ r. ⌜ register r ≡ byteStep (register a) byte ⌝ }
+{
+    (a >> 8) ^ by_x64(a << 56) ^ ((byte as u64) << 56)
+}
+
+// Four bytes more.
+fn half_more(a: u64, half: u32) -> u64
+    ensures { λ r. ⌜ register r ≡ crcFrom (register a) (bytesOf 4 half) ⌝ }
+{
+    (a >> 32) ^ by_x64(a << 32) ^ ((half as u64) << 32)
+}
+
+// Eight bytes more: what falls out of a >> 19, a >> 8 and a >> 5 goes the same way as a.
+fn word_more(a: u64, word: u64) -> u64
+    ensures { λ r. ⌜ register r ≡ crcFrom (register a) (bytesOf 8 word) ⌝ }
+{
+    by_x64(a ^ (a << 45) ^ (a << 56) ^ (a << 59)) ^ word
+}
+
+// Sixteen bytes more: x^128 is x^23 + x^16 + x^9 in the same way, and what falls out goes by x^64. The two words do not wait for a.
+fn pair_more(a: u64, first: u64, second: u64) -> u64
+    ensures { λ r. ⌜ register r ≡ crcFrom (crcFrom (register a) (bytesOf 8 first)) (bytesOf 8 second) ⌝ }
+{
+    let kept = (a >> 23) ^ (a >> 16) ^ (a >> 9);
+    let out = (a << 41) ^ (a << 48) ^ (a << 55);
+    kept ^ by_x64(out) ^ word_more(first, second)
+}
+
+// Modulo Q, x^30 is x^2 + 1.
+fn below_x30(a: u64) -> u64
+    ensures { λ r. ⌜ r ≡ belowX30 a ⌝ }
+{
+    let t = a << 30;
+    ((a >> 34) << 34) ^ t ^ (t >> 2)
+}
+
+// Modulo Q, x^15 is x + 1.
+fn below_x15(a: u64) -> u64
+    ensures { λ r. ⌜ r ≡ belowX15 a ⌝ }
+{
+    let t = a << 15;
+    ((a >> 49) << 49) ^ t ^ (t >> 1)
+}
+
+// The register itself, which is a x^16: first modulo Q, where x^16 is x^2 + x, and then modulo x + 1, where only the number of terms
+// counts. Q has an odd number of them.
+fn settled(a: u64) -> u16
+    ensures { λ r. ⌜ r ≡ register a ⌝ }
+{
+    let b = below_x30(below_x30(a));
+    let c = below_x15(below_x15((b >> 1) ^ (b >> 2)));
+    (((c >> 48) as u32) ^ (u64::count_ones(a ^ c) % 2 * Q)) as u16
+}
+
+// The bytes from a place on, one by one.
+fn by_bytes(start: u64, bytes: &[u8], at: usize) -> u16
+    ensures { λ r. ⌜ r ≡ crcFrom (register start) (drop at (now (bytes .entry))) ⌝ }
+{
+    let mut a = start;
+    let mut i = at;
+    while i < bytes.len() {
+        a = byte_more(a, bytes[i]);
+        i += 1;
+    }
+    settled(a)
+}
+
+// The bytes from a place on, the first four of them at once.
+fn by_half(a: u64, bytes: &[u8], at: usize) -> u16
+    requires { ⌜ at ≤ length (now bytes) ⌝ }
+    ensures { λ r. ⌜ r ≡ crcFrom (register a) (drop at (now (bytes .entry))) ⌝ }
+{
+    if bytes.len() - at < 4 {
+        return by_bytes(a, bytes, at);
+    }
+    by_bytes(half_more(a, words::u32_at(bytes, at)), bytes, at + 4)
+}
+
+// The bytes from a place on, the first eight of them at once.
+fn by_word(a: u64, bytes: &[u8], at: usize) -> u16
+    requires { ⌜ at ≤ length (now bytes) ⌝ }
+    ensures { λ r. ⌜ r ≡ crcFrom (register a) (drop at (now (bytes .entry))) ⌝ }
+{
+    if bytes.len() - at < 8 {
+        return by_half(a, bytes, at);
+    }
+    by_half(word_more(a, words::u64_at(bytes, at)), bytes, at + 8)
 }
 
 // The CRC of a frame's bytes before it; its low byte travels first.
 pub fn crc16(bytes: &[u8]) -> u16
     ensures { λ r. ⌜ r ≡ crcOf (now (bytes .entry)) ⌝ }
 {
-    let mut r = START;
+    let mut a = START;
     let mut i = 0;
-    while i < bytes.len() {
-        r = next(r, bytes[i]);
-        i += 1;
+    while 16 <= bytes.len() - i {
+        a = pair_more(a, words::u64_at(bytes, i), words::u64_at(bytes, i + 8));
+        i += 16;
     }
-    r as u16
+    by_word(a, bytes, i)
 }

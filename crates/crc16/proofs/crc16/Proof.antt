@@ -1,32 +1,40 @@
--- `crc16::crc16` meets its contract. The loop's invariant: the register stays in 16 bits, and goes on over the bytes not yet passed to the
--- CRC of them all. The measure is what is left of the length.
-use mathlib.Core.Path.{_≡_, refl}
-use Prim.Native.Nat.{_-_, _^_, _≤_, _<_}
-use native.Mathlib.Numerals.{add-one}
+-- `crc16::crc16` meets its contract. The loop's invariant: what a stands for goes on over the bytes not yet passed to the CRC of them all.
+-- The measure is what is left of the length.
+use mathlib.Core.Path.{_≡_, refl, _∙_}
+use Prim.Native.Nat.{_+_, _-_, _≤_}
 use native.Mathlib.Omega.{arith}
-use lib.Dec.{lit<}
-use lib.ListN.{length, drop, getD, drop-of-length-le}
-use lib.Seq.{drop-cons}
-use borrow.Author.Needs.{needs}
-use Rattle.crc16.specs.Crc.{crcOf, crcFrom, byteStep-lt}
+use lib.ListN.{length, drop}
+use Rattle.words.specs.Number.{bytesOf}
+use Rattle.words.specs.Place.{numberAt}
+use Rattle.crc16.specs.Crc.{crcOf, crcFrom, times, bitStep}
+use Rattle.crc16.specs.Word.{register, crcFrom-number}
 use Rattle.crc16.proofs.crc16.Statement.{statement}
 use Rattle.crc16.proofs.crc16.Tie as tie
 
 abbrev Inv-loop : tie.InvT-loop
-Inv-loop bytes r₀ i₀ r i = (i ≤ length bytes) × (r < 2 ^ 16) × (crcFrom r (drop i bytes) ≡ crcOf bytes)
+Inv-loop bytes a₀ i₀ a i = (i ≤ length bytes) × (crcFrom (register a) (drop i bytes) ≡ crcOf bytes)
 
 abbrev μ-loop : tie.MeasureT-loop
-μ-loop bytes r₀ i₀ r i = length bytes - i
+μ-loop bytes a₀ i₀ a i = length bytes - i
 
 loop-holds : tie.Need-loop-holds Inv-loop μ-loop
-unfolding crcOf
-loop-holds c = (search needs, lit< tt, refl)
+unfolding crcOf register times bitStep
+loop-holds c = (omega arith, refl)
 
-shared-slice-read-next : tie.Need-shared-slice-read-next Inv-loop μ-loop
-shared-slice-read-next c = omega arith
+sub-loop : tie.Need-sub-loop Inv-loop μ-loop
+sub-loop c = omega arith
 
-next-requires : tie.Need-next-requires Inv-loop μ-loop
-next-requires c κs = tt
+u64-at-requires : tie.Need-u64-at-requires Inv-loop μ-loop
+u64-at-requires c κs = tt
+
+add-u64-at : tie.Need-add-u64-at Inv-loop μ-loop
+add-u64-at c = omega arith
+
+u64-at-requires-2 : tie.Need-u64-at-requires-2 Inv-loop μ-loop
+u64-at-requires-2 c κs = tt
+
+pair-more-requires : tie.Need-pair-more-requires Inv-loop μ-loop
+pair-more-requires c κs = tt
 
 add-i : tie.Need-add-i Inv-loop μ-loop
 add-i c = omega arith
@@ -35,27 +43,25 @@ loop-less : tie.Need-loop-less Inv-loop μ-loop
 loop-less c = omega arith
 
 loop-again : tie.Need-loop-again Inv-loop μ-loop
-unfolding crcFrom
 loop-again c =
-    let bytes = c .before .before .before .before .before .args .bytes .now in
-    let r = c .before .before .before .loop .r in
-    let i = c .before .before .before .loop .i in
-    let more : i < length bytes = omega arith in
-    let byte : getD bytes i 0 < 256 = c .before .shared-slice-known2 .given i .fits in (
-      search needs,
-      rw (c .next .ensures) (byteStep-lt r (getD bytes i 0) (c .before .before .before .loop .inv .1) byte),
-      rw (c .next .ensures, add-one) (rw (drop-cons bytes i 0) at (c .before .before .before .loop .inv .2)),
+    let top = c .before .before .before .before in
+    let bytes = top .before .before .args .bytes .now in
+    let known = top .before .shared-slice-known .given in
+    let i = top .loop .i in
+    let r = register (top .loop .a) in
+    let first = crcFrom-number 8 i r bytes (λ k. known k .fits) (omega arith) in
+    let second = crcFrom-number 8 (i + 8) (crcFrom r (bytesOf 8 (numberAt bytes i 8))) bytes (λ k. known k .fits) (omega arith) in
+    let both : i + 16 ≡ i + 8 + 8 = omega arith in (
+      omega arith,
+      rw (c .pair-more .ensures, c .before .u64-at2 .ensures, c .before .before .u64-at .ensures, both)
+          (second ∙ first ∙ top .loop .inv .1),
     )
 
-cast-result : tie.Need-cast-result Inv-loop μ-loop
-cast-result c = omega arith
+by-word-requires : tie.Need-by-word-requires Inv-loop μ-loop
+by-word-requires c κs = omega arith
 
 returns : tie.Need-returns Inv-loop μ-loop
-unfolding crcFrom
-returns c =
-    let bytes = c .before .before .before .args .bytes .now in
-    let past : length bytes ≤ c .before .loop .i = omega arith in
-    rw (drop-of-length-le bytes past) at (c .before .loop .inv .2)
+returns c = c .by-word .ensures ∙ c .before .before .loop .inv .1
 
 pub crc16-spec : {M : Type 1} → statement M
 crc16-spec =
@@ -64,10 +70,13 @@ crc16-spec =
     Inv-loop
     μ-loop
     loop-holds
-    shared-slice-read-next
-    next-requires
+    sub-loop
+    u64-at-requires
+    add-u64-at
+    u64-at-requires-2
+    pair-more-requires
     add-i
     loop-less
     loop-again
-    cast-result
+    by-word-requires
     returns)

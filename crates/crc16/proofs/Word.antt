@@ -1,0 +1,165 @@
+-- The rules of the ways to compute: both sides are linear over xor, so a test that antt computes at the powers of two shows each.
+use mathlib.Core.Path.{_≡_, refl, sym, ap, ap₂, _∙_}
+use mathlib.Core.Bool.{true}
+use Prim.Native.Nat.{ℕ, _+_, _-_, _*_, _/_, _%_, _^_, _<_}
+use native.Mathlib.Nat.{mod-lt, mod-eq-of-lt, lt-of-le-of-lt}
+use lib.Dec.{eqb}
+use lib.Pow.{pow-pos, shr-le}
+use lib.Bits.{bitXor, xor-comm, xor-lt}
+use lib.Count.{ones, onesIn}
+use Rattle.decide.specs.Test.{everyBelow}
+use Rattle.crc16.specs.Crc.{times, bitStep, polynomial}
+use Rattle.crc16.specs.Linear.{Linear, linear-id, linear-compose, linear-times, linear-xor, linear-shl, linear-shr, linear-low, linear-bit, linear-parityIn, onesIn-low, linear-bitStep, linear-agree-test, xor-assoc}
+use Rattle.crc16.specs.Word.{register, linear-register, times-add, times-same, up, byX64, belowX30, belowX15}
+
+-- ---- the computed test
+
+-- One shift with its halves changed round, so that antt goes through A001 hex's few digits, and only where a 1 falls out.
+abbrev quick : ℕ → ℕ
+quick r = bitXor (r % 2 * polynomial) (r / 2)
+
+linear-quick : Linear quick
+linear-quick = linear-xor (linear-bit polynomial) (linear-shr 1)
+
+quick-steps : (n r : ℕ) → times n bitStep r ≡ times n quick r
+unfolding bitStep
+quick-steps n = times-same n bitStep quick (λ x. xor-comm (x / 2) (x % 2 * polynomial))
+
+-- m shifts of f and n shifts of g are the same where they are at the powers of two
+tested : (m n : ℕ) {f g : ℕ → ℕ} → Linear f → Linear g → (w : ℕ)
+    → everyBelow (λ k. eqb (times m quick (f (2 ^ k))) (times n quick (g (2 ^ k)))) w ≡ true
+    → (x : ℕ) → x < 2 ^ w → times m bitStep (f x) ≡ times n bitStep (g x)
+tested m n {f} {g} lf lg w t x h =
+    quick-steps m (f x)
+    ∙ linear-agree-test (linear-compose (linear-times m linear-quick) lf) (linear-compose (linear-times n linear-quick) lg) w t x h
+    ∙ sym (quick-steps n (g x))
+
+-- ---- the ways are linear
+
+linear-up : (k : ℕ) → Linear (up k)
+linear-up k = linear-compose (linear-low 64) (linear-shl k)
+
+linear-byX64 : Linear byX64
+linear-byX64 = linear-xor (linear-xor (linear-shr 19) (linear-shr 8)) (linear-shr 5)
+
+linear-belowX30 : Linear belowX30
+linear-belowX30 =
+    linear-xor
+    (linear-xor (linear-compose (linear-up 34) (linear-shr 34)) (linear-up 30))
+    (linear-compose (linear-shr 2) (linear-up 30))
+
+linear-belowX15 : Linear belowX15
+linear-belowX15 =
+    linear-xor
+    (linear-xor (linear-compose (linear-up 49) (linear-shr 49)) (linear-up 15))
+    (linear-compose (linear-shr 1) (linear-up 15))
+
+-- ---- n bits more: f for the n that fall out of a, and g for the n of w that come in
+
+module _ (n : ℕ) {f g : ℕ → ℕ} (lf : Linear f) (lg : Linear g) where
+  more : everyBelow (λ k. eqb (times 64 quick (f (2 ^ k))) (times (n + 64) quick (2 ^ k))) 64 ≡ true
+      → everyBelow (λ k. eqb (times 64 quick (g (2 ^ k))) (times n quick (2 ^ k))) n ≡ true
+      → (a w : ℕ) → a < 2 ^ 64 → w < 2 ^ n → register (bitXor (f a) (g w)) ≡ times n bitStep (bitXor (register a) w)
+  unfolding register
+  more out into a w ha hw =
+      let falls : register (f a) ≡ times n bitStep (register a) =
+      tested 64 (n + 64) lf linear-id 64 out a ha ∙ times-add n 64 bitStep a in
+      let comes : register (g w) ≡ times n bitStep w = tested 64 n lg linear-id n into w hw in
+      linear-register .apart (f a) (g w)
+      ∙ ap₂ bitXor falls comes
+      ∙ sym (linear-times n linear-bitStep .apart (register a) w)
+
+-- where what falls out comes in again without falling out anew
+abbrev outLow : ℕ → ℕ → ℕ
+outLow n a = bitXor (a / 2 ^ n) (byX64 (up (64 - n) a))
+
+linear-outLow : (n : ℕ) → Linear (outLow n)
+linear-outLow n = linear-xor (linear-shr n) (linear-compose linear-byX64 (linear-up (64 - n)))
+
+pub more-byte : (a b : ℕ) → a < 2 ^ 64 → b < 2 ^ 8 → register (bitXor (outLow 8 a) (up 56 b)) ≡ times 8 bitStep (bitXor (register a) b)
+unfolding everyBelow times
+more-byte = more 8 (linear-outLow 8) (linear-up 56) refl refl
+
+pub more-half : (a w : ℕ) → a < 2 ^ 64 → w < 2 ^ 32 → register (bitXor (outLow 32 a) (up 32 w)) ≡ times 32 bitStep (bitXor (register a) w)
+unfolding everyBelow times
+more-half = more 32 (linear-outLow 32) (linear-up 32) refl refl
+
+-- where all of a falls out
+abbrev outWord : ℕ → ℕ
+outWord a = byX64 (bitXor (bitXor (bitXor a (up 45 a)) (up 56 a)) (up 59 a))
+
+linear-outWord : Linear outWord
+linear-outWord =
+    linear-compose linear-byX64 (linear-xor (linear-xor (linear-xor linear-id (linear-up 45)) (linear-up 56)) (linear-up 59))
+
+pub more-word : (a w : ℕ) → a < 2 ^ 64 → w < 2 ^ 64 → register (bitXor (outWord a) w) ≡ times 64 bitStep (bitXor (register a) w)
+unfolding everyBelow times
+more-word = more 64 linear-outWord linear-id refl refl
+
+-- ---- 128 bits more: those of a fall out, and m stands for the two words that come in
+
+abbrev outPair : ℕ → ℕ
+outPair a =
+    bitXor (bitXor (bitXor (a / 2 ^ 23) (a / 2 ^ 16)) (a / 2 ^ 9)) (byX64 (bitXor (bitXor (up 41 a) (up 48 a)) (up 55 a)))
+
+linear-outPair : Linear outPair
+linear-outPair =
+    linear-xor (linear-xor (linear-xor (linear-shr 23) (linear-shr 16)) (linear-shr 9))
+    (linear-compose linear-byX64 (linear-xor (linear-xor (linear-up 41) (linear-up 48)) (linear-up 55)))
+
+out-pair : (a : ℕ) → a < 2 ^ 64 → register (outPair a) ≡ register (register (register a))
+unfolding everyBelow times register
+out-pair a h =
+    tested 64 192 linear-outPair linear-id 64 refl a h ∙ times-add 128 64 bitStep a ∙ times-add 64 64 bitStep (register a)
+
+pub more-pair : (a m first second : ℕ) → a < 2 ^ 64 → register m ≡ register (bitXor (register first) second)
+    → register (bitXor (outPair a) m) ≡ register (bitXor (register (bitXor (register a) first)) second)
+more-pair a m first second h e =
+    linear-register .apart (outPair a) m
+    ∙ ap₂ bitXor (out-pair a h) e
+    ∙ sym (linear-register .apart (register (register a)) (bitXor (register first) second))
+    ∙ ap register
+    (sym (xor-assoc (register (register a)) (register first) second)
+    ∙ ap (λ (x : ℕ). bitXor x second) (sym (linear-register .apart (register a) first)))
+
+-- ---- the register itself
+
+-- a times x ^ 16, which is x ^ 2 + x, modulo Q
+abbrev pub belowQ : ℕ → ℕ
+belowQ a = belowX15 (belowX15 (bitXor (belowX30 (belowX30 a) / 2) (belowX30 (belowX30 a) / 2 ^ 2)))
+
+up-lt : (k a : ℕ) → up k a < 2 ^ 64
+up-lt k a = mod-lt (a * 2 ^ k) (pow-pos 64)
+
+belowX15-lt : (a : ℕ) → belowX15 a < 2 ^ 64
+belowX15-lt a =
+    xor-lt 64 (bitXor (up 49 (a / 2 ^ 49)) (up 15 a)) (up 15 a / 2)
+    (xor-lt 64 (up 49 (a / 2 ^ 49)) (up 15 a) (up-lt 49 (a / 2 ^ 49)) (up-lt 15 a))
+    (lt-of-le-of-lt (shr-le (up 15 a) 1) (up-lt 15 a))
+
+linear-belowQ : Linear belowQ
+linear-belowQ =
+    linear-compose linear-belowX15
+    (linear-compose linear-belowX15
+    (linear-compose (linear-xor (linear-shr 1) (linear-shr 2)) (linear-compose linear-belowX30 linear-belowX30)))
+
+below-lt : (a : ℕ) → belowQ a < 2 ^ 64
+below-lt a = belowX15-lt (belowX15 (bitXor (belowX30 (belowX30 a) / 2) (belowX30 (belowX30 a) / 2 ^ 2)))
+
+settle-looks : (a : ℕ) → a < 2 ^ 64 → bitXor (belowQ a / 2 ^ 48) (onesIn 64 (bitXor a (belowQ a)) % 2 * 0xC001) ≡ register a
+unfolding everyBelow times register onesIn
+settle-looks =
+    tested 0 64
+    (linear-xor
+    (linear-compose (linear-shr 48) linear-belowQ)
+    (linear-compose (linear-parityIn 64 0xC001) (linear-xor linear-id linear-belowQ)))
+    linear-id
+    64
+    refl
+
+-- and Q is added where that makes the number of terms odd or even as a's is
+pub settle : (a : ℕ) → a < 2 ^ 64 → bitXor (belowQ a / 2 ^ 48) (ones (bitXor a (belowQ a)) % 2 * 0xC001) ≡ register a
+settle a h =
+    let both = bitXor a (belowQ a) in
+    let looks : onesIn 64 both ≡ ones both = onesIn-low 64 both ∙ ap ones (mod-eq-of-lt (xor-lt 64 a (belowQ a) h (below-lt a))) in
+    ap (λ (n : ℕ). bitXor (belowQ a / 2 ^ 48) (n % 2 * 0xC001)) (sym looks) ∙ settle-looks a h
