@@ -167,7 +167,7 @@ same-size p q slots h = ap dataBytes (named p q slots h) ∙ name-size p (q .det
 pub record FitsRow (row : List ℕ) : Type 0 where
   pub count : (i : ℕ) → countAt row i < 65536
 
-row-again : (row rest : List ℕ) → FitsRow row → countsOf (rowBytes row ++ rest) ≡ fourCounts row
+pub row-again : (row rest : List ℕ) → FitsRow row → countsOf (rowBytes row ++ rest) ≡ fourCounts row
 unfolding countsOf fourCounts rowBytes
 row-again row rest h =
     let A = bytesOf 2 (countAt row 0) in

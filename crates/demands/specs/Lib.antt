@@ -5,3 +5,4 @@ pub mod Held
 pub mod Wire
 pub mod Demand2
 pub mod Changes
+pub mod Six
