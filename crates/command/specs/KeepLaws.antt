@@ -33,6 +33,7 @@ change-within p r f w h = go p (both (detailFits p (detailIn f)) (dataFits p (r 
   where
     t : Fitting (r .time)
     t = fitting (r .time) (w .time)
+
     go : (q : Parameter) → dataFits q (r .telemetry) (dataIn f) ≡ true → Within (changed q r f)
     go parameter.Address e = remade-within r _ _ _ _ _ _ _ w e (w .protection) (w .time) (w .telemetry) (w .next)
     go parameter.Telemetry e =
@@ -54,6 +55,7 @@ zero-within p r w = go p
   where
     t : Fitting (r .time)
     t = fitting (r .time) (w .time)
+
     go : (q : Parameter) → Within (zeroed q r)
     go parameter.SummerDate = time-within r _ w (is-fitting _ (record { clock = t .clock; summer = refl; winter = t .winter }))
     go parameter.WinterDate = time-within r _ w (is-fitting _ (record { clock = t .clock; summer = t .summer; winter = refl }))

@@ -150,6 +150,7 @@ wrong-password r f e n = ap (λ (fn : Function). isDone (verdictBy fn r f)) e �
   where
     unlike : eqb (numberAt f 4 8) (passwordFor (r .passwords) (byteAt f 3)) ≡ false
     unlike = ne-eqb (numberAt f 4 8) (passwordFor (r .passwords) (byteAt f 3)) n
+
     go : (a b : Bool) → isDone (cond a (cond b (cond (eqb (numberAt f 4 8) (passwordFor (r .passwords) (byteAt f 3))) (cond (eqb (byteAt f 2) 0) Done WrongArgument) NoAccess) WrongArgument) WrongLength) ≡ false
     go false b = refl
     go true false = refl

@@ -4,22 +4,23 @@
 -- The meter answers by the definition that the contract of `answer` cites (`meter/specs/Reply.antt`), the reader decodes by that of `decode`
 -- (`reader/specs/Reply.antt`). The figures that a record and its store hold for a request are `held` (`Held.antt`).
 use mathlib.Core.Path.{_≡_, refl, sym, ap, ap₂, subst, _∙_}
-use mathlib.Core.Bool.{Bool, true, false, cond, _&&_}
+use mathlib.Core.Bool.{Bool, true, false, cond, _&&_, false≢true}
 use mathlib.Core.List.{List, [], _∷_, _++_}
 use Prim.Native.Nat.{ℕ, _+_, _≤_, _<_}
 use native.Mathlib.Omega.{arith}
 use lib.Dec.{eqb, leb, ltb, lit≤}
 use lib.ListN.{length, take, drop}
-use borrow.Author.Tests.{ltb-false}
+use borrow.Author.Tests.{ltb-false, le-ltb, eq-eqb}
 use Rattle.decide.specs.Test.{both}
 use Rattle.words.specs.Number.{Bytes, bytesOf}
 use Rattle.words.specs.Place.{byteAt, written}
 use Rattle.frame.specs.Code.{functionOf, parameterOf}
-use Rattle.frame.specs.Sealing.{framed, length-framed}
+use Rattle.frame.specs.Sealing.{framed, length-framed, crcFits-framed}
 use Rattle.crc16.specs.Crc.{crcOf}
 use Rattle.frame.specs.declared.code.Function.{Function}
 use Rattle.frame.specs.declared.code.Function.the-variants as function
 use Rattle.frame.specs.declared.code.Parameter.{Parameter}
+use Rattle.frame.specs.declared.code.Parameter.the-variants as parameter
 use Rattle.slots.specs.Day.{slotsOf, slots-at-most}
 use Rattle.request.specs.Request.{requestFrame}
 use Rattle.request.specs.RequestLaws.{subject-wider}
@@ -33,16 +34,21 @@ use Rattle.meter_record.specs.declared.record.Record.{Record}
 use Rattle.command.specs.Judgement.{verdictOf, verdictBy, readVerdict}
 use Rattle.command.specs.JudgementLaws.{read-accepted}
 use Rattle.command.specs.Parts.{functionIn, parameterByte, parameterIn, requestIn}
-use Rattle.command.specs.Verdict.{numberOf, isDone}
+use Rattle.command.specs.Verdict.{numberOf, resultOf, isDone}
 use Rattle.command.specs.declared.verdict.Verdict.{Verdict}
 use Rattle.command.specs.declared.verdict.Verdict.the-variants.{Done, TooShort, Unsound, Silent, UnknownFunction, UnknownParameter, NotOpen, WrongLength, NoAccess, WrongArgument}
-use Rattle.meter.specs.Reading.{figuresOf, sizeOf, dataOf}
-use Rattle.meter.specs.Reply.{Outcome, isSound, heard, functionFor, headOf, done, replied, answerOf}
-use Rattle.meter.specs.ReplyLaws.{length-figures, size-small}
+use Rattle.meter.specs.Reading.{figuresOf, sixBytes, dataOf}
+use Rattle.meter.specs.Reply.{Outcome, isSound, heard, functionFor, headOf, done, refused, replied, answerOf}
+use Rattle.meter.specs.ReplyLaws.{length-figures, size-small, length-head}
+use Rattle.reader.specs.Form as form
+use Rattle.reader.specs.Form.{lengthFor, formOf}
+use Rattle.reader.specs.Rows.{replyData, sixOf as sixIn}
 use Rattle.reader.specs.Reply.{decodedOf, repliedOf, figuresOf as figuresIn}
 use Rattle.reader.specs.declared.reply.Decoded.{Decoded}
+use Rattle.reader.specs.declared.reply.Decoded.the-variants as decoded
 use Rattle.demands.specs.Held.{held, FitsRecord, same-size, found-again}
-use Rattle.demands.specs.Wire.{OfBytes, bytes-cons, slice-fits, figures-bytes, replyBody, reply-formed, front-again}
+use Rattle.demands.specs.Six.{six-again}
+use Rattle.demands.specs.Wire.{OfBytes, nil, bytes-cons, slice-fits, figures-bytes, replyBody, reply-formed, front-again}
 
 -- ---- the claim: what is read
 
@@ -179,3 +185,56 @@ demand-2-read r s q out f b k h =
     let p = passed r s (requestFrame q) out h in
     let w = within r (both (eqb (length s) storeBytes) (isWithin r) (p .sound) .1) in
     ap (decodedOf q) (reply-is r s q out p) ∙ decoded-is r s q w f b k (asked r q (p .verdict))
+
+-- "six rows", taken by the reader beside the decoding
+pub demand-2-six : (r : Record) (s : List ℕ) (q : Request) (out : List ℕ) → Bytes s
+    → parameterOf (q .parameter) ≡ parameter.SixSlices → numberOf ((answered r s q out) .answer .verdict) ≡ 0
+    → sixIn (replyData (replyIn (answered r s q out))) ≡ sixOf s (keyOf q)
+unfolding framed
+demand-2-six r s q out b e h =
+    let p = passed r s (requestFrame q) out h in
+    let figures : figuresOf (parameterOf (q .parameter)) r s q ≡ sixBytes (sixOf s (keyOf q)) = ap (λ (x : Parameter). figuresOf x r s q) e in
+    ap (λ (y : List ℕ). sixIn (replyData y)) (reply-is r s q out p ∙ ap (λ (x : List ℕ). framed (replyBody q x)) figures)
+    ∙ six-again s (keyOf q) (bytesOf 2 (crcOf (replyBody q (sixBytes (sixOf s (keyOf q)))))) b
+
+-- ---- "A refusal frame decodes to 24 with its result"
+
+refusal-decoded : (q : Request) (k : ℕ) → k < 256 → eqb k 0 ≡ false → FitsRequest q → askable (subjectOf q mostSlots) ≡ true
+    → decodedOf q (framed (q .address ∷ 131 ∷ q .parameter ∷ k ∷ [])) ≡ decoded.MeterRefused k
+unfolding decodedOf repliedOf formOf lengthFor form.functionFor form.headOf framed bytesOf
+refusal-decoded q k small n f h =
+    let bytes : OfBytes (q .address ∷ 131 ∷ q .parameter ∷ k ∷ []) =
+    bytes-cons (q .address) (f .address) (bytes-cons 131 (lit≤ tt) (bytes-cons (q .parameter) (f .parameter) (bytes-cons k small nil))) in
+    simp (h, n, crcFits-framed (q .address ∷ 131 ∷ q .parameter ∷ k ∷ []) (bytes .each), eq-eqb (q .address) (q .address) refl, eq-eqb (q .parameter) (q .parameter) refl)
+
+-- the refusal frame that a request gets, decoded
+refusal-of : (q : Request) (v : Verdict) → FitsRequest q → askable (subjectOf q mostSlots) ≡ true → isDone v ≡ false
+    → decodedOf q (framed (headOf v (requestFrame q))) ≡ decoded.MeterRefused (resultOf v)
+unfolding headOf functionFor requestFrame framed functionOf parameterByte bytesOf
+refusal-of q Done f h e = absurd (false≢true (sym e))
+refusal-of q TooShort f h e = refusal-decoded q 3 (lit≤ tt) refl f h
+refusal-of q Unsound f h e = refusal-decoded q 3 (lit≤ tt) refl f h
+refusal-of q Silent f h e = refusal-decoded q 3 (lit≤ tt) refl f h
+refusal-of q UnknownFunction f h e = refusal-decoded q 1 (lit≤ tt) refl f h
+refusal-of q UnknownParameter f h e = refusal-decoded q 2 (lit≤ tt) refl f h
+refusal-of q NotOpen f h e = refusal-decoded q 3 (lit≤ tt) refl f h
+refusal-of q WrongLength f h e = refusal-decoded q 3 (lit≤ tt) refl f h
+refusal-of q NoAccess f h e = refusal-decoded q 4 (lit≤ tt) refl f h
+refusal-of q WrongArgument f h e = refusal-decoded q 3 (lit≤ tt) refl f h
+
+-- a refused command's answer, whole
+refused-whole : (r : Record) (s f out : List ℕ) → 64 ≤ length out → isSound r s ≡ true → heard r f ≡ true → isDone (verdictOf r f) ≡ false
+    → answerOf r s f out ≡ refused (verdictOf r f) r s f out
+unfolding answerOf replied
+refused-whole r s f out room sound hear d = simp (le-ltb (length out) 64 room, sound, hear, d)
+
+pub demand-2-refused : (r : Record) (s : List ℕ) (q : Request) (out : List ℕ) → FitsRequest q → askable (subjectOf q mostSlots) ≡ true
+    → 64 ≤ length out → isSound r s ≡ true → heard r (requestFrame q) ≡ true → isDone (verdictOf r (requestFrame q)) ≡ false
+    → decodedOf q (replyIn (answered r s q out)) ≡ decoded.MeterRefused (resultOf (verdictOf r (requestFrame q)))
+demand-2-refused r s q out f h room sound hear d =
+    let v = verdictOf r (requestFrame q) in
+    let frame = framed (headOf v (requestFrame q)) in
+    let l : length frame ≡ 6 = length-framed (headOf v (requestFrame q)) ∙ ap (λ (n : ℕ). n + 2) (length-head v (requestFrame q)) in
+    ap (decodedOf q)
+    (ap replyIn (refused-whole r s (requestFrame q) out room sound hear d) ∙ front-again out frame 6 l (omega (arith, room)))
+    ∙ refusal-of q v f h d

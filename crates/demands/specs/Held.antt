@@ -198,6 +198,7 @@ power-again p detail rest f h = go (eqb detail 0) (eqb detail 1) (eqb detail 2)
   where
     b : BoundsPhases p
     b = powers-bounds p h
+
     go : (x y z : Bool) → figuresIn (cond x subject.Powers subject.OnePower) (cond x (powersBytes p) (powerBytes (cond y (p .a) (cond z (p .b) (p .c)))) ++ rest)
         ≡ cond x (decoded.Powers (record { total = totalOf p; phases = p })) (decoded.OnePower (cond y (p .a) (cond z (p .b) (p .c))))
     go true y z = rw (powers-read p rest f h)

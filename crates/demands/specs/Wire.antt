@@ -49,7 +49,7 @@ use Rattle.demands.specs.Held.{FitsRecord, FitsRow}
 pub record OfBytes (xs : List ℕ) : Type 0 where
   pub each : Bytes xs
 
-nil : OfBytes []
+pub nil : OfBytes []
 nil = record { each = λ i. zero-lt-suc 255 }
 
 pub bytes-cons : (x : ℕ) {xs : List ℕ} → x < 256 → OfBytes xs → OfBytes (x ∷ xs)
@@ -89,12 +89,14 @@ slice-fits s k b = record { count = go (isKept s k) refl }
     small (suc (suc zero)) = count-fits s _ b
     small (suc (suc (suc zero))) = count-fits s _ b
     small (suc (suc (suc (suc i)))) = zero-lt-suc 65535
+
     none : (i : ℕ) → countAt (0 ∷ 0 ∷ 0 ∷ 0 ∷ []) i < 65536
     none zero = zero-lt-suc 65535
     none (suc zero) = zero-lt-suc 65535
     none (suc (suc zero)) = zero-lt-suc 65535
     none (suc (suc (suc zero))) = zero-lt-suc 65535
     none (suc (suc (suc (suc i)))) = zero-lt-suc 65535
+
     go : (c : Bool) → isKept s k ≡ c → (i : ℕ) → countAt (sliceOf s k) i < 65536
     go true e i = simp e (small i)
     go false e i = simp e (none i)
@@ -150,8 +152,10 @@ figures-bytes p r s q w f = go p
   where
     t : Fitting (r .time)
     t = fitting (r .time) (w .time)
+
     y : r .time .clock .date .year < 100
     y = ranges (r .time .clock .date) (time-ranges (r .time .clock) (t .clock) .date) .year-below
+
     go : (p : Parameter) → OfBytes (figuresOf p r s q)
     go parameter.ActivePower = powers-bytes (r .active) (q .detail)
     go parameter.ReactivePower = powers-bytes (r .reactive) (q .detail)
