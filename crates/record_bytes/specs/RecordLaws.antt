@@ -148,3 +148,8 @@ module _ (r : Record) where
         front-there .0,
         front-there .2,
       )
+
+-- what a call puts over the bytes that it read, the next call reads
+pub record-renewed : (s : List ℕ) (r after : Record) → recordOf s ≡ Read r
+    → FitsRecord after → FinitePhases (after .active) → FinitePhases (after .reactive) → recordOf (written s 0 (recordBytes after)) ≡ Read after
+record-renewed s r after e f a p = ap recordOf (record-whole s after (read-size s r e)) ∙ record-back after f a p

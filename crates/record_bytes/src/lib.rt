@@ -12,3 +12,5 @@ pub use record::RECORD_BYTES;
 pub use record::RecordRead;
 pub use record::put_record;
 pub use record::record_of;
+pub use time::SeasonRead;
+pub use time::season_of;

@@ -48,7 +48,7 @@ fn season_byte(s: Season) -> u8
     }
 }
 
-fn season_of(byte: u8) -> SeasonRead
+pub fn season_of(byte: u8) -> SeasonRead
     ensures { λ r. ⌜ r ≡ seasonOf byte ⌝ }
 {
     match byte {
