@@ -5,10 +5,9 @@ use Rattle.logfile.specs.Read as read
 use Rattle.logfile.specs.declared.read.ReadAnswer.{ReadAnswer}
 use Rattle.logfile.specs.declared.read.ReadAnswer.the-variants.{Done, WrongMark, WrongVersion, WrongHeader, WrongLength, WrongCrc, WrongCell, TooShort}
 use Rattle.dayreport.specs.Report as report
-use mathlib.Core.Bool.{false, cond}
+use mathlib.Core.Bool.{cond}
 use lib.Dec.{ltb}
-use lib.Ieee.{Float, inf, binary32, ofBits}
-use lib.Ieee.Scale.{finite}
+use lib.Ieee.{binary32, ofBits}
 use lib.ListN.{length}
 use Rattle.words.specs.Place.{written}
 use Rattle.calendar.specs.declared.time.DateTime.{DateTime}
@@ -76,12 +75,8 @@ abbrev pub clockFrom : ℕ → ℕ → ℕ → ℕ → ℕ → ℕ → DateTime
 clockFrom year month day hour minute second =
     record { date = record { year = year; month = month; day = day }; hour = hour; minute = minute; second = second }
 
--- the float with these bits, or the infinity for one that is not finite: out of bounds both (`powers-from`)
-unfoldable pub floatFrom : ℕ → Float
-floatFrom n = cond (finite (ofBits binary32 n)) (ofBits binary32 n) (inf false)
-
 abbrev pub phasesFrom : ℕ → ℕ → ℕ → Phases
-phasesFrom a b c = record { a = floatFrom a; b = floatFrom b; c = floatFrom c }
+phasesFrom a b c = record { a = ofBits binary32 a; b = ofBits binary32 b; c = ofBits binary32 c }
 
 -- the calls on what was read: bytes that are no record count as one outside its ranges
 

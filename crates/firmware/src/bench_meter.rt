@@ -16,7 +16,8 @@ ghost use Prim.Native.Nat.{_*_};
 ghost use mathlib.Core.List.{[], _∷_};
 ghost use Rattle.record_bytes.specs.Record.{recordOf};
 ghost use Rattle.meter.specs.Bench.{outcome};
-ghost use Rattle.firmware.specs.Told.{telemetryFrom, clockFrom, floatFrom, phasesFrom, madeIn, secondIn, powersIn, sliceIn, bytesAfter, keptOutcome, keptTold, makeTold, sliceOutcome, sliceTold, unreadNumber, replyBytes, answerOutcome, answerTold};
+ghost use Rattle.firmware.specs.Bits.{floatFrom};
+ghost use Rattle.firmware.specs.Told.{telemetryFrom, clockFrom, phasesFrom, madeIn, secondIn, powersIn, sliceIn, bytesAfter, keptOutcome, keptTold, makeTold, sliceOutcome, sliceTold, unreadNumber, replyBytes, answerOutcome, answerTold};
 
 // A reply's output holds at least the longest frame.
 const LONGEST: usize = 64;

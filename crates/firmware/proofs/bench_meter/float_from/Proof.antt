@@ -4,7 +4,7 @@ use lib.Ieee.Bits.{nanBits-above}
 use lib.Arith.{le→nltb}
 use native.Mathlib.Nat.{le-of-lt}
 use Rattle.figures.specs.Power.{finite-bits}
-use Rattle.firmware.specs.Told.{floatFrom}
+use Rattle.firmware.specs.Bits.{floatFrom}
 use Rattle.firmware.proofs.bench_meter.float_from.Statement.{statement}
 use Rattle.firmware.proofs.bench_meter.float_from.Tie as tie
 

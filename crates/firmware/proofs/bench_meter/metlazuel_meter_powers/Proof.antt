@@ -1,3 +1,4 @@
+use Rattle.firmware.specs.Bits.{powers-from}
 use mathlib.Core.Path.{ap, _∙_}
 use Rattle.meter_record.specs.declared.record.RecordAnswer.{RecordAnswer}
 use Rattle.firmware.specs.Told.{keptTold}
@@ -27,7 +28,7 @@ same-length : tie.Need-same-length
 same-length c = search needs
 
 returns : tie.Need-returns
-returns c = c .before .before .keep .ensures ∙ ap (λ (a : RecordAnswer). keptTold a (c .before .before .before .before .before .before .before .before .before .before .before .args .kept .now)) (c .before .before .before .before .powers-in .ensures ∙ rw (c .before .before .before .before .before .record-of .ensures, c .before .before .before .before .before .before .before .before .before .float-from .ensures, c .before .before .before .before .before .before .before .before .float-from2 .ensures, c .before .before .before .before .before .before .before .float-from3 .ensures))
+returns c = c .before .before .keep .ensures ∙ ap (λ (a : RecordAnswer). keptTold a (c .before .before .before .before .before .before .before .before .before .before .before .args .kept .now)) (c .before .before .before .before .powers-in .ensures ∙ rw (c .before .before .before .before .before .record-of .ensures, c .before .before .before .before .before .before .before .before .before .float-from .ensures, c .before .before .before .before .before .before .before .before .float-from2 .ensures, c .before .before .before .before .before .before .before .float-from3 .ensures) (powers-from _ (c .before .before .before .before .before .before .before .before .before .before .before .args .parameter) (c .before .before .before .before .before .before .before .before .before .before .before .args .a) (c .before .before .before .before .before .before .before .before .before .before .before .args .b) (c .before .before .before .before .before .before .before .before .before .before .before .args .c)))
 
 pub metlazuel-meter-powers-spec : {M : Type 1} → statement M
 metlazuel-meter-powers-spec =
