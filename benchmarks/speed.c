@@ -487,6 +487,40 @@ static void compare_meter(void)
     }
 }
 
+// The bench's own calls, by what they leave in the record.
+static void expect(int right)
+{
+    if (!right)
+        differ("bench");
+    compared++;
+}
+
+static void compare_bench(void)
+{
+    static const uint32_t bits[3] = {0x3FC00000, 0xC0000000, 0x49742400}, no_number = 0x7FC00000, infinity = 0x7F800000;
+    static const float figures[3] = {1.5f, -2.0f, 1000000.0f};
+    uint8_t r[METLAZUEL_RECORD_BYTES] = {0}, before[sizeof r];
+    struct meter m;
+    struct date_time clock = {58, 59, 23, 31, 12, 24}, later = {0, 0, 0, 1, 1, 25};
+    expect(metlazuel_meter_make(r, sizeof r - 1, 0, 15, 2000, 100, 7, 24, 12, 31, 23, 59, 58, 2) == 1);
+    expect(metlazuel_meter_make(r, sizeof r, 9, 15, 2000, 100, 7, 24, 12, 31, 23, 59, 58, 2) == 27);
+    expect(metlazuel_meter_make(r, sizeof r, 0, 15, 2000, 100, 7, 24, 12, 31, 23, 59, 58, 1) == 27);
+    expect(metlazuel_meter_make(r, sizeof r, 9, 30, 2000, 100, 7, 24, 12, 31, 23, 59, 58, 1) == 0 && c_load(&m, r) && meter_right(&m));
+    expect(m.address == 9 && m.minutes == 30 && m.k == 2000 && m.ke == 100 && m.reserve == 7 && m.season == 1 && m.next == 0);
+    expect(memcmp(&m.clock, &clock, sizeof clock) == 0 && m.main[0] == 0x30 && m.auxiliary[7] == 0x30 && m.parameters == 0xFFFFFFFF);
+    expect(metlazuel_meter_powers(r, sizeof r, 8, bits[0], bits[1], bits[2]) == 0 && c_load(&m, r));
+    expect(memcmp(m.active, figures, sizeof figures) == 0 && m.reactive[0] == 0);
+    expect(metlazuel_meter_powers(r, sizeof r, 9, bits[2], bits[0], bits[1]) == 0 && c_load(&m, r) && m.reactive[1] == figures[0]);
+    expect(metlazuel_meter_second(r, sizeof r) == 0 && metlazuel_meter_second(r, sizeof r) == 0 && c_load(&m, r));
+    expect(memcmp(&m.clock, &later, sizeof later) == 0);
+    memcpy(before, r, sizeof r);
+    expect(metlazuel_meter_powers(r, sizeof r, 8, no_number, 0, 0) == 27 && metlazuel_meter_powers(r, sizeof r, 9, 0, infinity, 0) == 27);
+    expect(metlazuel_meter_powers(r, sizeof r, 7, 0, 0, 0) == 27 && metlazuel_meter_powers(r, sizeof r, 8, 0, 0, bits[2] + 1) == 27);
+    expect(metlazuel_meter_slice(r, sizeof r, store, sizeof store, 5, 1, 48, 1, 2, 3, 4) == 27);
+    expect(metlazuel_meter_slice(r, sizeof r, store, sizeof store - 1, 5, 1, 47, 1, 2, 3, 4) == 28);
+    expect(metlazuel_meter_second(r, sizeof r - 1) == 28 && memcmp(r, before, sizeof r) == 0);
+}
+
 static void compare(void)
 {
     same_read(FULL, IMAGE);
@@ -630,6 +664,7 @@ int main(void)
     seal_frame(last_frame, 8);
     seal_frame(absent_frame, 8);
     compare();
+    compare_bench();
     compare_meter();
     printf("compared: %lu calls answered alike, %lu of them refusals\n\n", compared, refused);
     printf("%-46s %10s %10s %8s\n", "microseconds a call, best of 100", "ours", "C -O2", "ours/C");
