@@ -5,6 +5,31 @@ use Rattle.logfile.specs.Read as read
 use Rattle.logfile.specs.declared.read.ReadAnswer.{ReadAnswer}
 use Rattle.logfile.specs.declared.read.ReadAnswer.the-variants.{Done, WrongMark, WrongVersion, WrongHeader, WrongLength, WrongCrc, WrongCell, TooShort}
 use Rattle.dayreport.specs.Report as report
+use mathlib.Core.Bool.{cond}
+use lib.Dec.{ltb}
+use lib.Ieee.{binary32, ofBits}
+use lib.ListN.{length}
+use Rattle.words.specs.Place.{written}
+use Rattle.calendar.specs.declared.time.DateTime.{DateTime}
+use Rattle.figures.specs.declared.power.Phases.{Phases}
+use Rattle.figures.specs.declared.telemetry.Telemetry.{Telemetry}
+use Rattle.slots.specs.declared.key.Key.{Key}
+use Rattle.command.specs.Verdict as verdict
+use Rattle.command.specs.Verdict.{isDone}
+use Rattle.meter_record.specs.Record.{made, secondOf, setPowers, numberOf}
+use Rattle.meter_record.specs.declared.record.RecordAnswer.{RecordAnswer}
+use Rattle.meter_record.specs.declared.record.RecordAnswer.the-variants as answer
+use Rattle.record_bytes.specs.Record.{recordSize, recordBytes}
+use Rattle.record_bytes.specs.Time.{seasonOf}
+use Rattle.record_bytes.specs.declared.record.RecordRead.{RecordRead}
+use Rattle.record_bytes.specs.declared.record.RecordRead.the-variants.{Read, Unreadable}
+use Rattle.record_bytes.specs.declared.time.SeasonRead.{SeasonRead}
+use Rattle.record_bytes.specs.declared.time.SeasonRead.the-variants as season
+use Rattle.meter.specs.Bench as bench
+use Rattle.meter.specs.Bench.{slicePut}
+use Rattle.meter.specs.Reply as reply
+use Rattle.meter.specs.Reply.{answerOf}
+use Rattle.meter.specs.declared.reply.Answered.{Answered}
 
 -- the lent length: the image's, and untouched by a refusal
 unfoldable pub lengthAfter : ReadAnswer → ℕ → ℕ
@@ -39,3 +64,99 @@ reportOutcome n row = record { number = n; row = row }
 -- a day's report: the number of its answer, and the row
 abbrev pub reportTold : report.Outcome → ReportOutcome
 reportTold o = reportOutcome (report.reportNumber (o .answer)) (o .row)
+
+-- ---- the bench meter, whose record is lent bytes
+
+-- the numbers that C hands over, as the figures that they are
+abbrev pub telemetryFrom : ℕ → ℕ → ℕ → Telemetry
+telemetryFrom k ke reserve = record { k = k; ke = ke; reserve = reserve }
+
+abbrev pub clockFrom : ℕ → ℕ → ℕ → ℕ → ℕ → ℕ → DateTime
+clockFrom year month day hour minute second =
+    record { date = record { year = year; month = month; day = day }; hour = hour; minute = minute; second = second }
+
+abbrev pub phasesFrom : ℕ → ℕ → ℕ → Phases
+phasesFrom a b c = record { a = ofBits binary32 a; b = ofBits binary32 b; c = ofBits binary32 c }
+
+-- the calls on what was read: bytes that are no record count as one outside its ranges
+
+madeBy : SeasonRead → ℕ → ℕ → Telemetry → DateTime → RecordAnswer
+madeBy (season.Read s) address minutes telemetry clock = made address minutes telemetry clock s
+madeBy season.Unreadable address minutes telemetry clock = answer.OutOfRange
+
+-- a meter made; another season's byte is out of range
+unfoldable pub madeIn : ℕ → ℕ → Telemetry → DateTime → ℕ → RecordAnswer
+unfolding madeBy
+madeIn address minutes telemetry clock season = madeBy (seasonOf season) address minutes telemetry clock
+
+unfoldable pub secondIn : RecordRead → RecordAnswer
+secondIn (Read r) = secondOf r
+secondIn Unreadable = answer.Unsound
+
+unfoldable pub powersIn : RecordRead → ℕ → Phases → RecordAnswer
+powersIn (Read r) n p = setPowers r n p
+powersIn Unreadable n p = answer.Unsound
+
+unfoldable pub sliceIn : RecordRead → List ℕ → Key → List ℕ → bench.Outcome
+sliceIn (Read r) s k row = slicePut r s k row
+sliceIn Unreadable s k row = bench.outcome answer.Unsound s
+
+-- the record's bytes after a call of the bench: those of the record after it, and untouched by a refusal
+unfoldable pub bytesAfter : RecordAnswer → List ℕ → List ℕ
+bytesAfter (answer.Done r) bs = written bs 0 (recordBytes r)
+bytesAfter answer.OutOfRange bs = bs
+bytesAfter answer.Unsound bs = bs
+
+pub record KeptOutcome : Type 0 where
+  pub number : ℕ
+  pub bytes : List ℕ
+
+abbrev pub keptOutcome : ℕ → List ℕ → KeptOutcome
+keptOutcome n bs = record { number = n; bytes = bs }
+
+abbrev pub keptTold : RecordAnswer → List ℕ → KeptOutcome
+keptTold a bs = keptOutcome (numberOf a) (bytesAfter a bs)
+
+-- 1, then 27
+unfoldable pub makeTold : RecordAnswer → List ℕ → KeptOutcome
+makeTold a bs = cond (ltb (length bs) recordSize) (keptOutcome 1 bs) (keptTold a bs)
+
+pub record SliceOutcome : Type 0 where
+  pub number : ℕ
+  pub bytes : List ℕ
+  pub store : List ℕ
+
+abbrev pub sliceOutcome : ℕ → List ℕ → List ℕ → SliceOutcome
+sliceOutcome n bs s = record { number = n; bytes = bs; store = s }
+
+abbrev pub sliceTold : bench.Outcome → List ℕ → SliceOutcome
+sliceTold o bs = sliceOutcome (numberOf (o .answer)) (bytesAfter (o .answer) bs) (o .store)
+
+-- ---- the meter's answer to a frame
+
+pub record AnswerOutcome : Type 0 where
+  pub number : ℕ
+  pub size : ℕ
+  pub bytes : List ℕ
+  pub store : List ℕ
+  pub out : List ℕ
+
+abbrev pub answerOutcome : ℕ → ℕ → List ℕ → List ℕ → List ℕ → AnswerOutcome
+answerOutcome n l bs s out = record { number = n; size = l; bytes = bs; store = s; out = out }
+
+-- the record's bytes after an answer: those of the record after a command that is done, else as they were
+unfoldable pub replyBytes : Answered → List ℕ → List ℕ
+replyBytes a bs = cond (isDone (a .verdict)) (written bs 0 (recordBytes (a .after))) bs
+
+-- the number of an answer, the reply's length, the record's bytes, the store and the output
+abbrev pub answeredTold : reply.Outcome → List ℕ → AnswerOutcome
+answeredTold o bs =
+    answerOutcome (verdict.numberOf (o .answer .verdict)) (o .answer .length) (replyBytes (o .answer) bs) (o .store) (o .out)
+
+-- "28 stands right after 1"
+unfoldable pub unreadNumber : ℕ → ℕ
+unreadNumber room = cond (ltb room 64) 1 28
+
+unfoldable pub answerTold : RecordRead → List ℕ → List ℕ → List ℕ → List ℕ → AnswerOutcome
+answerTold (Read r) bs s f out = answeredTold (answerOf r s f out) bs
+answerTold Unreadable bs s f out = answerOutcome (unreadNumber (length out)) 0 bs s out

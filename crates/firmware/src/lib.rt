@@ -8,6 +8,14 @@ ghost use Rattle.dayreport.specs.Report.{reportOf};
 ghost use Rattle.firmware.specs.Told.{lengthAfter, readOutcome, readTold, reportOutcome, reportTold};
 use logfile::ReadAnswer;
 
+mod bench_meter;
+
+pub use bench_meter::metlazuel_meter_answer;
+pub use bench_meter::metlazuel_meter_make;
+pub use bench_meter::metlazuel_meter_powers;
+pub use bench_meter::metlazuel_meter_second;
+pub use bench_meter::metlazuel_meter_slice;
+
 // uint16_t metlazuel_crc16(const uint8_t *bytes, size_t n)
 #[no_mangle]
 pub extern "C" fn metlazuel_crc16(bytes: &[u8]) -> u16

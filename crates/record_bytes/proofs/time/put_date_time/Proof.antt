@@ -1,0 +1,39 @@
+use mathlib.Core.Path.{sym}
+use Rattle.words.specs.Place.{written-past}
+use Rattle.record_bytes.specs.Part.{part-put}
+use borrow.Author.Needs.{needs}
+use Rattle.record_bytes.proofs.time.put_date_time.Statement.{statement}
+use Rattle.record_bytes.proofs.time.put_date_time.Tie as tie
+
+sub-put-date-time : tie.Need-sub-put-date-time
+sub-put-date-time c = search needs
+
+part-put-date-time-start : tie.Need-part-put-date-time-start
+part-put-date-time-start c = search needs
+
+part-put-date-time-end : tie.Need-part-put-date-time-end
+part-put-date-time-end c = search needs
+
+put-date-time-requires : tie.Need-put-date-time-requires
+put-date-time-requires c κs = search needs
+
+same-length : tie.Need-same-length
+same-length c = search needs
+
+returns : tie.Need-returns
+returns c = part-put (c .before .before .before .before .before .before .args .at) (c .before .before .before .before .before .before .args .out .now) _ _ (c .before .before .put-date-time .ensures)
+
+returns-2 : tie.Need-returns-2
+returns-2 c = sym (written-past _ _ _ (c .if1 .left))
+
+pub put-date-time-spec : {M : Type 1} → statement M
+put-date-time-spec =
+    tie.close
+    (tie.spec
+    sub-put-date-time
+    part-put-date-time-start
+    part-put-date-time-end
+    put-date-time-requires
+    same-length
+    returns
+    returns-2)

@@ -1,0 +1,6 @@
+pub mod Part
+pub mod Level
+pub mod Power
+pub mod Time
+pub mod Record
+pub mod RecordLaws
