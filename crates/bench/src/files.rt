@@ -66,13 +66,13 @@ fn contents(path: &[u8], bytes: &mut [u8]) -> Got {
     Got::Bytes(n)
 }
 
-pub fn save(line: &[u8], image: &[u8], length: usize) {
+pub fn save(line: &[u8], image: &[u8]) {
     if console::spaces(line) != 1 {
         say::unread();
         return;
     }
     let mut bytes = [0u8; 53584];
-    let answer = logfile::write_file(console::part(image, length), &mut bytes);
+    let answer = logfile::write_file(image, &mut bytes);
     match answer {
         WriteAnswer::Done(n) => {
             if stored(console::word(line, 1), console::part(&bytes, n)) {

@@ -5,10 +5,11 @@ use Rattle.bench.proofs.session.Statement.{statement}
 use Rattle.bench.proofs.session.Tie as tie
 
 abbrev Inv-loop : tie.InvT-loop
-Inv-loop image₀ line₀ kept₀ turns₀ image line kept turns = (length line ≡ length line₀) × (length image ≡ length image₀)
+Inv-loop image₀ store₀ line₀ state₀ turns₀ image store line state turns =
+    (length line ≡ length line₀) × (length image ≡ length image₀) × (length store ≡ length store₀)
 
 abbrev μ-loop : tie.MeasureT-loop
-μ-loop image₀ line₀ kept₀ turns₀ image line kept turns = turns
+μ-loop image₀ store₀ line₀ state₀ turns₀ image store line state turns = turns
 
 loop-holds : tie.Need-loop-holds Inv-loop μ-loop
 loop-holds c = search needs
@@ -25,6 +26,9 @@ same-length c = search needs
 same-length-2 : tie.Need-same-length-2 Inv-loop μ-loop
 same-length-2 c = search needs
 
+same-length-3 : tie.Need-same-length-3 Inv-loop μ-loop
+same-length-3 c = search needs
+
 returns : tie.Need-returns Inv-loop μ-loop
 returns c = search needs
 
@@ -40,11 +44,14 @@ loop-less c = search needs
 loop-again : tie.Need-loop-again Inv-loop μ-loop
 loop-again c = search needs
 
-same-length-3 : tie.Need-same-length-3 Inv-loop μ-loop
-same-length-3 c = search needs
-
 same-length-4 : tie.Need-same-length-4 Inv-loop μ-loop
 same-length-4 c = search needs
+
+same-length-5 : tie.Need-same-length-5 Inv-loop μ-loop
+same-length-5 c = search needs
+
+same-length-6 : tie.Need-same-length-6 Inv-loop μ-loop
+same-length-6 c = search needs
 
 returns-2 : tie.Need-returns-2 Inv-loop μ-loop
 returns-2 c = search needs
@@ -60,11 +67,13 @@ session-spec =
     is-end-requires
     same-length
     same-length-2
+    same-length-3
     returns
     handled-requires
     sub-turns
     loop-less
     loop-again
-    same-length-3
     same-length-4
+    same-length-5
+    same-length-6
     returns-2)
