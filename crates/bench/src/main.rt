@@ -24,12 +24,6 @@ pub struct Kept {
     pub held: OpenAsk,
 }
 
-// What is kept from line to line beside the log's image and the meter's store.
-pub struct State {
-    pub kept: Kept,
-    pub record: Record,
-}
-
 // #
 const COMMENT: u8 = 35;
 
@@ -44,14 +38,12 @@ fn main() {
     session(&mut image, &mut store, &mut line, record);
 }
 
-fn session(image: &mut [u8], store: &mut [u8], line: &mut [u8], record: Record) {
-    let mut state = State {
-        kept: Kept {
-            length: 0,
-            held: OpenAsk::Closed,
-        },
-        record: record,
+fn session(image: &mut [u8], store: &mut [u8], line: &mut [u8], first: Record) {
+    let mut kept = Kept {
+        length: 0,
+        held: OpenAsk::Closed,
     };
+    let mut record = first;
     // Nothing says that the input ends: this many lines no run has.
     let mut turns = u64::MAX;
     while 0 < turns {
@@ -59,64 +51,66 @@ fn session(image: &mut [u8], store: &mut [u8], line: &mut [u8], record: Record) 
         if input::is_end(next) {
             return;
         }
-        state = handled(next, line, image, store, state);
+        let verb = asked(next, line);
+        let n = input::length_of(next);
+        // A verb is the log's or the meter's: the other leaves all as it stands.
+        kept = on_log(verb, console::part(line, n), image, kept);
+        record = on_meter(verb, console::part(line, n), store, record);
         turns -= 1;
     }
 }
 
-fn handled(next: Line, line: &[u8], image: &mut [u8], store: &mut [u8], state: State) -> State {
+fn asked(next: Line, line: &[u8]) -> Verb {
     match next {
-        Line::Of(n) => answered(console::part(line, n), image, store, state),
-        Line::TooLong => {
-            too_long(line);
-            state
-        }
-        Line::End => state,
+        Line::Of(n) => asked_in(console::part(line, n)),
+        Line::TooLong => asked_too_long(line),
+        Line::End => Verb::Nothing,
     }
+}
+
+fn asked_in(line: &[u8]) -> Verb {
+    if line.len() == 0 {
+        return Verb::Nothing;
+    }
+    if line[0] == COMMENT {
+        return Verb::Nothing;
+    }
+    verb::verb_of(console::word(line, 0))
 }
 
 // A comment may have any length.
-fn too_long(line: &[u8]) {
-    if words::byte_at(line, 0) != COMMENT {
-        say::unread();
-    }
-}
-
-fn answered(line: &[u8], image: &mut [u8], store: &mut [u8], state: State) -> State {
-    if line.len() == 0 {
-        return state;
-    }
+fn asked_too_long(line: &[u8]) -> Verb {
     if words::byte_at(line, 0) == COMMENT {
-        return state;
+        return Verb::Nothing;
     }
-    called(line, image, store, state)
+    Verb::Unknown
 }
 
-fn called(line: &[u8], image: &mut [u8], store: &mut [u8], state: State) -> State {
-    let kept = state.kept;
-    let record = state.record;
-    match verb::verb_of(console::word(line, 0)) {
-        Verb::Log(v) => State {
-            kept: on_log(v, line, image, kept),
-            record: record,
-        },
+fn on_log(verb: Verb, line: &[u8], image: &mut [u8], kept: Kept) -> Kept {
+    match verb {
+        Verb::Log(v) => changed(v, line, image, kept),
         Verb::Read(v) => {
             let held = kept.held;
             read(v, line, console::part(image, kept.length), held);
-            state
+            kept
         }
-        Verb::Meter(v) => State {
-            kept: kept,
-            record: meters::called(v, line, store, record),
-        },
+        Verb::Meter(_) => kept,
+        Verb::Nothing => kept,
         Verb::Unknown => {
             say::unread();
-            state
+            kept
         }
     }
 }
 
-fn on_log(verb: LogVerb, line: &[u8], image: &mut [u8], kept: Kept) -> Kept {
+fn on_meter(verb: Verb, line: &[u8], store: &mut [u8], r: Record) -> Record {
+    let Verb::Meter(v) = verb else {
+        return r;
+    };
+    meters::called(v, line, store, r)
+}
+
+fn changed(verb: LogVerb, line: &[u8], image: &mut [u8], kept: Kept) -> Kept {
     match verb {
         LogVerb::Log => logs::fresh(line, image, kept),
         LogVerb::Load => files::load(line, image, kept),

@@ -3,6 +3,8 @@ pub enum Verb {
     Log(LogVerb),
     Read(ReadVerb),
     Meter(MeterVerb),
+    // An empty line or a comment.
+    Nothing,
     Unknown,
 }
 
