@@ -1,4 +1,5 @@
 // The arguments of the commands.
+use calendar::Date;
 use console::ByteAnswer;
 use console::ShortAnswer;
 use console::byte_word;
@@ -12,6 +13,11 @@ pub enum Start {
     // A year that no header holds.
     OutOfRange,
     Unread,
+}
+
+pub enum DateWords {
+    Of(Date),
+    OutOfRange,
 }
 
 pub enum DayWord {
@@ -35,8 +41,8 @@ pub enum RequestWords {
     Unread,
 }
 
-const FIRST_YEAR: u16 = 2000;
-
+pub const FIRST_YEAR: u16 = 2000;
+// The last that one byte holds; which dates there are, the calls say.
 const LAST_YEAR: u16 = 2255;
 
 // YEAR MONTH DAY DAYS MINUTES KE
@@ -66,22 +72,28 @@ pub fn start_words(line: &[u8]) -> Start {
 }
 
 fn start_of(year: u16, month: u8, day: u8, days: u8, minutes: u8, ke: u16) -> Start {
+    match date_of(year, month, day) {
+        DateWords::Of(first) => Start::Of(Header {
+            start: first,
+            days: days,
+            minutes: minutes,
+            ke: ke,
+        }),
+        DateWords::OutOfRange => Start::OutOfRange,
+    }
+}
+
+pub fn date_of(year: u16, month: u8, day: u8) -> DateWords {
     if year < FIRST_YEAR {
-        return Start::OutOfRange;
+        return DateWords::OutOfRange;
     }
     if LAST_YEAR < year {
-        return Start::OutOfRange;
+        return DateWords::OutOfRange;
     }
-    let first = calendar::Date {
+    DateWords::Of(Date {
         year: (year - FIRST_YEAR) as u8,
         month: month,
         day: day,
-    };
-    Start::Of(Header {
-        start: first,
-        days: days,
-        minutes: minutes,
-        ke: ke,
     })
 }
 

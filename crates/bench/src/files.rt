@@ -66,23 +66,21 @@ fn contents(path: &[u8], bytes: &mut [u8]) -> Got {
     Got::Bytes(n)
 }
 
-pub fn save(line: &[u8], image: &[u8], length: usize) {
+pub fn save(line: &[u8], image: &[u8]) {
     if console::spaces(line) != 1 {
         say::unread();
         return;
     }
     let mut bytes = [0u8; 53584];
-    let answer = logfile::write_file(console::part(image, length), &mut bytes);
-    match answer {
-        WriteAnswer::Done(n) => {
-            if stored(console::word(line, 1), console::part(&bytes, n)) {
-                say::number_line(answer.number());
-            } else {
-                say::unread();
-            }
-        }
-        WriteAnswer::Unsound => say::number_line(answer.number()),
-        WriteAnswer::TooShort => say::number_line(answer.number()),
+    let answer = logfile::write_file(image, &mut bytes);
+    let WriteAnswer::Done(n) = answer else {
+        say::number_line(answer.number());
+        return;
+    };
+    if stored(console::word(line, 1), console::part(&bytes, n)) {
+        say::number_line(refusal::DONE);
+    } else {
+        say::unread();
     }
 }
 

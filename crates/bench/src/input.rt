@@ -52,6 +52,14 @@ pub fn is_end(next: Line) -> bool {
     }
 }
 
+pub fn length_of(next: Line) -> usize {
+    match next {
+        Line::Of(n) => n,
+        Line::TooLong => 0,
+        Line::End => 0,
+    }
+}
+
 fn line_of(n: usize, long: bool) -> Line {
     if long {
         return Line::TooLong;

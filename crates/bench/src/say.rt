@@ -29,6 +29,10 @@ pub fn number(n: u64) {
     io::print_decimal(STDOUT_FILENO, n);
 }
 
+pub fn short(n: u16) {
+    number(n as u64);
+}
+
 // The digits of at most 64 bytes, as many as a frame has.
 pub fn hex(bytes: &[u8]) {
     let mut digits = [0u8; 128];
@@ -57,8 +61,8 @@ pub fn six_bytes(bytes: [u8; 6]) {
 }
 
 pub fn four_counts(a: u16, b: u16, c: u16, d: u16) {
-    number(a as u64);
-    number(b as u64);
-    number(c as u64);
-    number(d as u64);
+    short(a);
+    short(b);
+    short(c);
+    short(d);
 }

@@ -1,4 +1,4 @@
--- Numbers of one byte and of two, and bytes in pairs of hexadecimal digits, as words.
+-- Numbers of one byte, of two and of four, and bytes in pairs of hexadecimal digits, as words.
 use Prim.Native.Nat.{ℕ, zero, suc, _+_, _*_, _-_, _/_, _%_, _<_, _≤_}
 use native.Mathlib.Nat.{sub-zero}
 use native.Mathlib.Omega.{arith}
@@ -16,6 +16,7 @@ use Rattle.text.specs.declared.hex.HexAnswer.{HexAnswer}
 use Rattle.text.specs.declared.hex.HexAnswer.the-variants.{Value, NotHex}
 use Rattle.console.specs.declared.value.ByteAnswer as B
 use Rattle.console.specs.declared.value.ShortAnswer as S
+use Rattle.console.specs.declared.value.LongAnswer as L
 use Rattle.console.specs.declared.value.BytesAnswer as N
 
 unfoldable pub byteOf : NumberAnswer → B.ByteAnswer
@@ -25,6 +26,10 @@ byteOf NotANumber = B.the-variants.Unread
 unfoldable pub shortOf : NumberAnswer → S.ShortAnswer
 shortOf (Number n) = cond (ltb 65535 n) S.the-variants.Unread (S.the-variants.Short n)
 shortOf NotANumber = S.the-variants.Unread
+
+unfoldable pub longOf : NumberAnswer → L.LongAnswer
+longOf (Number n) = cond (ltb 4294967295 n) L.the-variants.Unread (L.the-variants.Long n)
+longOf NotANumber = L.the-variants.Unread
 
 -- the byte of two digits, the higher half first
 unfoldable pub lowOf : ℕ → HexAnswer → B.ByteAnswer

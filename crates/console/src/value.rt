@@ -3,7 +3,7 @@ ghost use mathlib.Core.Path.{_≡_};
 ghost use Rattle.text.specs.Hex.{hexValue};
 ghost use Rattle.text.specs.Reading.{numberOfText};
 ghost use Rattle.console.specs.Line.{wordAt};
-ghost use Rattle.console.specs.Value.{byteOf, shortOf, pairOf, bytesRead, outcome};
+ghost use Rattle.console.specs.Value.{byteOf, shortOf, longOf, pairOf, bytesRead, outcome};
 use text::HexAnswer;
 use text::NumberAnswer;
 
@@ -17,6 +17,11 @@ pub enum ShortAnswer {
     Unread,
 }
 
+pub enum LongAnswer {
+    Long(u32),
+    Unread,
+}
+
 pub enum BytesAnswer {
     // How many.
     Bytes(usize),
@@ -26,6 +31,8 @@ pub enum BytesAnswer {
 const MOST_BYTE: u64 = 255;
 
 const MOST_SHORT: u64 = 65535;
+
+const MOST_LONG: u64 = 4294967295;
 
 // A number of one byte.
 pub fn byte_word(line: &[u8], k: usize) -> ByteAnswer
@@ -56,6 +63,22 @@ pub fn short_word(line: &[u8], k: usize) -> ShortAnswer
             }
         }
         NumberAnswer::NotANumber => ShortAnswer::Unread,
+    }
+}
+
+// A number of 32 bits.
+pub fn long_word(line: &[u8], k: usize) -> LongAnswer
+    ensures { λ r. ⌜ r ≡ longOf (numberOfText (wordAt k (now (line .entry)))) ⌝ }
+{
+    match text::number_of(crate::line::word(line, k)) {
+        NumberAnswer::Number(n) => {
+            if n <= MOST_LONG {
+                LongAnswer::Long(n as u32)
+            } else {
+                LongAnswer::Unread
+            }
+        }
+        NumberAnswer::NotANumber => LongAnswer::Unread,
     }
 }
 
