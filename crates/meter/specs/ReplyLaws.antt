@@ -4,7 +4,7 @@ use mathlib.Core.Bool.{Bool, true, false, cond}
 use mathlib.Core.List.{List, [], _∷_, _++_}
 use Prim.Native.Nat.{ℕ, _+_, _-_, _≤_}
 use native.Mathlib.Omega.{arith}
-use lib.Dec.{eqb, lit≤}
+use lib.Dec.{eqb, ltb, lit≤}
 use lib.ListN.{length, take, drop, length-append}
 use Rattle.words.specs.Number.{bytesOf}
 use Rattle.words.specs.Part.{written-rest}
@@ -23,10 +23,11 @@ use Rattle.request.specs.declared.request.Request.{Request}
 use Rattle.store.specs.Store.{sixOf, rowBytes}
 use Rattle.meter_record.specs.declared.record.Record.{Record}
 use Rattle.command.specs.Parts.{functionIn, parameterIn, requestIn}
+use Rattle.command.specs.Judgement.{verdictOf}
 use Rattle.command.specs.Verdict.{isDone}
 use Rattle.command.specs.declared.verdict.Verdict.{Verdict}
 use Rattle.meter.specs.Reading.{powerData, sixBytes, figuresOf, powerSize, sizeOf, isRead, dataOf, dataSize}
-use Rattle.meter.specs.Reply.{outcome, headOf, filled, done, refused, replied}
+use Rattle.meter.specs.Reply.{outcome, isSound, heard, headOf, filled, done, refused, replied, answerOf}
 
 -- ---- the length of the data
 
@@ -142,3 +143,16 @@ replied-refused v w r s f out x e d p =
     ap (λ (y : List ℕ). outcome (record { verdict = v; length = 6; after = r }) s y) p
     ∙ ap (λ (y : Verdict). refused y r s f out) e
     ∙ sym (ap (λ (b : Bool). cond b (done w r s f out) (refused w r s f out)) q)
+
+-- a reply has at most 54 bytes
+pub answer-short : (r : Record) (s f out : List ℕ) → (answerOf r s f out) .answer .length ≤ 54
+unfolding answerOf replied
+answer-short r s f out = go (ltb (length out) 64) refl (isSound r s) refl (heard r f) refl (isDone (verdictOf r f)) refl
+  where
+    go : (a : Bool) → ltb (length out) 64 ≡ a → (b : Bool) → isSound r s ≡ b → (c : Bool) → heard r f ≡ c → (d : Bool) → isDone (verdictOf r f) ≡ d
+        → (answerOf r s f out) .answer .length ≤ 54
+    go true e b k c l d m = simp e (lit≤ tt)
+    go false e false k c l d m = simp (e, k) (lit≤ tt)
+    go false e true k false l d m = simp (e, k, l) (lit≤ tt)
+    go false e true k true l false m = simp (e, k, l, m) (lit≤ tt)
+    go false e true k true l true m = simp (e, k, l, m) (omega (arith, length-data r s f, data-small f))

@@ -10,3 +10,4 @@ mod reply;
 pub use bench::put_slice;
 pub use reply::Answered;
 pub use reply::answer;
+pub use reply::is_sound;
