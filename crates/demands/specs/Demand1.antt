@@ -8,7 +8,33 @@ use mathlib.Core.Bool.{Bool, true, false, cond, _&&_, _||_}
 use mathlib.Core.List.{List}
 use Prim.Native.Nat.{ℕ}
 use lib.Dec.{eqb, leb, ltb}
-use lib.ListN.{length}
+use lib.ListN.{length, take}
+use Rattle.calendar.specs.declared.date.Date.{Date}
+use Rattle.calendar.specs.declared.time.DateTime.{DateTime}
+use Rattle.figures.specs.declared.power.Phases.{Phases}
+use Rattle.figures.specs.declared.telemetry.Telemetry.{Telemetry}
+use Rattle.second.specs.declared.season.Season.{Season}
+use Rattle.frame.specs.Sealing.{crcFits}
+use Rattle.log.specs.Header.{isHeader, cellsOf, lengthOf, markRight, versionRight, headerOf, soundOf}
+use Rattle.log.specs.Image.{cellAt, allGood}
+use Rattle.log.specs.Interval.{intervalOf, dayDate}
+use Rattle.log.specs.declared.header.HeaderAnswer.{HeaderAnswer}
+use Rattle.log.specs.declared.header.HeaderAnswer.the-variants.{Right, Wrong}
+use Rattle.log.specs.declared.interval.DayAnswer.{DayAnswer}
+use Rattle.log.specs.declared.interval.DayAnswer.the-variants as day-answer
+use Rattle.logfile.specs.File.{fileLength, cellsGood}
+use Rattle.logfile.specs.Read as file-read
+use Rattle.logfile.specs.Write as file-write
+use Rattle.dayreport.specs.Report as report
+use Rattle.dayreport.specs.declared.report.ReportAnswer.{ReportAnswer}
+use Rattle.dayreport.specs.declared.report.ReportAnswer.the-variants as answer
+use Rattle.report_text.specs.Text as text
+use Rattle.report_text.specs.Day as day-text
+use Rattle.meter_record.specs.declared.record.RecordAnswer.{RecordAnswer}
+use Rattle.meter_record.specs.declared.record.RecordAnswer.the-variants as record-answer
+use Rattle.reader.specs.Reply as reply
+use Rattle.reader.specs.declared.reply.Decoded.{Decoded}
+use Rattle.reader.specs.declared.reply.Decoded.the-variants as decoded
 use Rattle.frame.specs.Code.{slice}
 use Rattle.slots.specs.Day.{slotsOf}
 use Rattle.slots.specs.Key.{isLegal}
@@ -21,9 +47,6 @@ use Rattle.reader.specs.Form.{formOf}
 use Rattle.reader.specs.declared.form.Form.{Form}
 use Rattle.reader.specs.declared.form.Form.the-variants.{WellFormed, Faulty}
 use Rattle.log.specs.Fresh as fresh
-use Rattle.log.specs.Header.{isHeader, lengthOf, soundOf}
-use Rattle.log.specs.Image.{cellAt}
-use Rattle.log.specs.Interval.{intervalOf}
 use Rattle.log.specs.declared.cell.Cell.{Cell}
 use Rattle.log.specs.declared.cell.CellAnswer.{CellAnswer}
 use Rattle.log.specs.declared.cell.CellAnswer.the-variants.{Good, Bad}
@@ -175,3 +198,132 @@ lent-told (Sound h) s held y = held-told h s held y
 pub take-told : (s : List ℕ) (held : OpenAsk) (y : List ℕ) → TakeTold s held (Take.taken s held y)
 unfolding Take.taken
 take-told s held y = lent-told (soundOf s) s held y
+
+-- ---- files
+
+module _ (f out : List ℕ) where
+  ReadTold : file-read.Outcome → Type 0
+  ReadTold o = Demand1 (file-read.readNumber (o .answer)) out (o .bytes)
+
+  sized-told : (h : HeaderAnswer) → ReadTold (file-read.readHeaded h f out)
+  unfolding ReadTold file-read.readHeaded file-read.readSized file-read.readImage inTable
+  sized-told Wrong = kept 32 out refl
+  sized-told (Right h) =
+      either ReadTold (eqb (length f) (fileLength h))
+      (either ReadTold (crcFits f)
+      (either ReadTold (cellsGood (take (lengthOf h) f) (cellsOf h))
+      (either ReadTold (leb (length (take (lengthOf h) f)) (length out)) (done out _) (kept 1 out refl))
+      (kept 35 out refl))
+      (kept 34 out refl))
+      (kept 33 out refl)
+
+  pub read-told : Demand1 (file-read.readNumber ((file-read.readFile f out) .answer)) out ((file-read.readFile f out) .bytes)
+  unfolding ReadTold file-read.readFile file-read.readFields inTable
+  read-told =
+      either ReadTold (leb 5 (length f) && markRight f)
+      (either ReadTold (versionRight f)
+      (either ReadTold (leb 14 (length f)) (sized-told (headerOf f)) (kept 32 out refl))
+      (kept 31 out refl))
+      (kept 30 out refl)
+
+module _ (s out : List ℕ) where
+  WriteTold : file-write.Outcome → Type 0
+  WriteTold o = Demand1 (file-write.writeNumber (o .answer)) out (o .bytes)
+
+  lent-written : (l : Lent) → WriteTold (file-write.writtenLent l s out)
+  unfolding WriteTold file-write.writtenLent file-write.writtenLog inTable
+  lent-written Unsound = kept 28 out refl
+  lent-written (Sound h) =
+      either WriteTold (leb (fileLength h) (length out))
+      (either WriteTold (cellsGood s (cellsOf h)) (done out _) (kept 28 out refl))
+      (kept 1 out refl)
+
+  pub write-told : Demand1 (file-write.writeNumber ((file-write.writtenFile s out) .answer)) out ((file-write.writtenFile s out) .bytes)
+  unfolding WriteTold file-write.writtenFile
+  write-told = lent-written (soundOf s)
+
+-- ---- day reports and their text
+
+module _ (s : List ℕ) (day : ℕ) (row : List ℕ) where
+  ReportTold : report.Outcome → Type 0
+  ReportTold o = Demand1 (report.reportNumber (o .answer)) row (o .row)
+
+  lent-reported : (l : Lent) → ReportTold (report.reportLent l s day row)
+  unfolding ReportTold report.reportLent report.reportIn report.reportCells inTable
+  lent-reported Unsound = kept 28 row refl
+  lent-reported (Sound h) =
+      either ReportTold (ltb day (h .days))
+      (either ReportTold (allGood (report.dayCells s h day)) (done row _) (kept 28 row refl))
+      (kept 22 row refl)
+
+  pub report-told : Demand1 (report.reportNumber ((report.reportOf s day row) .answer)) row ((report.reportOf s day row) .row)
+  unfolding ReportTold report.reportOf inTable
+  report-told = either ReportTold (leb 7 (length row)) (lent-reported (soundOf s)) (kept 1 row refl)
+
+-- a text at the front of a lent buffer: the heading, or a line of a date and its numbers
+pub text-told : (line out : List ℕ) → Demand1 (text.textNumber ((text.putText line out) .answer)) out ((text.putText line out) .bytes)
+unfolding text.putText inTable
+text-told line out =
+    let P : text.Outcome → Type 0 = λ o. Demand1 (text.textNumber (o .answer)) out (o .bytes) in
+    either P (leb (length line) (length out)) (done out _) (kept 1 out refl)
+
+module _ (s : List ℕ) (day : ℕ) (out : List ℕ) where
+  TextTold : text.Outcome → Type 0
+  TextTold o = Demand1 (text.textNumber (o .answer)) out (o .bytes)
+
+  reported-told : (a : ReportAnswer) (date : Date) (row : List ℕ) → TextTold (day-text.reportedText a date row out)
+  unfolding TextTold day-text.reportedText inTable
+  reported-told answer.Done date row = text-told (text.lineText date row) out
+  reported-told answer.TooShort date row = kept 1 out refl
+  reported-told answer.Unsound date row = kept 28 out refl
+  reported-told answer.NotInLog date row = kept 22 out refl
+
+  dated-told : (d : DayAnswer) → TextTold (day-text.dayOnText d s day out)
+  unfolding TextTold day-text.dayOnText day-text.datedText inTable
+  dated-told day-answer.Outside = kept 22 out refl
+  dated-told (day-answer.On date) = reported-told _ date _
+
+  lent-texted : (l : Lent) → TextTold (day-text.lentText l s day out)
+  unfolding TextTold day-text.lentText inTable
+  lent-texted Unsound = kept 28 out refl
+  lent-texted (Sound h) = dated-told (dayDate h day)
+
+  pub day-text-told : Demand1 (text.textNumber ((day-text.dayText s day out) .answer)) out ((day-text.dayText s day out) .bytes)
+  unfolding TextTold day-text.dayText
+  day-text-told = lent-texted (soundOf s)
+
+-- ---- calls that lend nothing to write in and hand their record or figures back by value: only the answer's number is to be told
+
+record-told : (a : RecordAnswer) → inTable (recording.numberOf a) ≡ true
+unfolding inTable
+record-told (record-answer.Done r) = refl
+record-told record-answer.OutOfRange = refl
+record-told record-answer.Unsound = refl
+
+pub make-told : (address minutes : ℕ) (telemetry : Telemetry) (clock : DateTime) (season : Season)
+    → inTable (recording.numberOf (recording.made address minutes telemetry clock season)) ≡ true
+make-told address minutes telemetry clock season = record-told (recording.made address minutes telemetry clock season)
+
+pub second-told : (r : Record) → inTable (recording.numberOf (recording.secondOf r)) ≡ true
+second-told r = record-told (recording.secondOf r)
+
+pub powers-told : (r : Record) (n : ℕ) (p : Phases) → inTable (recording.numberOf (recording.setPowers r n p)) ≡ true
+powers-told r n p = record-told (recording.setPowers r n p)
+
+decoded-told : (d : Decoded) → inTable (reply.numberOf d) ≡ true
+unfolding inTable
+decoded-told decoded.OutOfRange = refl
+decoded-told (decoded.Malformed fault) = refl
+decoded-told (decoded.MeterRefused result) = refl
+decoded-told decoded.NotFinite = refl
+decoded-told (decoded.Address a) = refl
+decoded-told (decoded.Telemetry t) = refl
+decoded-told (decoded.DateTime t) = refl
+decoded-told (decoded.DisplayMask m) = refl
+decoded-told (decoded.Powers p) = refl
+decoded-told (decoded.OnePower p) = refl
+decoded-told (decoded.Slice c) = refl
+decoded-told decoded.SixSlices = refl
+
+pub decode-told : (q : Request) (y : List ℕ) → inTable (reply.numberOf (reply.decodedOf q y)) ≡ true
+decode-told q y = decoded-told (reply.decodedOf q y)
