@@ -4,17 +4,18 @@
 -- One theorem for each public call, over the definition that the call's contract cites. What a call lends or holds is lists and values;
 -- `before` and `after` are all of them that the call could alter. The meter's answer has the refusal frame and stands at the end.
 use mathlib.Core.Path.{_≡_, refl}
-use mathlib.Core.Bool.{Bool, true, false, cond, _&&_, _||_}
+use mathlib.Core.Bool.{Bool, true, false, cond, _&&_, _||_, false≢true}
 use mathlib.Core.List.{List}
-use Prim.Native.Nat.{ℕ}
+use Prim.Native.Nat.{ℕ, _+_}
+use native.Mathlib.Omega.{arith}
 use lib.Dec.{eqb, leb, ltb}
-use lib.ListN.{length, take}
+use lib.ListN.{length, take, drop}
 use Rattle.calendar.specs.declared.date.Date.{Date}
 use Rattle.calendar.specs.declared.time.DateTime.{DateTime}
 use Rattle.figures.specs.declared.power.Phases.{Phases}
 use Rattle.figures.specs.declared.telemetry.Telemetry.{Telemetry}
 use Rattle.second.specs.declared.season.Season.{Season}
-use Rattle.frame.specs.Sealing.{crcFits}
+use Rattle.frame.specs.Sealing.{crcFits, framed, length-framed}
 use Rattle.log.specs.Header.{isHeader, cellsOf, lengthOf, markRight, versionRight, headerOf, soundOf}
 use Rattle.log.specs.Image.{cellAt, allGood}
 use Rattle.log.specs.Interval.{intervalOf, dayDate}
@@ -36,10 +37,13 @@ use Rattle.reader.specs.Reply as reply
 use Rattle.reader.specs.declared.reply.Decoded.{Decoded}
 use Rattle.reader.specs.declared.reply.Decoded.the-variants as decoded
 use Rattle.frame.specs.Code.{slice}
+use Rattle.frame.specs.declared.code.Parameter.{Parameter}
+use Rattle.frame.specs.declared.code.Function.{Function}
+use Rattle.frame.specs.declared.code.Function.the-variants as function
 use Rattle.slots.specs.Day.{slotsOf}
 use Rattle.slots.specs.Key.{isLegal}
 use Rattle.slots.specs.declared.key.Key.{Key}
-use Rattle.words.specs.Place.{byteAt, numberAt, written}
+use Rattle.words.specs.Place.{byteAt, numberAt, written, drop-written}
 use Rattle.request.specs.Request as request
 use Rattle.request.specs.Subject.{subjectOf, askable, mostSlots}
 use Rattle.request.specs.declared.request.Request.{Request}
@@ -66,7 +70,14 @@ use Rattle.logger.specs.declared.take.Update.the-variants.{Put, Keep, Conflict}
 use Rattle.meter_record.specs.Record as recording
 use Rattle.meter_record.specs.declared.record.Record.{Record}
 use Rattle.meter.specs.Bench as bench
-use Rattle.meter.specs.Reply.{isSound}
+use Rattle.command.specs.Access.{isMain, changeAllowed, passwordFor, unlockVerdict, lockVerdict}
+use Rattle.command.specs.Change.{changeable, changeBytes, zeroable}
+use Rattle.command.specs.Judgement.{readable, passed, checked, argumentFits, readVerdict, changeVerdict, zeroVerdict, verdictBy, verdictOf}
+use Rattle.command.specs.Parts.{functionIn, parameterIn, known, requestIn}
+use Rattle.command.specs.Verdict.{numberOf}
+use Rattle.command.specs.declared.verdict.Verdict.{Verdict}
+use Rattle.command.specs.declared.verdict.Verdict.the-variants as verdict
+use Rattle.meter.specs.Reply.{Outcome, isSound, heard, headOf, unheard, refused, replied, answerOf}
 
 -- ---- the claim
 
@@ -327,3 +338,86 @@ decoded-told decoded.SixSlices = refl
 
 pub decode-told : (q : Request) (y : List ℕ) → inTable (reply.numberOf (reply.decodedOf q y)) ≡ true
 decode-told q y = decoded-told (reply.decodedOf q y)
+
+-- ---- the meter's answer
+
+-- where the table gives a refusal frame: 10 to 15
+abbrev pub givesFrame : ℕ → Bool
+givesFrame n = leb 10 n && leb n 15
+
+-- record and store; and of a refused command the output, and how many bytes of it are the reply: "the short refusal frame where the
+-- table gives one", else nothing
+pub record AnswerTold (r : Record) (s f out : List ℕ) (o : Outcome) : Type 0 where
+  pub stays : Demand1 {A = Record × List ℕ} (numberOf (o .answer .verdict)) (r, s) (o .answer .after, o .store)
+  pub output : (numberOf (o .answer .verdict) ≡ 0 → ⊥)
+      → o .out ≡ cond (givesFrame (numberOf (o .answer .verdict))) (written out 0 (framed (headOf (o .answer .verdict) f))) out
+  pub sent : (numberOf (o .answer .verdict) ≡ 0 → ⊥) → o .answer .length ≡ cond (givesFrame (numberOf (o .answer .verdict))) 6 0
+
+-- a command that the meter heard is done or refused by 10 to 15
+Judged : Verdict → Type 0
+Judged v = (eqb (numberOf v) 0 || givesFrame (numberOf v)) ≡ true
+
+checked-judged : (a b c d e : Bool) → Judged (checked a b c d e)
+unfolding Judged checked passed
+checked-judged a b c d e = either Judged a (either Judged b (either Judged c (either Judged d (either Judged e refl refl) refl) refl) refl) refl
+
+module _ (r : Record) (f : List ℕ) where
+  p : Parameter
+  p = parameterIn f
+
+  judged-by : (fn : Function) → Judged (verdictBy fn r f)
+  unfolding Judged p verdictBy readVerdict changeVerdict zeroVerdict unlockVerdict lockVerdict
+  judged-by function.Read = checked-judged (known p) (readable p) (eqb (length f) 8) true (askable (subjectOf (requestIn f) (slotsOf (r .minutes))))
+  judged-by function.Change =
+      checked-judged (known p) (changeable p) (eqb (length f) (6 + changeBytes p)) (changeAllowed p (r .protection .level)) (argumentFits p r f)
+  judged-by function.Zero = checked-judged (known p) (zeroable p) (eqb (length f) 6) (isMain (r .protection .level)) (eqb (byteAt f 3) 0)
+  judged-by function.Unlock =
+      either Judged (eqb (length f) 14)
+      (either Judged (leb (byteAt f 3) 1)
+      (either Judged (eqb (numberAt f 4 8) (passwordFor (r .passwords) (byteAt f 3))) (either Judged (eqb (byteAt f 2) 0) refl refl) refl)
+      refl)
+      refl
+  judged-by function.Lock =
+      either Judged (eqb (length f) 6) (either Judged (eqb (byteAt f 2) 0) (either Judged (eqb (byteAt f 3) 0) refl refl) refl) refl
+  judged-by function.Unknown = refl
+
+  judged : Judged (verdictOf r f)
+  unfolding verdictOf
+  judged = judged-by (functionIn f)
+
+module _ (r : Record) (s f out : List ℕ) where
+  unheard-told : (v : Verdict) → inTable (numberOf v) ≡ true → givesFrame (numberOf v) ≡ false → AnswerTold r s f out (unheard v r s out)
+  unheard-told v t g = record { stays = record { told = t; stays = λ n. refl }; output = λ n. simp g; sent = λ n. simp g }
+
+  refused-told : (v : Verdict) → inTable (numberOf v) ≡ true → givesFrame (numberOf v) ≡ true → AnswerTold r s f out (refused v r s f out)
+  refused-told v t g = record { stays = record { told = t; stays = λ n. refl }; output = λ n. simp g; sent = λ n. simp g }
+
+  replied-told : (v : Verdict) → Judged v → AnswerTold r s f out (replied v r s f out)
+  unfolding Judged replied inTable
+  replied-told verdict.Done j =
+      record { stays = record { told = refl; stays = λ n. absurd (n refl) }; output = λ n. absurd (n refl); sent = λ n. absurd (n refl) }
+  replied-told verdict.TooShort j = absurd (false≢true j)
+  replied-told verdict.Unsound j = absurd (false≢true j)
+  replied-told verdict.Silent j = absurd (false≢true j)
+  replied-told verdict.UnknownFunction j = refused-told verdict.UnknownFunction refl refl
+  replied-told verdict.UnknownParameter j = refused-told verdict.UnknownParameter refl refl
+  replied-told verdict.NotOpen j = refused-told verdict.NotOpen refl refl
+  replied-told verdict.WrongLength j = refused-told verdict.WrongLength refl refl
+  replied-told verdict.NoAccess j = refused-told verdict.NoAccess refl refl
+  replied-told verdict.WrongArgument j = refused-told verdict.WrongArgument refl refl
+
+  pub answer-told : AnswerTold r s f out (answerOf r s f out)
+  unfolding answerOf inTable
+  answer-told =
+      either (AnswerTold r s f out) (ltb (length out) 64) (unheard-told verdict.TooShort refl refl)
+      (either (AnswerTold r s f out) (isSound r s)
+      (either (AnswerTold r s f out) (heard r f) (replied-told (verdictOf r f) (judged r f)) (unheard-told verdict.Silent refl refl))
+      (unheard-told verdict.Unsound refl refl))
+
+-- the refusal frame is short: six bytes, and the output past them is as it was
+pub frame-short : (v : Verdict) (f : List ℕ) → length (framed (headOf v f)) ≡ 6
+unfolding headOf
+frame-short v f = length-framed (headOf v f)
+
+pub past-frame : (v : Verdict) (f out : List ℕ) → drop 6 (written out 0 (framed (headOf v f))) ≡ drop 6 out
+past-frame v f out = drop-written 6 out 0 (framed (headOf v f)) (omega (arith, frame-short v f))
