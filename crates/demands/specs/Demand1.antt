@@ -1,8 +1,8 @@
 -- Demand 1. "Every call ends with an answer from document 01's table, for every input. A refused call leaves the log and the meter's
 -- record as they stood, and writes nothing into a lent buffer but the short refusal frame where the table gives one."
 --
--- One theorem for each public call, over the definition that the call's contract cites. What a call lends or holds is lists and values;
--- `before` and `after` are all of them that the call could alter. The meter's answer has the refusal frame and stands at the end.
+-- One theorem for each public call that has an answer, over the definition that the call's contract cites. `before` and `after` are all
+-- that the call is lent to write in or holds: buffers, the log, the store, the record, the open ask.
 use mathlib.Core.Path.{_≡_, refl}
 use mathlib.Core.Bool.{Bool, true, false, cond, _&&_, _||_, false≢true}
 use mathlib.Core.List.{List}
@@ -10,66 +10,27 @@ use Prim.Native.Nat.{ℕ, _+_}
 use native.Mathlib.Omega.{arith}
 use lib.Dec.{eqb, leb, ltb}
 use lib.ListN.{length, take, drop}
+use Rattle.words.specs.Place.{byteAt, numberAt, written, drop-written}
 use Rattle.calendar.specs.declared.date.Date.{Date}
 use Rattle.calendar.specs.declared.time.DateTime.{DateTime}
 use Rattle.figures.specs.declared.power.Phases.{Phases}
 use Rattle.figures.specs.declared.telemetry.Telemetry.{Telemetry}
-use Rattle.second.specs.declared.season.Season.{Season}
-use Rattle.frame.specs.Sealing.{crcFits, framed, length-framed}
-use Rattle.log.specs.Header.{isHeader, cellsOf, lengthOf, markRight, versionRight, headerOf, soundOf}
-use Rattle.log.specs.Image.{cellAt, allGood}
-use Rattle.log.specs.Interval.{intervalOf, dayDate}
-use Rattle.log.specs.declared.header.HeaderAnswer.{HeaderAnswer}
-use Rattle.log.specs.declared.header.HeaderAnswer.the-variants.{Right, Wrong}
-use Rattle.log.specs.declared.interval.DayAnswer.{DayAnswer}
-use Rattle.log.specs.declared.interval.DayAnswer.the-variants as day-answer
-use Rattle.logfile.specs.File.{fileLength, cellsGood}
-use Rattle.logfile.specs.Read as file-read
-use Rattle.logfile.specs.Write as file-write
-use Rattle.dayreport.specs.Report as report
-use Rattle.dayreport.specs.declared.report.ReportAnswer.{ReportAnswer}
-use Rattle.dayreport.specs.declared.report.ReportAnswer.the-variants as answer
-use Rattle.report_text.specs.Text as text
-use Rattle.report_text.specs.Day as day-text
-use Rattle.meter_record.specs.declared.record.RecordAnswer.{RecordAnswer}
-use Rattle.meter_record.specs.declared.record.RecordAnswer.the-variants as record-answer
-use Rattle.reader.specs.Reply as reply
-use Rattle.reader.specs.declared.reply.Decoded.{Decoded}
-use Rattle.reader.specs.declared.reply.Decoded.the-variants as decoded
 use Rattle.frame.specs.Code.{slice}
-use Rattle.frame.specs.declared.code.Parameter.{Parameter}
+use Rattle.frame.specs.Sealing.{crcFits, framed, length-framed}
 use Rattle.frame.specs.declared.code.Function.{Function}
 use Rattle.frame.specs.declared.code.Function.the-variants as function
+use Rattle.frame.specs.declared.code.Parameter.{Parameter}
 use Rattle.slots.specs.Day.{slotsOf}
 use Rattle.slots.specs.Key.{isLegal}
 use Rattle.slots.specs.declared.key.Key.{Key}
-use Rattle.words.specs.Place.{byteAt, numberAt, written, drop-written}
+use Rattle.second.specs.declared.season.Season.{Season}
 use Rattle.request.specs.Request as request
 use Rattle.request.specs.Subject.{subjectOf, askable, mostSlots}
 use Rattle.request.specs.declared.request.Request.{Request}
-use Rattle.reader.specs.Form.{formOf}
-use Rattle.reader.specs.declared.form.Form.{Form}
-use Rattle.reader.specs.declared.form.Form.the-variants.{WellFormed, Faulty}
-use Rattle.log.specs.Fresh as fresh
-use Rattle.log.specs.declared.cell.Cell.{Cell}
-use Rattle.log.specs.declared.cell.CellAnswer.{CellAnswer}
-use Rattle.log.specs.declared.cell.CellAnswer.the-variants.{Good, Bad}
-use Rattle.log.specs.declared.header.Header.{Header}
-use Rattle.log.specs.declared.header.Lent.{Lent}
-use Rattle.log.specs.declared.header.Lent.the-variants.{Sound, Unsound}
-use Rattle.log.specs.declared.interval.Interval.{Interval}
-use Rattle.log.specs.declared.interval.Interval.the-variants.{At, Outside}
-use Rattle.logger.specs.Ask as Ask
-use Rattle.logger.specs.Take as Take
-use Rattle.logger.specs.Book.{lapse}
-use Rattle.logger.specs.Run.{State, step}
-use Rattle.logger.specs.declared.held.OpenAsk.{OpenAsk}
-use Rattle.logger.specs.declared.held.OpenAsk.the-variants.{Closed, Open}
-use Rattle.logger.specs.declared.take.Update.{Update}
-use Rattle.logger.specs.declared.take.Update.the-variants.{Put, Keep, Conflict}
 use Rattle.meter_record.specs.Record as recording
 use Rattle.meter_record.specs.declared.record.Record.{Record}
-use Rattle.meter.specs.Bench as bench
+use Rattle.meter_record.specs.declared.record.RecordAnswer.{RecordAnswer}
+use Rattle.meter_record.specs.declared.record.RecordAnswer.the-variants as record-answer
 use Rattle.command.specs.Access.{isMain, changeAllowed, passwordFor, unlockVerdict, lockVerdict}
 use Rattle.command.specs.Change.{changeable, changeBytes, zeroable}
 use Rattle.command.specs.Judgement.{readable, passed, checked, argumentFits, readVerdict, changeVerdict, zeroVerdict, verdictBy, verdictOf}
@@ -77,7 +38,45 @@ use Rattle.command.specs.Parts.{functionIn, parameterIn, known, requestIn}
 use Rattle.command.specs.Verdict.{numberOf}
 use Rattle.command.specs.declared.verdict.Verdict.{Verdict}
 use Rattle.command.specs.declared.verdict.Verdict.the-variants as verdict
+use Rattle.meter.specs.Bench as bench
 use Rattle.meter.specs.Reply.{Outcome, isSound, heard, headOf, unheard, refused, replied, answerOf}
+use Rattle.reader.specs.Form.{formOf}
+use Rattle.reader.specs.Reply as reply
+use Rattle.reader.specs.declared.form.Form.{Form}
+use Rattle.reader.specs.declared.form.Form.the-variants.{WellFormed, Faulty}
+use Rattle.reader.specs.declared.reply.Decoded.{Decoded}
+use Rattle.reader.specs.declared.reply.Decoded.the-variants as decoded
+use Rattle.log.specs.Fresh as fresh
+use Rattle.log.specs.Header.{isHeader, cellsOf, lengthOf, markRight, versionRight, headerOf, soundOf}
+use Rattle.log.specs.Image.{cellAt, allGood}
+use Rattle.log.specs.Interval.{intervalOf, dayDate}
+use Rattle.log.specs.declared.cell.CellAnswer.{CellAnswer}
+use Rattle.log.specs.declared.cell.CellAnswer.the-variants.{Good, Bad}
+use Rattle.log.specs.declared.header.Header.{Header}
+use Rattle.log.specs.declared.header.HeaderAnswer.{HeaderAnswer}
+use Rattle.log.specs.declared.header.HeaderAnswer.the-variants.{Right, Wrong}
+use Rattle.log.specs.declared.header.Lent.{Lent}
+use Rattle.log.specs.declared.header.Lent.the-variants.{Sound, Unsound}
+use Rattle.log.specs.declared.interval.DayAnswer.{DayAnswer}
+use Rattle.log.specs.declared.interval.DayAnswer.the-variants as day-answer
+use Rattle.log.specs.declared.interval.Interval.{Interval}
+use Rattle.log.specs.declared.interval.Interval.the-variants.{At, Outside}
+use Rattle.dayreport.specs.Report as report
+use Rattle.dayreport.specs.declared.report.ReportAnswer.{ReportAnswer}
+use Rattle.dayreport.specs.declared.report.ReportAnswer.the-variants as answer
+use Rattle.report_text.specs.Day as day-text
+use Rattle.report_text.specs.Text as text
+use Rattle.logfile.specs.File.{fileLength, cellsGood}
+use Rattle.logfile.specs.Read as file-read
+use Rattle.logfile.specs.Write as file-write
+use Rattle.logger.specs.Ask as Ask
+use Rattle.logger.specs.Book.{lapse}
+use Rattle.logger.specs.Run.{State, step}
+use Rattle.logger.specs.Take as Take
+use Rattle.logger.specs.declared.held.OpenAsk.{OpenAsk}
+use Rattle.logger.specs.declared.held.OpenAsk.the-variants.{Closed, Open}
+use Rattle.logger.specs.declared.take.Update.{Update}
+use Rattle.logger.specs.declared.take.Update.the-variants.{Put, Keep, Conflict}
 
 -- ---- the claim
 
@@ -89,6 +88,30 @@ inTable n = leb n 2 || (leb 10 n && leb n 15) || (leb 20 n && leb n 28) || (leb 
 pub record Demand1 {A : Type 0} (number : ℕ) (before after : A) : Type 0 where
   pub told : inTable number ≡ true
   pub stays : (number ≡ 0 → ⊥) → after ≡ before
+
+-- an ask: the ask held and the lent output; the log is lent only to be read
+abbrev pub AskTold : OpenAsk → List ℕ → Ask.Outcome → Type 0
+AskTold held out o = Demand1 {A = OpenAsk × List ℕ} (Ask.numberOf (o .result .answer)) (held, out) (o .result .held, o .bytes)
+
+-- a taken reply: the log; and the ask held, which is closed by 0, by 24 and 25 ("ask closed, log kept"), and by no other answer
+abbrev pub closes : ℕ → Bool
+closes n = eqb n 0 || eqb n 24 || eqb n 25
+
+pub record TakeTold (s : List ℕ) (held : OpenAsk) (o : Take.Outcome) : Type 0 where
+  pub log : Demand1 (Take.numberOf (o .result .answer)) s (o .log)
+  pub ask : o .result .held ≡ cond (closes (Take.numberOf (o .result .answer))) Closed held
+
+-- where the table gives a refusal frame: 10 to 15
+abbrev pub givesFrame : ℕ → Bool
+givesFrame n = leb 10 n && leb n 15
+
+-- the meter's answer: record and store; and of a refused command the output and how many of its bytes are the reply: "the short refusal
+-- frame where the table gives one", else none
+pub record AnswerTold (r : Record) (s f out : List ℕ) (o : Outcome) : Type 0 where
+  pub stays : Demand1 {A = Record × List ℕ} (numberOf (o .answer .verdict)) (r, s) (o .answer .after, o .store)
+  pub output : (numberOf (o .answer .verdict) ≡ 0 → ⊥)
+      → o .out ≡ cond (givesFrame (numberOf (o .answer .verdict))) (written out 0 (framed (headOf (o .answer .verdict) f))) out
+  pub sent : (numberOf (o .answer .verdict) ≡ 0 → ⊥) → o .answer .length ≡ cond (givesFrame (numberOf (o .answer .verdict))) 6 0
 
 -- ---- what the calls' definitions are made of
 
@@ -108,7 +131,8 @@ either P false p q = q
 
 -- ---- requests
 
-pub request-told : (q : Request) (out : List ℕ) → Demand1 (request.numberOf ((request.requested q out) .answer)) out ((request.requested q out) .bytes)
+pub request-told : (q : Request) (out : List ℕ)
+    → Demand1 (request.numberOf ((request.requested q out) .answer)) out ((request.requested q out) .bytes)
 unfolding request.requested inTable
 request-told q out =
     let P : request.Outcome → Type 0 = λ o. Demand1 (request.numberOf (o .answer)) out (o .bytes) in
@@ -134,10 +158,6 @@ put-slice-told r s k row =
 
 -- ---- asks, lapses and replies
 
--- the ask held and the lent output; the log is lent only to be read
-abbrev pub AskTold : OpenAsk → List ℕ → Ask.Outcome → Type 0
-AskTold held out o = Demand1 {A = OpenAsk × List ℕ} (Ask.numberOf (o .result .answer)) (held, out) (o .result .held, o .bytes)
-
 module _ (address day slot : ℕ) (out : List ℕ) where
   slot-asked : (h : Header) (i : Interval) → AskTold Closed out (Ask.slotAsked i h address day slot out)
   unfolding Ask.slotAsked inTable
@@ -159,18 +179,10 @@ module _ (address day slot : ℕ) (out : List ℕ) where
   ask-told log held =
       either (AskTold held out) (ltb (length out) 8) (record { told = refl; stays = λ n. refl }) (log-asked (soundOf log) held)
 
--- "with nothing open a lapse does nothing and answers 0", and with one open it answers 0 too
+-- a lapse, which is never refused
 pub lapse-told : (s : State) → Demand1 ((step s lapse) .answer .number) s ((step s lapse) .state)
 unfolding step
 lapse-told s = done s _
-
--- a taken reply: the log; and the ask, which 0, 24 and 25 close, and every other answer leaves
-abbrev pub closes : ℕ → Bool
-closes n = eqb n 0 || eqb n 24 || eqb n 25
-
-pub record TakeTold (s : List ℕ) (held : OpenAsk) (o : Take.Outcome) : Type 0 where
-  pub log : Demand1 (Take.numberOf (o .result .answer)) s (o .log)
-  pub ask : o .result .held ≡ cond (closes (Take.numberOf (o .result .answer))) Closed held
 
 module _ (s : List ℕ) (held : OpenAsk) where
   updated-told : (i : ℕ) (u : Update) → TakeTold s held (Take.updated u s i)
@@ -271,12 +283,20 @@ module _ (s : List ℕ) (day : ℕ) (row : List ℕ) where
   unfolding ReportTold report.reportOf inTable
   report-told = either ReportTold (leb 7 (length row)) (lent-reported (soundOf s)) (kept 1 row refl)
 
--- a text at the front of a lent buffer: the heading, or a line of a date and its numbers
-pub text-told : (line out : List ℕ) → Demand1 (text.textNumber ((text.putText line out) .answer)) out ((text.putText line out) .bytes)
+-- a text at the front of a lent buffer
+text-told : (line out : List ℕ) → Demand1 (text.textNumber ((text.putText line out) .answer)) out ((text.putText line out) .bytes)
 unfolding text.putText inTable
 text-told line out =
     let P : text.Outcome → Type 0 = λ o. Demand1 (text.textNumber (o .answer)) out (o .bytes) in
     either P (leb (length line) (length out)) (done out _) (kept 1 out refl)
+
+pub heading-told : (out : List ℕ)
+    → Demand1 (text.textNumber ((text.putText text.headingText out) .answer)) out ((text.putText text.headingText out) .bytes)
+heading-told out = text-told text.headingText out
+
+pub line-told : (date : Date) (row out : List ℕ)
+    → Demand1 (text.textNumber ((text.putText (text.lineText date row) out) .answer)) out ((text.putText (text.lineText date row) out) .bytes)
+line-told date row out = text-told (text.lineText date row) out
 
 module _ (s : List ℕ) (day : ℕ) (out : List ℕ) where
   TextTold : text.Outcome → Type 0
@@ -303,7 +323,8 @@ module _ (s : List ℕ) (day : ℕ) (out : List ℕ) where
   unfolding TextTold day-text.dayText
   day-text-told = lent-texted (soundOf s)
 
--- ---- calls that lend nothing to write in and hand their record or figures back by value: only the answer's number is to be told
+-- ---- the bench's own calls on a record, and the reader's decoding: they are lent nothing to write in, and a record or figures come back
+-- only with 0, so all that is left to tell is the number
 
 record-told : (a : RecordAnswer) → inTable (recording.numberOf a) ≡ true
 unfolding inTable
@@ -340,18 +361,6 @@ pub decode-told : (q : Request) (y : List ℕ) → inTable (reply.numberOf (repl
 decode-told q y = decoded-told (reply.decodedOf q y)
 
 -- ---- the meter's answer
-
--- where the table gives a refusal frame: 10 to 15
-abbrev pub givesFrame : ℕ → Bool
-givesFrame n = leb 10 n && leb n 15
-
--- record and store; and of a refused command the output, and how many bytes of it are the reply: "the short refusal frame where the
--- table gives one", else nothing
-pub record AnswerTold (r : Record) (s f out : List ℕ) (o : Outcome) : Type 0 where
-  pub stays : Demand1 {A = Record × List ℕ} (numberOf (o .answer .verdict)) (r, s) (o .answer .after, o .store)
-  pub output : (numberOf (o .answer .verdict) ≡ 0 → ⊥)
-      → o .out ≡ cond (givesFrame (numberOf (o .answer .verdict))) (written out 0 (framed (headOf (o .answer .verdict) f))) out
-  pub sent : (numberOf (o .answer .verdict) ≡ 0 → ⊥) → o .answer .length ≡ cond (givesFrame (numberOf (o .answer .verdict))) 6 0
 
 -- a command that the meter heard is done or refused by 10 to 15
 Judged : Verdict → Type 0

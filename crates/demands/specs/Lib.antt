@@ -1,5 +1,5 @@
-pub mod Demand1
 pub mod Examples
+pub mod Demand1
 pub mod Demand3
 pub mod History
 pub mod Held
