@@ -1,4 +1,5 @@
 pub mod Examples
+pub mod Demand1
 pub mod Demand3
 pub mod History
 pub mod Held
