@@ -1,4 +1,5 @@
 // The bench meter's lines: each takes the record and gives the one that stands after it.
+use crate::arguments::RequestWords;
 use crate::meter_words;
 use crate::meter_words::CountWords;
 use crate::meter_words::KeyWords;
@@ -12,8 +13,10 @@ use calendar::Date;
 use calendar::DateTime;
 use console::BytesAnswer;
 use figures::Telemetry;
+use inquiry::Inquired;
 use meter_record::Record;
 use meter_record::RecordAnswer;
+use request::Request;
 use second::Season;
 use slots::Key;
 
@@ -51,6 +54,10 @@ pub fn called(verb: MeterVerb, line: &[u8], store: &mut [u8], r: Record) -> Reco
         }
         MeterVerb::Shown => {
             told::shown(line, r);
+            r
+        }
+        MeterVerb::Inquire => {
+            inquire(line, store, r);
             r
         }
     }
@@ -159,4 +166,29 @@ fn frame_of(bytes: &[u8], store: &mut [u8], r: Record) -> Record {
     let length = answer.length;
     told::reply(verdict.number(), console::part(&out, length));
     answer.after
+}
+
+// A read request sent to the console's own meter.
+fn inquire(line: &[u8], store: &mut [u8], r: Record) {
+    if console::spaces(line) != 5 {
+        say::unread();
+        return;
+    }
+    match crate::arguments::request_words(line) {
+        RequestWords::Of(q) => inquired(q, store, r),
+        RequestWords::Unread => say::unread(),
+    }
+}
+
+fn inquired(q: Request, store: &mut [u8], r: Record) {
+    let mut out = [0u8; 64];
+    let answer = inquiry::inquire(r, store, q, &mut out);
+    say::first(answer.number());
+    match answer {
+        Inquired::Told(decoded) => crate::reads::say_figures(decoded, &out),
+        Inquired::TooShort => {}
+        Inquired::Unsound => {}
+        Inquired::Silent => {}
+    }
+    say::end();
 }

@@ -61,7 +61,7 @@ fn decode_of(q: Request, reply: &[u8]) {
     say::end();
 }
 
-fn say_figures(decoded: Decoded, reply: &[u8]) {
+pub fn say_figures(decoded: Decoded, reply: &[u8]) {
     match decoded {
         Decoded::OutOfRange => {}
         Decoded::Malformed(_) => {}

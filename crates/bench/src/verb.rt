@@ -36,6 +36,7 @@ pub enum MeterVerb {
     Frame,
     Record,
     Shown,
+    Inquire,
 }
 
 pub fn verb_of(w: &[u8]) -> Verb {
@@ -105,6 +106,9 @@ fn shown_verb(w: &[u8]) -> Verb {
     }
     if check::same(w, b"shown") {
         return Verb::Meter(MeterVerb::Shown);
+    }
+    if check::same(w, b"inquire") {
+        return Verb::Meter(MeterVerb::Inquire);
     }
     Verb::Unknown
 }

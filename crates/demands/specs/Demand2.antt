@@ -74,17 +74,17 @@ Demand2Read =
 
 -- ---- what an answer with 0 has passed
 
-only-done : (v : Verdict) → numberOf v ≡ 0 → v ≡ Done
-only-done Done h = refl
-only-done TooShort h = absurd (omega arith)
-only-done Unsound h = absurd (omega arith)
-only-done Silent h = absurd (omega arith)
-only-done UnknownFunction h = absurd (omega arith)
-only-done UnknownParameter h = absurd (omega arith)
-only-done NotOpen h = absurd (omega arith)
-only-done WrongLength h = absurd (omega arith)
-only-done NoAccess h = absurd (omega arith)
-only-done WrongArgument h = absurd (omega arith)
+pub done-only : (v : Verdict) → isDone v ≡ true → v ≡ Done
+done-only Done h = refl
+done-only TooShort h = absurd (false≢true h)
+done-only Unsound h = absurd (false≢true h)
+done-only Silent h = absurd (false≢true h)
+done-only UnknownFunction h = absurd (false≢true h)
+done-only UnknownParameter h = absurd (false≢true h)
+done-only NotOpen h = absurd (false≢true h)
+done-only WrongLength h = absurd (false≢true h)
+done-only NoAccess h = absurd (false≢true h)
+done-only WrongArgument h = absurd (false≢true h)
 
 pub record Passed (r : Record) (s f out : List ℕ) : Type 0 where
   pub room : 64 ≤ length out

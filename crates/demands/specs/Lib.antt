@@ -7,3 +7,4 @@ pub mod Wire
 pub mod Demand2
 pub mod Changes
 pub mod Six
+pub mod Inquired
