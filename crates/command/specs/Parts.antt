@@ -1,6 +1,6 @@
 -- The parts of a command's frame. Source: document 01, "Frames", and "Refusal numbers": "With functions 3, 16 and 30 a frame of 4 bytes
 -- counts as parameter 0 and gets 11; a refusal frame for an unknown function, or a command without a parameter, puts 0 there."
-use mathlib.Core.Bool.{Bool, true, false, cond, _&&_}
+use mathlib.Core.Bool.{Bool, true, false, cond}
 use mathlib.Core.List.{List}
 use Prim.Native.Nat.{ℕ}
 use lib.Dec.{leb}

@@ -2,17 +2,17 @@
 -- protection's 240 seconds start again."
 use mathlib.Core.Path.{_≡_, refl, sym, ap, _∙_}
 use mathlib.Core.Bool.{Bool, true, false, cond}
-use mathlib.Core.List.{List, [], _∷_}
+use mathlib.Core.List.{List}
 use Prim.Native.Nat.{ℕ}
 use lib.Dec.{eqb, leb, ltb}
 use lib.ListN.{length}
-use borrow.Author.Tests.{eqb-true, ne-eqb}
+use borrow.Author.Tests.{ne-eqb}
 use Rattle.words.specs.Place.{byteAt, numberAt}
 use Rattle.frame.specs.declared.code.Function.{Function}
 use Rattle.frame.specs.declared.code.Function.the-variants as function
 use Rattle.frame.specs.declared.code.Parameter.{Parameter}
 use Rattle.frame.specs.declared.code.Parameter.the-variants as parameter
-use Rattle.second.specs.Protection.{opened, shut}
+use Rattle.second.specs.Protection.{opened}
 use Rattle.second.specs.declared.protection.Protection.{Protection}
 use Rattle.store.specs.Store.{cleared}
 use Rattle.meter_record.specs.With.{withAddress, withProtection, withPasswords, withTelemetry, withMask, withNext, withClock, withSummer, withWinter}
@@ -24,7 +24,6 @@ use Rattle.command.specs.JudgementLaws.{change-accepted, zero-accepted}
 use Rattle.command.specs.KeepLaws.{change-level, zero-level}
 use Rattle.command.specs.Parts.{functionIn, parameterIn, detailIn}
 use Rattle.command.specs.Verdict.{isDone}
-use Rattle.command.specs.declared.verdict.Verdict.{Verdict}
 use Rattle.command.specs.declared.verdict.Verdict.the-variants.{Done, WrongLength, NoAccess, WrongArgument}
 use Rattle.meter.specs.Effect.{renewed, afterOf, afterBy, clears, clearsBy, storeAfter}
 use Rattle.meter.specs.Reply.{Outcome, isSound, heard, replied, answerOf}

@@ -3,17 +3,17 @@
 --
 -- The meter answers by the definition that the contract of `answer` cites (`meter/specs/Reply.antt`), the reader decodes by that of `decode`
 -- (`reader/specs/Reply.antt`). The figures that a record and its store hold for a request are `held` (`Held.antt`).
-use mathlib.Core.Path.{_≡_, refl, sym, ap, ap₂, subst, _∙_}
-use mathlib.Core.Bool.{Bool, true, false, cond, _&&_, false≢true}
+use mathlib.Core.Path.{_≡_, refl, sym, ap, _∙_}
+use mathlib.Core.Bool.{Bool, true, false, false≢true}
 use mathlib.Core.List.{List, [], _∷_, _++_}
 use Prim.Native.Nat.{ℕ, _+_, _≤_, _<_}
 use native.Mathlib.Omega.{arith}
-use lib.Dec.{eqb, leb, ltb, lit≤}
-use lib.ListN.{length, take, drop}
+use lib.Dec.{eqb, ltb, lit≤}
+use lib.ListN.{length, take}
 use borrow.Author.Tests.{ltb-false, le-ltb, eq-eqb}
 use Rattle.decide.specs.Test.{both}
 use Rattle.words.specs.Number.{Bytes, bytesOf}
-use Rattle.words.specs.Place.{byteAt, written}
+use Rattle.words.specs.Place.{written}
 use Rattle.frame.specs.Code.{functionOf, parameterOf}
 use Rattle.frame.specs.Sealing.{framed, length-framed, crcFits-framed}
 use Rattle.crc16.specs.Crc.{crcOf}
@@ -26,14 +26,13 @@ use Rattle.request.specs.Request.{requestFrame}
 use Rattle.request.specs.RequestLaws.{subject-wider}
 use Rattle.request.specs.Subject.{keyOf, subjectOf, subjectFor, mostSlots, askable, dataBytes}
 use Rattle.request.specs.declared.request.Request.{Request}
-use Rattle.request.specs.declared.subject.Subject.{Subject}
-use Rattle.store.specs.Store.{sliceOf, sixOf, storeBytes}
+use Rattle.store.specs.Store.{sixOf, storeBytes}
 use Rattle.meter_record.specs.RangeLaws.{Within, within}
 use Rattle.meter_record.specs.Ranges.{isWithin}
 use Rattle.meter_record.specs.declared.record.Record.{Record}
 use Rattle.command.specs.Judgement.{verdictOf, verdictBy, readVerdict}
 use Rattle.command.specs.JudgementLaws.{read-accepted}
-use Rattle.command.specs.Parts.{functionIn, parameterByte, parameterIn, requestIn}
+use Rattle.command.specs.Parts.{functionIn, parameterByte, requestIn}
 use Rattle.command.specs.Verdict.{numberOf, resultOf, isDone}
 use Rattle.command.specs.declared.verdict.Verdict.{Verdict}
 use Rattle.command.specs.declared.verdict.Verdict.the-variants.{Done, TooShort, Unsound, Silent, UnknownFunction, UnknownParameter, NotOpen, WrongLength, NoAccess, WrongArgument}
@@ -43,8 +42,7 @@ use Rattle.meter.specs.ReplyLaws.{length-figures, size-small, length-head}
 use Rattle.reader.specs.Form as form
 use Rattle.reader.specs.Form.{lengthFor, formOf}
 use Rattle.reader.specs.Rows.{replyData, sixOf as sixIn}
-use Rattle.reader.specs.Reply.{decodedOf, repliedOf, figuresOf as figuresIn}
-use Rattle.reader.specs.declared.reply.Decoded.{Decoded}
+use Rattle.reader.specs.Reply.{decodedOf, repliedOf}
 use Rattle.reader.specs.declared.reply.Decoded.the-variants as decoded
 use Rattle.demands.specs.Held.{held, FitsRecord, same-size, found-again}
 use Rattle.demands.specs.Six.{six-again}

@@ -1,19 +1,18 @@
 -- The figures that a record and its store hold for a read request, and that the reader finds them again in the meter's data.
-use mathlib.Core.Path.{_≡_, refl, sym, ap, _∙_}
+use mathlib.Core.Path.{_≡_, refl, ap, _∙_}
 use mathlib.Core.Bool.{Bool, true, false, cond, _&&_, false≢true}
-use mathlib.Core.List.{List, [], _∷_, _++_, append-assoc}
+use mathlib.Core.List.{List, _++_, append-assoc}
 use Prim.Native.Nat.{ℕ, _+_, _-_, _^_, _<_}
 use native.Mathlib.Nat.{mod-eq-of-lt}
 use lib.Dec.{eqb, leb}
-use lib.ListN.{length, getD}
-use Rattle.words.specs.Number.{Bytes, number, bytesOf}
-use Rattle.words.specs.Place.{byteAt, numberAt, numberAt-front, numberAt-behind-bytes}
+use Rattle.words.specs.Number.{bytesOf}
+use Rattle.words.specs.Place.{numberAt, numberAt-front, numberAt-behind-bytes}
 use Rattle.calendar.specs.declared.time.DateTime.{DateTime}
-use Rattle.figures.specs.Clock.{dateTimeOf, dateTimeBytes, dateTimeOf-bytes}
-use Rattle.figures.specs.Mask.{maskOf, maskBytes, maskOf-bytes}
-use Rattle.figures.specs.Power.{totalOf, powerOf, powersOf, powerBytes, powersBytes}
+use Rattle.figures.specs.Clock.{dateTimeOf-bytes}
+use Rattle.figures.specs.Mask.{maskOf-bytes}
+use Rattle.figures.specs.Power.{totalOf, powerBytes, powersBytes}
 use Rattle.figures.specs.PowerLaws.{FitsPhases, powerOf-bytes}
-use Rattle.figures.specs.Telemetry.{telemetryOf, telemetryBytes, FitsTelemetry, telemetryOf-bytes}
+use Rattle.figures.specs.Telemetry.{FitsTelemetry, telemetryOf-bytes}
 use Rattle.figures.specs.declared.power.Phases.{Phases}
 use Rattle.frame.specs.declared.code.Parameter.{Parameter}
 use Rattle.frame.specs.declared.code.Parameter.the-variants as parameter
@@ -22,8 +21,7 @@ use Rattle.request.specs.declared.request.Request.{Request}
 use Rattle.request.specs.declared.subject.Subject.{Subject}
 use Rattle.request.specs.declared.subject.Subject.the-variants as subject
 use Rattle.slots.specs.Key.{isLegal}
-use Rattle.store.specs.Store.{rowAt, isKept, placeOf, sliceOf, sixOf, countAt, rowBytes}
-use Rattle.store.specs.StoreLaws.{RowFits}
+use Rattle.store.specs.Store.{sliceOf, countAt, rowBytes}
 use Rattle.meter_record.specs.Power.{arePowers}
 use Rattle.meter_record.specs.PowerLaws.{BoundsPhases, powers-bounds, bounds-finite, powers-read}
 use Rattle.meter_record.specs.RangeLaws.{Within}

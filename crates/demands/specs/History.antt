@@ -2,7 +2,7 @@
 use mathlib.Core.Path.{_≡_, refl, sym, ap, ap₂, _∙_}
 use mathlib.Core.Bool.{Bool, true, false, cond, not, false≢true}
 use mathlib.Core.List.{List, [], _∷_}
-use Prim.Native.Nat.{ℕ, zero, suc, _+_, _<_, _≤_}
+use Prim.Native.Nat.{ℕ, _+_}
 use native.Mathlib.Nat.{zero-add}
 use native.Mathlib.Omega.{arith}
 use borrow.Author.Tests.{ltb-true, ltb-false}
@@ -15,7 +15,7 @@ use Rattle.reader.specs.Form.{formOf}
 use Rattle.reader.specs.declared.form.Form.{Form}
 use Rattle.reader.specs.declared.form.Form.the-variants.{WellFormed, Faulty}
 use Rattle.log.specs.Cell.{isCell, noCounts, cellBytes}
-use Rattle.log.specs.CellLaws.{IsCell, CountsFit, length-cellBytes, gap-is-cell}
+use Rattle.log.specs.CellLaws.{IsCell, length-cellBytes, gap-is-cell}
 use Rattle.log.specs.Header.{isHeader, cellsOf, soundOf}
 use Rattle.log.specs.Image.{cellStart, cellAt, putCell, imageOf}
 use Rattle.log.specs.ImageLaws.{AllCells}
@@ -30,9 +30,9 @@ use Rattle.log.specs.declared.header.Lent.the-variants.{Sound, Unsound}
 use Rattle.log.specs.declared.interval.Interval.{Interval}
 use Rattle.log.specs.declared.interval.Interval.the-variants.{At, Outside}
 use Rattle.logger.specs.Take as Take
-use Rattle.logger.specs.Book.{Call, ask, lapse, reply, Answer, Row, Book, isZero, counts, firstOf, byFirst, afresh, cameFirst, startBook, bookStep, bookRun, workedOut}
+use Rattle.logger.specs.Book.{Call, Answer, Book, isZero, counts, firstOf, byFirst, afresh, cameFirst, startBook, bookStep, bookRun, workedOut}
 use Rattle.logger.specs.BookLaws.{Fitting, length-workedOut, workedOut-at}
-use Rattle.logger.specs.Run.{State, step, run}
+use Rattle.logger.specs.Run.{State, run}
 use Rattle.logger.specs.StepLaws.{stateOf, Sane, CallBytes, step-agrees, step-sane}
 use Rattle.logger.specs.declared.held.OpenAsk.{OpenAsk}
 use Rattle.logger.specs.declared.held.OpenAsk.the-variants.{Closed, Open}

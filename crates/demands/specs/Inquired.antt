@@ -1,11 +1,11 @@
 -- Demand 2 as one call: what `inquire` answers with 0 are the record's own figures.
 use mathlib.Core.Path.{_≡_, refl, sym, ap, _∙_}
-use mathlib.Core.Bool.{Bool, true, false, cond, false≢true}
+use mathlib.Core.Bool.{Bool, true, false}
 use mathlib.Core.List.{List}
 use Prim.Native.Nat.{ℕ, _≤_}
 use native.Mathlib.Omega.{arith}
 use lib.Dec.{ltb}
-use lib.ListN.{length, take}
+use lib.ListN.{length}
 use borrow.Author.Tests.{ltb-false, le-ltb}
 use Rattle.words.specs.Number.{Bytes}
 use Rattle.frame.specs.Code.{parameterOf}
@@ -14,16 +14,13 @@ use Rattle.request.specs.Subject.{subjectOf, mostSlots, askable}
 use Rattle.request.specs.declared.request.Request.{Request}
 use Rattle.meter_record.specs.declared.record.Record.{Record}
 use Rattle.command.specs.Judgement.{verdictOf}
-use Rattle.command.specs.Verdict.{numberOf, resultOf, isDone}
-use Rattle.command.specs.declared.verdict.Verdict.{Verdict}
+use Rattle.command.specs.Verdict.{numberOf, isDone}
 use Rattle.command.specs.declared.verdict.Verdict.the-variants.{Done}
 use Rattle.meter.specs.Reply.{Outcome, isSound, heard, replied, answerOf}
 use Rattle.reader.specs.Reply.{decodedOf}
-use Rattle.reader.specs.declared.reply.Decoded.{Decoded}
 use Rattle.reader.specs.declared.reply.Decoded.the-variants as decoded
 use Rattle.inquiry.specs.Inquiry as inquiry
 use Rattle.inquiry.specs.Inquiry.{isSilent, toldOf, asked, inquired}
-use Rattle.inquiry.specs.declared.Inquired.{Inquired}
 use Rattle.inquiry.specs.declared.Inquired.the-variants.{Told}
 use Rattle.demands.specs.Demand2.{answered, replyIn, FitsRequest, done-only, demand-2-read, demand-2-refused}
 use Rattle.demands.specs.Held.{held, FitsRecord}

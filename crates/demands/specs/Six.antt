@@ -1,20 +1,19 @@
 -- The six rows of parameter 40: what the reader takes from the meter's data are the store's six slices.
-use mathlib.Core.Path.{_≡_, refl, sym, ap, ap₂, _∙_}
-use mathlib.Core.Bool.{Bool, true, false, cond}
+use mathlib.Core.Path.{_≡_, refl, sym, ap, _∙_}
+use mathlib.Core.Bool.{Bool, true, false}
 use mathlib.Core.List.{List, [], _∷_, _++_, append-assoc}
-use Prim.Native.Nat.{ℕ, _+_, _<_}
+use Prim.Native.Nat.{ℕ, _+_}
 use native.Mathlib.Nat.{add-assoc}
-use lib.ListN.{getD, length}
-use Rattle.words.specs.Number.{Bytes, bytesOf}
-use Rattle.words.specs.Place.{numberAt, numberAt-front, numberAt-behind, numberAt-behind-bytes}
+use Rattle.words.specs.Number.{Bytes}
+use Rattle.words.specs.Place.{numberAt, numberAt-behind}
 use Rattle.slots.specs.declared.key.Key.{Key}
-use Rattle.store.specs.Store.{rowAt, isKept, placeOf, sliceOf, later, sixOf, countAt, rowBytes}
+use Rattle.store.specs.Store.{rowAt, isKept, sliceOf, later, sixOf, countAt, rowBytes}
 use Rattle.meter.specs.Reading.{sixBytes}
 use Rattle.meter.specs.ReplyLaws.{length-row}
 use Rattle.reader.specs.Reply.{countsOf}
 use Rattle.reader.specs.declared.reply.Slice.{Slice as FourCounts}
 use Rattle.reader.specs.Rows.{rowOf, sixOf as sixIn}
-use Rattle.demands.specs.Held.{FitsRow, fourCounts, row-again}
+use Rattle.demands.specs.Held.{fourCounts, row-again}
 use Rattle.demands.specs.Wire.{slice-fits}
 
 -- a slice has four counts

@@ -6,40 +6,35 @@ use Prim.Native.Nat.{ℕ, zero, suc, _+_, _-_, _*_, _^_, _≤_, _<_}
 use native.Mathlib.Nat.{zero-lt-suc}
 use native.Mathlib.Omega.{arith}
 use lib.Dec.{eqb, leb, ltb, lit≤}
-use lib.ListN.{length, take, drop, getD, length-append}
+use lib.ListN.{length, take, getD}
 use borrow.Author.Tests.{eq-eqb}
 use Rattle.decide.specs.Test.{both}
-use Rattle.words.specs.Number.{Bytes, number, bytesOf, bytes-bytesOf, length-bytesOf}
+use Rattle.words.specs.Number.{Bytes, bytesOf, bytes-bytesOf}
 use Rattle.words.specs.Place.{byteAt, numberAt, numberAt-one, numberAt-split, written, part-written}
-use Rattle.calendar.specs.Date.{daysInMonth}
-use Rattle.calendar.specs.DateLaws.{Ranges, ranges, month-length}
+use Rattle.calendar.specs.DateLaws.{ranges, month-length}
 use Rattle.calendar.specs.SundayLaws.{last-sunday}
 use Rattle.calendar.specs.Time.{isTime, secondNumber, centurySeconds}
 use Rattle.calendar.specs.TimeLaws.{time-ranges, is-time}
 use Rattle.calendar.specs.declared.time.DateTime.{DateTime}
-use Rattle.crc16.specs.Crc.{crcOf}
 use Rattle.figures.specs.Clock.{dateTimeBytes}
 use Rattle.figures.specs.Mask.{maskBytes}
 use Rattle.figures.specs.Power.{totalOf, bitsOf, powerBytes, powersBytes}
 use Rattle.figures.specs.Telemetry.{telemetryBytes}
 use Rattle.figures.specs.declared.power.Phases.{Phases}
-use Rattle.frame.specs.Code.{parameterOf}
-use Rattle.frame.specs.Sealing.{framed, length-framed, crcFits, crcFits-framed}
+use Rattle.frame.specs.Sealing.{framed, length-framed, crcFits-framed}
 use Rattle.frame.specs.declared.code.Parameter.{Parameter}
 use Rattle.frame.specs.declared.code.Parameter.the-variants as parameter
-use Rattle.request.specs.Subject.{keyOf, subjectOf, askable, dataBytes}
+use Rattle.request.specs.Subject.{keyOf}
 use Rattle.request.specs.declared.request.Request.{Request}
-use Rattle.request.specs.declared.subject.Subject.{Subject}
-use Rattle.second.specs.Season.{isSwitchable, isChoice, sunday, onHour, chosenDate, summerDate, winterDate}
+use Rattle.second.specs.Season.{isSwitchable, isChoice, sunday, onHour, chosenDate}
 use Rattle.second.specs.SecondLaws.{Fitting, fitting}
 use Rattle.second.specs.declared.season.SwitchDate.{SwitchDate}
 use Rattle.second.specs.declared.season.SwitchDate.the-variants.{Automatic, ByHand}
-use Rattle.second.specs.declared.season.Time.{Time}
 use Rattle.slots.specs.declared.key.Key.{Key}
 use Rattle.store.specs.Store.{rowAt, isKept, placeOf, sliceOf, sixOf, countAt, rowBytes}
 use Rattle.meter_record.specs.RangeLaws.{Within}
 use Rattle.meter_record.specs.declared.record.Record.{Record}
-use Rattle.meter.specs.Reading.{phase, powerData, summerShown, winterShown, sixBytes, figuresOf}
+use Rattle.meter.specs.Reading.{phase, powerData, sixBytes, figuresOf}
 use Rattle.reader.specs.Form.{lengthFor, functionFor, headOf, formOf}
 use Rattle.reader.specs.declared.form.Form.the-variants.{WellFormed}
 use Rattle.demands.specs.Held.{FitsRecord, FitsRow}

@@ -1,6 +1,6 @@
 -- Every call keeps record and store a meter's: what a sound record and store become is sound.
-use mathlib.Core.Path.{_≡_, refl, sym, ap, ap₂, subst, _∙_}
-use mathlib.Core.Bool.{Bool, true, false, cond, _&&_}
+use mathlib.Core.Path.{_≡_, refl, ap, ap₂, _∙_}
+use mathlib.Core.Bool.{Bool, true, false, _&&_}
 use mathlib.Core.List.{List}
 use Prim.Native.Nat.{ℕ}
 use lib.Dec.{eqb, ltb}
@@ -9,21 +9,20 @@ use borrow.Author.Tests.{lt-ltb, ltb-true}
 use Rattle.decide.specs.Test.{both}
 use Rattle.frame.specs.declared.code.Function.{Function}
 use Rattle.frame.specs.declared.code.Function.the-variants as function
-use Rattle.second.specs.Protection.{opened, shut, isRunning, isProtection}
-use Rattle.second.specs.declared.protection.Level.{Level}
+use Rattle.second.specs.Protection.{opened, shut, isProtection}
 use Rattle.second.specs.declared.protection.Protection.{Protection}
 use Rattle.second.specs.declared.protection.Level.the-variants.{Auxiliary, Main}
 use Rattle.slots.specs.Day.{slotsOf}
 use Rattle.slots.specs.Key.{isLegal}
 use Rattle.slots.specs.declared.key.Key.{Key}
-use Rattle.store.specs.Store.{places, storeBytes, cleared, putNext, putStore}
+use Rattle.store.specs.Store.{places, storeBytes}
 use Rattle.store.specs.StoreLaws.{length-cleared, length-put, next-in-range}
 use Rattle.meter_record.specs.RangeLaws.{Within, within, is-within, remade-within}
 use Rattle.meter_record.specs.Ranges.{isWithin}
 use Rattle.meter_record.specs.declared.record.Record.{Record}
 use Rattle.meter_record.specs.declared.record.RecordAnswer.{RecordAnswer}
 use Rattle.meter_record.specs.declared.record.RecordAnswer.the-variants.{Done, OutOfRange, Unsound}
-use Rattle.command.specs.Access.{isMain, isOpen, levelFor}
+use Rattle.command.specs.Access.{isOpen, levelFor}
 use Rattle.command.specs.Change.{changed, zeroed}
 use Rattle.command.specs.JudgementLaws.{change-accepted, zero-accepted, allowed-open, main-open, open-runs}
 use Rattle.command.specs.Judgement.{verdictOf, verdictBy}

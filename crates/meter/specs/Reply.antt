@@ -1,6 +1,6 @@
 -- The answer to a frame. Source: document 01, "Frames": "A reply repeats the command's address, function and parameter, then a result byte,
 -- then the data. If the result isn't 0, the function's top bit is set and no data follow: 6 bytes (house)"; "Refusal numbers".
-use mathlib.Core.Bool.{Bool, true, false, cond, _&&_, _||_}
+use mathlib.Core.Bool.{Bool, cond, _&&_, _||_}
 use mathlib.Core.List.{List, [], _∷_, _++_}
 use Prim.Native.Nat.{ℕ, _+_}
 use lib.Dec.{eqb, leb, ltb}

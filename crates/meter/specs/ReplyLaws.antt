@@ -1,7 +1,7 @@
 -- What follows: how long a reply's data are, and that a reply's parts, written one behind the other and sealed, are its frame.
 use mathlib.Core.Path.{_≡_, refl, sym, ap, ap₂, _∙_}
 use mathlib.Core.Bool.{Bool, true, false, cond}
-use mathlib.Core.List.{List, [], _∷_, _++_}
+use mathlib.Core.List.{List, _++_}
 use Prim.Native.Nat.{ℕ, _+_, _-_, _≤_}
 use native.Mathlib.Omega.{arith}
 use lib.Dec.{eqb, ltb, lit≤}
@@ -11,12 +11,10 @@ use Rattle.words.specs.Part.{written-rest}
 use Rattle.words.specs.Place.{written, written-append}
 use Rattle.figures.specs.Clock.{dateTimeBytes}
 use Rattle.figures.specs.Mask.{maskBytes}
-use Rattle.figures.specs.Power.{powerBytes, powersBytes, length-powerBytes}
+use Rattle.figures.specs.Power.{powersBytes, length-powerBytes}
 use Rattle.figures.specs.Telemetry.{telemetryBytes}
 use Rattle.figures.specs.declared.power.Phases.{Phases}
 use Rattle.frame.specs.Sealing.{framed, sealed, sealed-written}
-use Rattle.frame.specs.declared.code.Function.{Function}
-use Rattle.frame.specs.declared.code.Function.the-variants as function
 use Rattle.frame.specs.declared.code.Parameter.{Parameter}
 use Rattle.frame.specs.declared.code.Parameter.the-variants as parameter
 use Rattle.request.specs.declared.request.Request.{Request}

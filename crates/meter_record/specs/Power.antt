@@ -1,7 +1,6 @@
 -- The powers that the bench sets. Source: document 01, "Powers": "The bench sets only finite figures from -1,000,000 to 1,000,000."
 use mathlib.Core.Path.{_≡_, refl}
 use mathlib.Core.Bool.{Bool, _&&_}
-use Prim.Native.Nat.{ℕ}
 use lib.Ieee.{Float, binary32, ofBits, ofInt, le}
 use lib.IntN.{pos, negsuc}
 use Rattle.figures.specs.declared.power.Phases.{Phases}

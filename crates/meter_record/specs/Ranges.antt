@@ -1,6 +1,6 @@
 -- The ranges of a record, of which document 01's 28 says "meter record outside its ranges". Source: document 01, "The bench meter's record".
 use mathlib.Core.Bool.{Bool, _&&_}
-use Prim.Native.Nat.{ℕ, _*_}
+use Prim.Native.Nat.{_*_}
 use lib.Dec.{leb, ltb}
 use Rattle.figures.specs.declared.telemetry.Telemetry.{Telemetry}
 use Rattle.second.specs.Protection.{isProtection}

@@ -1,5 +1,5 @@
 -- Three phase powers, twelve bytes. Source: document 01, "Powers"; each power is the four bytes that the wire has for it.
-use mathlib.Core.Path.{_≡_, ap, _∙_}
+use mathlib.Core.Path.{_≡_, _∙_}
 use mathlib.Core.Bool.{true}
 use mathlib.Core.List.{List, _++_, append-assoc}
 use Prim.Native.Nat.{ℕ, _+_}

@@ -17,8 +17,8 @@ use Rattle.figures.specs.PowerLaws.{FitsPhases}
 use Rattle.figures.specs.Telemetry.{FitsTelemetry, telemetryOf, telemetryBytes, telemetryOf-bytes}
 use Rattle.meter_record.specs.declared.record.Record.{Record}
 use Rattle.record_bytes.specs.Level.{levelByte, levelOf, level-back}
-use Rattle.record_bytes.specs.Power.{phasesBytes, phasesOf, length-phasesBytes, FinitePhases, phases-back}
-use Rattle.record_bytes.specs.Time.{timeBytes, timeOf, switchBytes, length-timeBytes, time-back}
+use Rattle.record_bytes.specs.Power.{phasesBytes, phasesOf, FinitePhases, phases-back}
+use Rattle.record_bytes.specs.Time.{timeBytes, timeOf, switchBytes, time-back}
 use Rattle.record_bytes.specs.Record.{recordSize, accessBytes, settingBytes, benchBytes, recordBytes, recordWith, recordIn, recordOf}
 use Rattle.record_bytes.specs.declared.level.LevelRead.the-variants as level
 use Rattle.record_bytes.specs.declared.power.PhasesRead.the-variants as phases

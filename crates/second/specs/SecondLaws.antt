@@ -4,17 +4,17 @@ use mathlib.Core.Path.{_≡_, refl, ap₂}
 use mathlib.Core.Bool.{Bool, true, false, cond, _&&_}
 use Prim.Native.Nat.{ℕ, _+_, _-_, _≤_, _<_}
 use native.Mathlib.Omega.{arith}
-use lib.Dec.{eqb, leb, ltb}
-use borrow.Author.Tests.{le-leb, lt-ltb, leb-true, ltb-true, leb-false, eqb-true}
-use Rattle.decide.specs.Test.{both, chosen}
+use lib.Dec.{leb, ltb}
+use borrow.Author.Tests.{le-leb, lt-ltb, leb-true, leb-false, eqb-true}
+use Rattle.decide.specs.Test.{both}
 use Rattle.calendar.specs.Date.{daysInMonth}
 use Rattle.calendar.specs.Sunday.{lastSunday, lastSundayOf}
-use Rattle.calendar.specs.Time.{isTime, secondNumber, centurySeconds, timeAt, timeOf, timeBack, secondsLater, secondsEarlier}
+use Rattle.calendar.specs.Time.{isTime, secondNumber, centurySeconds, timeAt, timeBack, secondsLater, secondsEarlier}
 use Rattle.calendar.specs.TimeLaws.{second-below, seconds-later, seconds-earlier}
 use Rattle.calendar.specs.declared.time.DateTime.{DateTime}
 use Rattle.calendar.specs.declared.time.TimeAnswer.{TimeAnswer}
 use Rattle.calendar.specs.declared.time.TimeAnswer.the-variants as time
-use Rattle.second.specs.Protection.{shut, opened, isRunning, isProtection, quietSecond}
+use Rattle.second.specs.Protection.{opened, isRunning, isProtection, quietSecond}
 use Rattle.second.specs.Season.{dayOf, isSwitchable, isChoice, isFitting, timeOr, shows, intoWinter, intoSummer, inSeason, reached, nextTime, sameTime, summerDate, winterDate}
 use Rattle.second.specs.declared.protection.Level.{Level}
 use Rattle.second.specs.declared.protection.Level.the-variants.{Shut, Auxiliary, Main}

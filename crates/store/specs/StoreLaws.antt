@@ -13,7 +13,7 @@ use lib.ListN.{length, getD, take, drop, set, replicate, length-replicate, repli
 use lib.Seq.{drop-cons, drop-drop, take-take, set-at, append-snoc}
 use borrow.Author.Tests.{ltb-true, ltb-false, lt-ltb, le-ltb, eqb-true, eqb-false, ne-eqb}
 use Rattle.words.specs.Number.{number, bytesOf}
-use Rattle.words.specs.Place.{byteAt, numberAt, written, Apart, written-append, length-written, take-drop, part-written, byteAt-kept, byteAt-written, numberAt-kept}
+use Rattle.words.specs.Place.{byteAt, numberAt, written, Apart, length-written, take-drop, part-written, byteAt-kept, byteAt-written, numberAt-kept}
 use Rattle.slots.specs.declared.key.Key.{Key}
 use Rattle.store.specs.Store.{places, placeBytes, storeBytes, keyAt, sameKey, firstFrom, placeOf, isKept, rowAt, zeroRow, sliceOf, countAt, rowBytes, placeBytesOf, putPlace, putStore, putNext, cleared}
 use Rattle.store.specs.FindLaws.{same-self, first-has, first-before, first-is, first-none, first-same}
