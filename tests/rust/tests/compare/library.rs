@@ -1,0 +1,120 @@
+//! The archive's functions as benchmarks/metlazuel.h declares them, with slices around them.
+
+mod c {
+    extern "C" {
+        pub fn metlazuel_crc16(bytes: *const u8, n: usize) -> u16;
+        pub fn metlazuel_read_file(file: *const u8, n: usize, out: *mut u8, room: usize, length: *mut usize) -> u8;
+        pub fn metlazuel_day_report(log: *const u8, n: usize, day: u8, row: *mut u32, room: usize) -> u8;
+        pub fn metlazuel_meter_make(
+            kept: *mut u8,
+            n: usize,
+            address: u8,
+            minutes: u8,
+            k: u32,
+            ke: u16,
+            reserve: u16,
+            year: u8,
+            month: u8,
+            day: u8,
+            hour: u8,
+            minute: u8,
+            second: u8,
+            season: u8,
+        ) -> u8;
+        pub fn metlazuel_meter_answer(
+            kept: *mut u8,
+            n: usize,
+            store: *mut u8,
+            size: usize,
+            frame: *const u8,
+            bytes: usize,
+            out: *mut u8,
+            room: usize,
+            length: *mut usize,
+        ) -> u8;
+        pub fn metlazuel_meter_second(kept: *mut u8, n: usize) -> u8;
+        pub fn metlazuel_meter_slice(
+            kept: *mut u8,
+            n: usize,
+            store: *mut u8,
+            size: usize,
+            month: u8,
+            day: u8,
+            number: u8,
+            eplus: u16,
+            eminus: u16,
+            rplus: u16,
+            rminus: u16,
+        ) -> u8;
+        pub fn metlazuel_meter_powers(kept: *mut u8, n: usize, parameter: u8, a: u32, b: u32, c: u32) -> u8;
+    }
+}
+
+use crate::settings::Settings;
+
+// Each call below lends memory as long as it says, and no two of its slices overlap.
+
+pub fn crc16(bytes: &[u8]) -> u16 {
+    unsafe { c::metlazuel_crc16(bytes.as_ptr(), bytes.len()) }
+}
+
+pub fn read_file(file: &[u8], out: &mut [u8], length: &mut usize) -> u8 {
+    unsafe { c::metlazuel_read_file(file.as_ptr(), file.len(), out.as_mut_ptr(), out.len(), length) }
+}
+
+pub fn day_report(log: &[u8], day: u8, row: &mut [u32]) -> u8 {
+    unsafe { c::metlazuel_day_report(log.as_ptr(), log.len(), day, row.as_mut_ptr(), row.len()) }
+}
+
+pub fn make(kept: &mut [u8], settings: &Settings) -> u8 {
+    let Settings { address, minutes, telemetry, clock, season } = *settings;
+    unsafe {
+        c::metlazuel_meter_make(
+            kept.as_mut_ptr(),
+            kept.len(),
+            address,
+            minutes,
+            telemetry.k,
+            telemetry.ke,
+            telemetry.reserve,
+            clock.year,
+            clock.month,
+            clock.day,
+            clock.hour,
+            clock.minute,
+            clock.second,
+            season,
+        )
+    }
+}
+
+pub fn answer(kept: &mut [u8], store: &mut [u8], frame: &[u8], out: &mut [u8], length: &mut usize) -> u8 {
+    unsafe {
+        c::metlazuel_meter_answer(
+            kept.as_mut_ptr(),
+            kept.len(),
+            store.as_mut_ptr(),
+            store.len(),
+            frame.as_ptr(),
+            frame.len(),
+            out.as_mut_ptr(),
+            out.len(),
+            length,
+        )
+    }
+}
+
+pub fn second(kept: &mut [u8]) -> u8 {
+    unsafe { c::metlazuel_meter_second(kept.as_mut_ptr(), kept.len()) }
+}
+
+pub fn slice(kept: &mut [u8], store: &mut [u8], key: [u8; 3], counts: [u16; 4]) -> u8 {
+    let ([month, day, number], [eplus, eminus, rplus, rminus]) = (key, counts);
+    let (n, size) = (kept.len(), store.len());
+    let (kept, store) = (kept.as_mut_ptr(), store.as_mut_ptr());
+    unsafe { c::metlazuel_meter_slice(kept, n, store, size, month, day, number, eplus, eminus, rplus, rminus) }
+}
+
+pub fn powers(kept: &mut [u8], parameter: u8, [a, b, c]: [u32; 3]) -> u8 {
+    unsafe { c::metlazuel_meter_powers(kept.as_mut_ptr(), kept.len(), parameter, a, b, c) }
+}
