@@ -1,7 +1,7 @@
 //! Dialogues: a meter made, and then commands, seconds, slices and powers as they come.
 
 use crate::damage::{change_byte, damaged, damaged_and_sealed};
-use crate::frames::{addressed, command, key, Keys};
+use crate::frames::{addressed, command, key, read, Keys};
 use crate::layout::RECORD_BYTES;
 use crate::random::Random;
 use crate::run::Group;
@@ -47,23 +47,23 @@ fn dialogues() {
     group.end(&[0, 1, 2, 10, 11, 12, 13, 14, 15, 27, 28]);
 }
 
-/// More slices than there are places, so that the oldest go, with some commands between them.
+/// More slices than there are places, so that the oldest go, and reads between them.
 #[test]
 fn rounds() {
     let mut group = Group::new("rounds of the store");
     for case in 0..ROUNDS {
         let random = &mut Random::of(group.seed, case);
         let mut twin = new_twin(&mut group, case, random);
-        for _ in 0..PLACES + PLACES / 4 {
+        for _ in 0..2 * PLACES {
             let slice = slice_call(random, &twin, Keys::All);
             call(&mut group, case, &mut twin, &slice);
-            if random.one_in(20) {
-                let frame = frame_call(random, &twin, Keys::All);
-                call(&mut group, case, &mut twin, &frame);
+            if random.one_in(4) {
+                let reading = read_call(random, &twin);
+                call(&mut group, case, &mut twin, &reading);
             }
         }
     }
-    group.end(&[0, 1, 2, 10, 11, 12, 13, 14, 15, 27]);
+    group.end(&[0, 1, 2, 12, 15, 27]);
 }
 
 pub fn new_twin(group: &mut Group, case: u64, random: &mut Random) -> Twin {
@@ -79,8 +79,9 @@ fn strange_store(random: &mut Random) -> Vec<u8> {
     let filled = random.below(PLACES + 1);
     for place in store.chunks_exact_mut(PLACE_BYTES).take(filled) {
         place.fill_with(|| random.byte());
-        place[0] = random.within(0, 13);
-        place[1] = random.within(28, 32);
+        place[0] = random.within(0, 3);
+        place[1] = random.within(29, 32);
+        place[2] = random.within(30, 99);
     }
     store
 }
@@ -127,6 +128,11 @@ fn frame_call(random: &mut Random, twin: &Twin, keys: Keys) -> Call {
         _ => right,
     };
     Call::Frame(frame, output(random))
+}
+
+fn read_call(random: &mut Random, twin: &Twin) -> Call {
+    let words = read(random, record(twin), Keys::All);
+    Call::Frame(addressed(random, record(twin), &words), output(random))
 }
 
 fn random_bytes(random: &mut Random, most: usize) -> Vec<u8> {

@@ -60,7 +60,7 @@ fn lock(random: &mut Random) -> Vec<u8> {
 }
 
 /// Function 3: parameter, offset, tariff, detail.
-fn read(random: &mut Random, record: &Record, keys: Keys) -> Vec<u8> {
+pub fn read(random: &mut Random, record: &Record, keys: Keys) -> Vec<u8> {
     let parameter = random.pick(&PARAMETERS);
     let mut fields = match parameter {
         8 | 9 => [0, 0, random.within(0, 4)],

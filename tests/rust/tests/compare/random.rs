@@ -34,7 +34,7 @@ impl Random {
 
     /// A number from 0 to `most - 1`.
     pub fn below(&mut self, most: usize) -> usize {
-        ((self.next() >> 32) * most as u64 >> 32) as usize
+        (((self.next() >> 32) * most as u64) >> 32) as usize
     }
 
     /// A byte from `first` to `last`.
