@@ -1,0 +1,216 @@
+//! Logs: their files read and their days reported, sound and damaged.
+
+use crate::damage::{change_byte, damaged, damaged_and_sealed};
+use crate::library;
+use crate::random::Random;
+use crate::run::{same, same_bytes, Answer, Group};
+use crate::twin::number;
+use metlazuel_check::model::calendar::{date_of, month_length};
+use metlazuel_check::model::crc::sealed;
+use metlazuel_check::model::log::{read_file, report, Header};
+use metlazuel_check::model::refusal::Refusal;
+use metlazuel_check::model::{count_bytes, slots};
+
+const FILES: u64 = 100_000;
+const LOGS: u64 = 60_000;
+const REPORTS_OF_A_LOG: usize = 6;
+const HEADER_BYTES: usize = 14;
+const CELL_BYTES: usize = 9;
+/// The days of 2000 to 2099.
+const DAYS: u32 = 36_525;
+
+#[test]
+fn files() {
+    let mut group = Group::new("files");
+    for case in 0..FILES {
+        let random = &mut Random::of(group.seed, case);
+        let file = any_file(random);
+        let room = room(random, file.len());
+        let answer = read_both(&file, room);
+        group.call(case, answer, || format!("{} bytes into {room}, from {:?}", file.len(), start(&file)));
+    }
+    group.end(&[0, 1, 30, 31, 32, 33, 34, 35]);
+}
+
+#[test]
+fn reports() {
+    let mut group = Group::new("day reports");
+    for case in 0..LOGS {
+        let random = &mut Random::of(group.seed, case);
+        let log = any_log(random);
+        for _ in 0..REPORTS_OF_A_LOG {
+            let day = any_day(random, &log);
+            let row = if random.one_in(8) { random.below(10) } else { 7 };
+            let answer = report_both(&log, day, row);
+            group.call(case, answer, || format!("day {day} into {row} of {} bytes, from {:?}", log.len(), start(&log)));
+        }
+    }
+    group.end(&[0, 1, 22, 28]);
+}
+
+fn start(bytes: &[u8]) -> &[u8] {
+    &bytes[..bytes.len().min(64)]
+}
+
+/// The number, the length and the whole output; 1 comes last here.
+fn read_both(file: &[u8], room: usize) -> Answer {
+    let outcome = read_file(file).and_then(|image| fitting(image, room));
+    let (mut out, mut length) = (vec![0xA5; room], 0xA5A5);
+    if let Ok(image) = &outcome {
+        out[..image.len()].copy_from_slice(image);
+        length = image.len();
+    }
+    let (mut library_out, mut library_length) = (vec![0xA5; room], 0xA5A5);
+    let library_number = library::read_file(file, &mut library_out, &mut library_length);
+    same("number", number(&outcome), library_number)?;
+    same("length", length, library_length)?;
+    same_bytes("output", &out, &library_out)?;
+    Ok(library_number)
+}
+
+fn fitting(image: Vec<u8>, room: usize) -> Result<Vec<u8>, Refusal> {
+    if room < image.len() {
+        Err(Refusal::OutputTooShort)
+    } else {
+        Ok(image)
+    }
+}
+
+/// The number and the whole row; 1 comes first here.
+fn report_both(log: &[u8], day: u8, room: usize) -> Answer {
+    let outcome = if room < 7 { Err(Refusal::OutputTooShort) } else { report(log, day) };
+    let mut row = vec![0xA5A5_A5A5; room];
+    if let Ok(numbers) = &outcome {
+        row[..7].copy_from_slice(numbers);
+    }
+    let mut library_row = vec![0xA5A5_A5A5; room];
+    let library_number = library::day_report(log, day, &mut library_row);
+    same("number", number(&outcome), library_number)?;
+    same("row", row, library_row)?;
+    Ok(library_number)
+}
+
+/// As long as the image, or shorter, or longer.
+fn room(random: &mut Random, file: usize) -> usize {
+    let image = file.saturating_sub(2);
+    match random.below(8) {
+        0 => random.below(image + 1),
+        1 => image.saturating_sub(1),
+        2 => image + random.below(20),
+        _ => image,
+    }
+}
+
+/// A day of the log most often, else one just past it or any.
+fn any_day(random: &mut Random, log: &[u8]) -> u8 {
+    let days = log.get(8).copied().unwrap_or(1).max(1);
+    match random.below(8) {
+        0 => days,
+        1 => random.byte(),
+        _ => random.within(0, days - 1),
+    }
+}
+
+fn any_file(random: &mut Random) -> Vec<u8> {
+    let file = sealed(any_image(random));
+    match random.below(8) {
+        0 => damaged(random, file),
+        1 => damaged_and_sealed(random, &file),
+        2 => faulty_cell(random, file),
+        3 => file[..random.below(20).min(file.len())].to_vec(),
+        _ => file,
+    }
+}
+
+fn any_log(random: &mut Random) -> Vec<u8> {
+    let mut log = any_image(random);
+    match random.below(8) {
+        0 => damaged(random, log),
+        1 => {
+            change_byte(random, &mut log[..HEADER_BYTES]);
+            log
+        }
+        2 => with_faulty_cell(random, log),
+        _ => log,
+    }
+}
+
+/// A file whose CRC is right and one of whose cells may not be.
+fn faulty_cell(random: &mut Random, mut file: Vec<u8>) -> Vec<u8> {
+    file.truncate(file.len() - 2);
+    sealed(with_faulty_cell(random, file))
+}
+
+fn with_faulty_cell(random: &mut Random, mut image: Vec<u8>) -> Vec<u8> {
+    let cells = (image.len() - HEADER_BYTES) / CELL_BYTES;
+    if cells > 0 {
+        let at = HEADER_BYTES + CELL_BYTES * random.below(cells);
+        let cell = [&[random.within(0, 3)][..], &any_counts(random)].concat();
+        image[at..at + CELL_BYTES].copy_from_slice(&cell);
+    }
+    image
+}
+
+fn any_counts(random: &mut Random) -> [u8; 8] {
+    let mut counts = [0; 8];
+    if random.one_in(2) {
+        counts[random.below(8)] = 1 << random.below(8);
+    }
+    counts
+}
+
+/// An image, most often with a header in its ranges.
+fn any_image(random: &mut Random) -> Vec<u8> {
+    let mut header = right_header(random);
+    if random.one_in(6) {
+        spoil(random, &mut header);
+    }
+    let mut image = b"GEL\x01\x00".to_vec();
+    image.extend([header.year, header.month, header.day, header.days, header.minutes]);
+    image.extend(header.ke.to_le_bytes());
+    image.extend([0, 0]);
+    let empty = random.one_in(4);
+    for _ in 0..usize::from(header.days) * usize::from(slots(header.minutes)) {
+        image.extend(any_cell(random, empty));
+    }
+    image
+}
+
+fn right_header(random: &mut Random) -> Header {
+    let days = match random.below(200) {
+        0 => 62,
+        1 => random.within(1, 62),
+        _ => random.within(1, 3),
+    };
+    let last_start = DAYS - u32::from(days);
+    let late = random.one_in(8);
+    let back = random.below(if late { 3 } else { last_start as usize }) as u32;
+    let (year, month, day) = date_of(last_start - back);
+    Header { year, month, day, days, minutes: random.pick(&[15, 30]), ke: random.word().max(1) }
+}
+
+/// A field near its bounds or past them.
+fn spoil(random: &mut Random, header: &mut Header) {
+    match random.below(6) {
+        0 => header.year = random.pick(&[0, 99, 100, 255]),
+        1 => header.month = random.pick(&[0, 1, 2, 12, 13]),
+        2 => header.day = random.within(0, 32),
+        3 => header.days = random.pick(&[0, 62, 63, 64, 255]),
+        4 => header.minutes = random.pick(&[0, 14, 16, 29, 31, 60]),
+        _ => header.ke = 0,
+    }
+    if random.one_in(8) {
+        header.day = month_length(header.year, header.month) + random.within(0, 1);
+    }
+}
+
+fn any_cell(random: &mut Random, empty: bool) -> [u8; CELL_BYTES] {
+    let mut cell = [0; CELL_BYTES];
+    cell[0] = if empty { random.within(0, 1) } else { random.within(0, 2) };
+    if cell[0] == 2 {
+        let mut counts = std::array::from_fn(|_| random.word() >> random.below(16));
+        counts[random.below(4)] |= 1;
+        cell[1..].copy_from_slice(&count_bytes(counts));
+    }
+    cell
+}

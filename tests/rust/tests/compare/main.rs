@@ -1,0 +1,17 @@
+//! The proved library's archive, held against the model call by call over cases from a seeded generator.
+//! Run with `cargo test --release --features library`; see README.md.
+
+mod century;
+mod crc;
+mod damage;
+mod dialogue;
+mod frames;
+mod layout;
+mod library;
+mod logs;
+mod random;
+mod run;
+mod settings;
+mod sweep;
+mod times;
+mod twin;
