@@ -92,7 +92,7 @@ zero-alone parameter.Unknown r = refl
 renewal-of : (r x : Record) → x .protection ≡ r .protection → renewed x ≡ withProtection x (opened (r .protection .level))
 renewal-of r x e = ap (λ (p : Protection). withProtection x (opened (p .level))) e
 
--- a change that is done, of whatever function code: "only with the access it needs", "alone", "start again"
+-- a change that is done: "only with the access it needs", "the named parameter alone", "240 seconds start again"
 pub change-permitted : (r : Record) (f : List ℕ) → functionIn f ≡ function.Change → isDone (verdictOf r f) ≡ true
     → Permitted (changeAllowed (parameterIn f) (r .protection .level)) (parameterIn f) r (afterOf r f)
 unfolding verdictOf verdictBy afterOf afterBy

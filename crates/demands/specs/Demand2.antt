@@ -57,7 +57,7 @@ answered r s q out = answerOf r s (requestFrame q) out
 abbrev pub replyIn : Outcome → List ℕ
 replyIn o = take (o .answer .length) (o .out)
 
--- a request's fields are bytes
+-- the fields of a request that its reply repeats are bytes, as those of every Rattle value are
 pub record FitsRequest (q : Request) : Type 0 where
   pub address : q .address < 256
   pub parameter : q .parameter < 256

@@ -22,6 +22,7 @@ use Rattle.request.specs.declared.subject.Subject.{Subject}
 use Rattle.request.specs.declared.subject.Subject.the-variants as subject
 use Rattle.slots.specs.Key.{isLegal}
 use Rattle.store.specs.Store.{sliceOf, countAt, rowBytes}
+use Rattle.store.specs.StoreLaws.{RowFits}
 use Rattle.meter_record.specs.Power.{arePowers}
 use Rattle.meter_record.specs.PowerLaws.{BoundsPhases, powers-bounds, bounds-finite, powers-read}
 use Rattle.meter_record.specs.RangeLaws.{Within}
@@ -161,11 +162,7 @@ same-size p q slots h = ap dataBytes (named p q slots h) ∙ name-size p (q .det
 
 -- ---- the figures again
 
--- each count of a row fits two bytes
-pub record FitsRow (row : List ℕ) : Type 0 where
-  pub count : (i : ℕ) → countAt row i < 65536
-
-pub row-again : (row rest : List ℕ) → FitsRow row → countsOf (rowBytes row ++ rest) ≡ fourCounts row
+pub row-again : (row rest : List ℕ) → RowFits row → countsOf (rowBytes row ++ rest) ≡ fourCounts row
 unfolding countsOf fourCounts rowBytes
 row-again row rest h =
     let A = bytesOf 2 (countAt row 0) in
@@ -174,19 +171,19 @@ row-again row rest h =
     let D = bytesOf 2 (countAt row 3) in
     let apart : A ++ (B ++ (C ++ D)) ++ rest ≡ A ++ (B ++ (C ++ (D ++ rest))) = simp append-assoc in
     let a : numberAt (A ++ (B ++ (C ++ (D ++ rest)))) 0 2 ≡ countAt row 0 =
-    numberAt-front 2 (countAt row 0) (B ++ (C ++ (D ++ rest))) ∙ mod-eq-of-lt (h .count 0) in
+    numberAt-front 2 (countAt row 0) (B ++ (C ++ (D ++ rest))) ∙ mod-eq-of-lt (h .below 0) in
     let b : numberAt (A ++ (B ++ (C ++ (D ++ rest)))) 2 2 ≡ countAt row 1 =
     numberAt-behind-bytes 2 (countAt row 0) (B ++ (C ++ (D ++ rest))) 0 2
-    ∙ numberAt-front 2 (countAt row 1) (C ++ (D ++ rest)) ∙ mod-eq-of-lt (h .count 1) in
+    ∙ numberAt-front 2 (countAt row 1) (C ++ (D ++ rest)) ∙ mod-eq-of-lt (h .below 1) in
     let c : numberAt (A ++ (B ++ (C ++ (D ++ rest)))) 4 2 ≡ countAt row 2 =
     numberAt-behind-bytes 2 (countAt row 0) (B ++ (C ++ (D ++ rest))) 2 2
     ∙ numberAt-behind-bytes 2 (countAt row 1) (C ++ (D ++ rest)) 0 2
-    ∙ numberAt-front 2 (countAt row 2) (D ++ rest) ∙ mod-eq-of-lt (h .count 2) in
+    ∙ numberAt-front 2 (countAt row 2) (D ++ rest) ∙ mod-eq-of-lt (h .below 2) in
     let d : numberAt (A ++ (B ++ (C ++ (D ++ rest)))) 6 2 ≡ countAt row 3 =
     numberAt-behind-bytes 2 (countAt row 0) (B ++ (C ++ (D ++ rest))) 4 2
     ∙ numberAt-behind-bytes 2 (countAt row 1) (C ++ (D ++ rest)) 2 2
     ∙ numberAt-behind-bytes 2 (countAt row 2) (D ++ rest) 0 2
-    ∙ numberAt-front 2 (countAt row 3) rest ∙ mod-eq-of-lt (h .count 3) in
+    ∙ numberAt-front 2 (countAt row 3) rest ∙ mod-eq-of-lt (h .below 3) in
     rw (apart, a, b, c, d)
 
 power-again : (p : Phases) (detail : ℕ) (rest : List ℕ) → FitsPhases p → arePowers p ≡ true
@@ -206,7 +203,7 @@ power-again p detail rest f h = go (eqb detail 0) (eqb detail 1) (eqb detail 2)
 
 -- what the reader finds in the meter's data, whatever stands behind them
 pub found-again : (p : Parameter) (r : Record) (s : List ℕ) (q : Request) (slots : ℕ) (rest : List ℕ) → Within r → FitsRecord r
-    → FitsRow (sliceOf s (keyOf q)) → askable (subjectFor p q slots) ≡ true
+    → RowFits (sliceOf s (keyOf q)) → askable (subjectFor p q slots) ≡ true
     → figuresIn (subjectFor p q slots) (figuresOf p r s q ++ rest) ≡ held p r s q
 unfolding figuresIn nameOf
 found-again p r s q slots rest w f k h = ap (λ (x : Subject). figuresIn x (figuresOf p r s q ++ rest)) (named p q slots h) ∙ go p

@@ -1,6 +1,6 @@
 -- Demand 2 as one call: what `inquire` answers with 0 are the record's own figures.
 use mathlib.Core.Path.{_≡_, refl, sym, ap, _∙_}
-use mathlib.Core.Bool.{Bool, true, false}
+use mathlib.Core.Bool.{Bool, true, false, cond}
 use mathlib.Core.List.{List}
 use Prim.Native.Nat.{ℕ, _≤_}
 use native.Mathlib.Omega.{arith}
@@ -18,10 +18,12 @@ use Rattle.command.specs.Verdict.{numberOf, isDone}
 use Rattle.command.specs.declared.verdict.Verdict.the-variants.{Done}
 use Rattle.meter.specs.Reply.{Outcome, isSound, heard, replied, answerOf}
 use Rattle.reader.specs.Reply.{decodedOf}
+use Rattle.reader.specs.declared.reply.Decoded.{Decoded}
 use Rattle.reader.specs.declared.reply.Decoded.the-variants as decoded
 use Rattle.inquiry.specs.Inquiry as inquiry
 use Rattle.inquiry.specs.Inquiry.{isSilent, toldOf, asked, inquired}
-use Rattle.inquiry.specs.declared.Inquired.the-variants.{Told}
+use Rattle.inquiry.specs.declared.Inquired.the-variants.{TooShort, Unsound, Silent, Told}
+use Rattle.demands.specs.Demand1.{inTable, decode-told}
 use Rattle.demands.specs.Demand2.{answered, replyIn, FitsRequest, done-only, demand-2-read, demand-2-refused}
 use Rattle.demands.specs.Held.{held, FitsRecord}
 
@@ -98,3 +100,23 @@ demand-2-inquired r s q out f b k h = go (heard r (requestFrame q)) refl (isDone
         ap (λ (o : inquiry.Outcome). o .answer) (t .whole)
         ∙ told-done (answered r s q out) q v
         ∙ ap Told (demand-2-read r s q out f b k (ap numberOf v))
+
+-- ---- demand 1, of the same call
+
+-- "Every call ends with an answer from document 01's table"
+pub inquire-told : (r : Record) (s : List ℕ) (q : Request) (out : List ℕ) → inTable (inquiry.numberOf ((inquired r s q out) .answer)) ≡ true
+unfolding inquired asked toldOf inTable
+inquire-told r s q out =
+    go (ltb (length out) 64) (isSound r s) (askable (subjectOf q mostSlots)) (isSilent ((answered r s q out) .answer .verdict))
+  where
+    d : Decoded
+    d = decodedOf q (replyIn (answered r s q out))
+
+    go : (a b c e : Bool) → inTable (inquiry.numberOf ((cond a (inquiry.outcome TooShort s out) (cond b (cond c
+        (cond e (inquiry.outcome Silent ((answered r s q out) .store) ((answered r s q out) .out)) (inquiry.outcome (Told d) ((answered r s q out) .store) ((answered r s q out) .out)))
+        (inquiry.outcome (Told decoded.OutOfRange) s out)) (inquiry.outcome Unsound s out))) .answer)) ≡ true
+    go true b c e = refl
+    go false false c e = refl
+    go false true false e = refl
+    go false true true true = refl
+    go false true true false = decode-told q (replyIn (answered r s q out))

@@ -1,37 +1,26 @@
 -- The six rows of parameter 40: what the reader takes from the meter's data are the store's six slices.
-use mathlib.Core.Path.{_≡_, refl, sym, ap, _∙_}
-use mathlib.Core.Bool.{Bool, true, false}
+use mathlib.Core.Path.{_≡_, sym, ap, _∙_}
 use mathlib.Core.List.{List, [], _∷_, _++_, append-assoc}
 use Prim.Native.Nat.{ℕ, _+_}
 use native.Mathlib.Nat.{add-assoc}
 use Rattle.words.specs.Number.{Bytes}
 use Rattle.words.specs.Place.{numberAt, numberAt-behind}
 use Rattle.slots.specs.declared.key.Key.{Key}
-use Rattle.store.specs.Store.{rowAt, isKept, sliceOf, later, sixOf, countAt, rowBytes}
+use Rattle.store.specs.Store.{sliceOf, later, sixOf, rowBytes}
 use Rattle.meter.specs.Reading.{sixBytes}
 use Rattle.meter.specs.ReplyLaws.{length-row}
 use Rattle.reader.specs.Reply.{countsOf}
 use Rattle.reader.specs.declared.reply.Slice.{Slice as FourCounts}
 use Rattle.reader.specs.Rows.{rowOf, sixOf as sixIn}
 use Rattle.demands.specs.Held.{fourCounts, row-again}
-use Rattle.demands.specs.Wire.{slice-fits}
-
--- a slice has four counts
-four : (s : List ℕ) (k : Key) → countAt (sliceOf s k) 0 ∷ countAt (sliceOf s k) 1 ∷ countAt (sliceOf s k) 2 ∷ countAt (sliceOf s k) 3 ∷ [] ≡ sliceOf s k
-unfolding sliceOf rowAt
-four s k = go (isKept s k) refl
-  where
-    go : (b : Bool) → isKept s k ≡ b
-        → countAt (sliceOf s k) 0 ∷ countAt (sliceOf s k) 1 ∷ countAt (sliceOf s k) 2 ∷ countAt (sliceOf s k) 3 ∷ [] ≡ sliceOf s k
-    go true e = simp e
-    go false e = simp e
+use Rattle.demands.specs.Wire.{four-counts, slice-fits}
 
 -- the row at the front, and those behind it
 front : (s : List ℕ) (k : Key) (rest : List ℕ) → Bytes s → rowOf (rowBytes (sliceOf s k) ++ rest) 0 ≡ sliceOf s k
 unfolding rowOf countsOf fourCounts
 front s k rest b =
     let e = row-again (sliceOf s k) rest (slice-fits s k b) in
-    ap (λ (c : FourCounts). c .«e_plus» .0 ∷ c .«e_minus» .0 ∷ c .«r_plus» .0 ∷ c .«r_minus» .0 ∷ []) e ∙ four s k
+    ap (λ (c : FourCounts). c .«e_plus» .0 ∷ c .«e_minus» .0 ∷ c .«r_plus» .0 ∷ c .«r_minus» .0 ∷ []) e ∙ four-counts s k
 
 behind : (row rest : List ℕ) (i : ℕ) → rowOf (rowBytes row ++ rest) (8 + i) ≡ rowOf rest i
 unfolding rowOf

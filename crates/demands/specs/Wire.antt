@@ -32,12 +32,13 @@ use Rattle.second.specs.declared.season.SwitchDate.{SwitchDate}
 use Rattle.second.specs.declared.season.SwitchDate.the-variants.{Automatic, ByHand}
 use Rattle.slots.specs.declared.key.Key.{Key}
 use Rattle.store.specs.Store.{rowAt, isKept, placeOf, sliceOf, sixOf, countAt, rowBytes}
+use Rattle.store.specs.StoreLaws.{RowFits}
 use Rattle.meter_record.specs.RangeLaws.{Within}
 use Rattle.meter_record.specs.declared.record.Record.{Record}
 use Rattle.meter.specs.Reading.{phase, powerData, sixBytes, figuresOf}
 use Rattle.reader.specs.Form.{lengthFor, functionFor, headOf, formOf}
 use Rattle.reader.specs.declared.form.Form.the-variants.{WellFormed}
-use Rattle.demands.specs.Held.{FitsRecord, FitsRow}
+use Rattle.demands.specs.Held.{FitsRecord}
 
 -- ---- lists of bytes
 
@@ -73,10 +74,21 @@ count-fits s i b =
     let l : numberAt s i 1 ≡ byteAt s i = numberAt-one s i in
     omega (arith, e, h, l, b (i + 1), b i)
 
--- the counts of a slice of a store of bytes
-pub slice-fits : (s : List ℕ) (k : Key) → Bytes s → FitsRow (sliceOf s k)
+-- a slice has four counts
+pub four-counts : (s : List ℕ) (k : Key)
+    → countAt (sliceOf s k) 0 ∷ countAt (sliceOf s k) 1 ∷ countAt (sliceOf s k) 2 ∷ countAt (sliceOf s k) 3 ∷ [] ≡ sliceOf s k
 unfolding sliceOf rowAt
-slice-fits s k b = record { count = go (isKept s k) refl }
+four-counts s k = go (isKept s k) refl
+  where
+    go : (b : Bool) → isKept s k ≡ b
+        → countAt (sliceOf s k) 0 ∷ countAt (sliceOf s k) 1 ∷ countAt (sliceOf s k) 2 ∷ countAt (sliceOf s k) 3 ∷ [] ≡ sliceOf s k
+    go true e = simp e
+    go false e = simp e
+
+-- the counts of a slice of a store of bytes fit theirs
+pub slice-fits : (s : List ℕ) (k : Key) → Bytes s → RowFits (sliceOf s k)
+unfolding sliceOf rowAt
+slice-fits s k b = record { four = ap length (sym (four-counts s k)); below = go (isKept s k) refl }
   where
     small : (i : ℕ) → countAt (rowAt s (placeOf s k)) i < 65536
     small zero = count-fits s _ b
