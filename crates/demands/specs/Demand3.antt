@@ -23,7 +23,7 @@ use Rattle.logger.specs.Book.{Call, ask, lapse, reply, startBook, BookRun, book
 use Rattle.logger.specs.Run.{State, Run, step, run}
 use Rattle.logger.specs.StepLaws.{stateOf}
 use Rattle.logger.specs.declared.held.OpenAsk.the-variants.{Closed}
-use Rattle.demands.specs.History.{AllBytes, Elsewhere, together, start-sane, start-state, taken-kept}
+use Rattle.demands.specs.History.{AllBytes, Elsewhere, together, start-sane, start-state, byte-kept, length-kept}
 
 -- ---- the claim
 
@@ -65,12 +65,19 @@ demand-3 s start calls k =
       log = ap (λ (t : State). run t calls .state .log) begin ∙ ap (λ (t : State). t .log) (all .state);
     }
 
--- "None of these calls alters a byte of the log outside the cell whose ask was open before the call."
+-- "None of these calls alters a byte of the log outside the cell whose ask was open before the call.": every place elsewhere holds what
+-- it held, and the log has as many bytes
 pub alone : (s : State) (c : Call) (j : ℕ) → Elsewhere s j → byteAt (step s c .state .log) j ≡ byteAt (s .log) j
 unfolding step
 alone s (ask address day slot out) j k = refl
 alone s lapse j k = refl
-alone s (reply y) j k = taken-kept (s .log) j (s .held) y k
+alone s (reply y) j k = byte-kept s y j k
+
+pub as-long : (s : State) (c : Call) → length (step s c .state .log) ≡ length (s .log)
+unfolding step
+as-long s (ask address day slot out) = refl
+as-long s lapse = refl
+as-long s (reply y) = length-kept s y
 
 -- ---- "a fresh log, or one read from a file"
 

@@ -18,7 +18,7 @@ use Rattle.log.specs.Cell.{isCell, noCounts, cellBytes}
 use Rattle.log.specs.CellLaws.{IsCell, length-cellBytes, gap-is-cell}
 use Rattle.log.specs.Header.{isHeader, cellsOf, soundOf}
 use Rattle.log.specs.Image.{cellStart, cellAt, putCell, imageOf}
-use Rattle.log.specs.ImageLaws.{AllCells}
+use Rattle.log.specs.ImageLaws.{AllCells, length-putCell}
 use Rattle.log.specs.Interval.{intervalOf}
 use Rattle.log.specs.declared.cell.Cell.{Cell}
 use Rattle.log.specs.declared.cell.Cell.the-variants.{Gap, Empty, Measured}
@@ -36,9 +36,9 @@ use Rattle.logger.specs.Run.{State, run}
 use Rattle.logger.specs.StepLaws.{stateOf, Sane, CallBytes, step-agrees, step-sane}
 use Rattle.logger.specs.declared.held.OpenAsk.{OpenAsk}
 use Rattle.logger.specs.declared.held.OpenAsk.the-variants.{Closed, Open}
-use Rattle.logger.specs.declared.take.TakeAnswer.the-variants as take
 use Rattle.logger.specs.declared.take.Update.{Update}
 use Rattle.logger.specs.declared.take.Update.the-variants.{Put, Keep, Conflict}
+use Rattle.demands.specs.Demand1.{either}
 
 -- ---- a list of calls
 
@@ -112,63 +112,66 @@ start-state h cells e k = ap (λ (l : List Cell). record { log = imageOf h l; he
 
 -- ---- what a call leaves alone
 
--- place j lies outside the cell of every interval whose ask could be open
+-- cell i is that of the interval whose ask is open
+pub record Asked (s : State) (i : ℕ) : Type 0 where
+  pub header : Header
+  pub address : ℕ
+  pub day : ℕ
+  pub slot : ℕ
+  pub sound : soundOf (s .log) ≡ Sound header
+  pub open-ask : s .held ≡ Open address day slot
+  pub interval : intervalOf header day slot ≡ At i
+
+-- place j lies outside the cell whose ask is open, if one is
 abbrev pub Elsewhere : State → ℕ → Type 0
-Elsewhere s j = (h : Header) (a day slot i : ℕ) → soundOf (s .log) ≡ Sound h → s .held ≡ Open a day slot → intervalOf h day slot ≡ At i
-    → Apart j 1 (cellStart i) 9
+Elsewhere s j = (i : ℕ) → Asked s i → Apart j 1 (cellStart i) 9
 
-module _ (s : List ℕ) (j : ℕ) where
-  put-kept : (i : ℕ) (c : Cell) → Apart j 1 (cellStart i) 9 → byteAt (putCell s i c) j ≡ byteAt s j
-  unfolding putCell
-  put-kept i c k = byteAt-kept s (cellStart i) (cellBytes c) j (rw length-cellBytes k)
-
-  update-kept : (u : Update) (i : ℕ) → Apart j 1 (cellStart i) 9 → byteAt (Take.updated u s i .log) j ≡ byteAt s j
+-- a taken reply leaves the log, or puts the cell whose ask was open: what holds of both logs holds of the log after it
+module _ (P : List ℕ → Type 0) (s : List ℕ) (stays : P s) where
+  updated-has : (u : Update) (i : ℕ) → ((c : Cell) → P (putCell s i c)) → P (Take.updated u s i .log)
   unfolding Take.updated
-  update-kept (Put c) i k = put-kept i c k
-  update-kept Keep i k = refl
-  update-kept Conflict i k = refl
+  updated-has (Put c) i k = k c
+  updated-has Keep i k = stays
+  updated-has Conflict i k = stays
 
-  cell-kept : (c : CellAnswer) (i : ℕ) (held : OpenAsk) (p q r t : ℕ) → Apart j 1 (cellStart i) 9
-      → byteAt (Take.cellTaken c s i held p q r t .log) j ≡ byteAt s j
+  cell-has : (c : CellAnswer) (i : ℕ) (held : OpenAsk) (p q r t : ℕ) → ((c : Cell) → P (putCell s i c)) → P (Take.cellTaken c s i held p q r t .log)
   unfolding Take.cellTaken
-  cell-kept Bad i held p q r t k = refl
-  cell-kept (Good c) i held p q r t k = update-kept (Take.updateOf c p q r t) i k
+  cell-has Bad i held p q r t k = stays
+  cell-has (Good c) i held p q r t k = updated-has (Take.updateOf c p q r t) i k
 
-  form-kept : (f : Form) (i : ℕ) (held : OpenAsk) (y : List ℕ) → Apart j 1 (cellStart i) 9
-      → byteAt (Take.formTaken f s i held y .log) j ≡ byteAt s j
+  form-has : (f : Form) (i : ℕ) (held : OpenAsk) (y : List ℕ) → ((c : Cell) → P (putCell s i c)) → P (Take.formTaken f s i held y .log)
   unfolding Take.formTaken Take.takenSound Take.takenCounts
-  form-kept (Faulty fault) i held y k = refl
-  form-kept WellFormed i held y k = go (eqb (byteAt y 3) 0)
-    where
-      go : (b : Bool)
-          → byteAt
-          (cond b
-          (Take.cellTaken (cellAt s i) s i held (numberAt y 4 2) (numberAt y 6 2) (numberAt y 8 2) (numberAt y 10 2))
-          (Take.answered (take.MeterRefused (byteAt y 3)) Closed s) .log)
-          j
-          ≡ byteAt s j
-      go true = cell-kept (cellAt s i) i held (numberAt y 4 2) (numberAt y 6 2) (numberAt y 8 2) (numberAt y 10 2) k
-      go false = refl
+  form-has (Faulty fault) i held y k = stays
+  form-has WellFormed i held y k =
+      either (λ (o : Take.Outcome). P (o .log)) (eqb (byteAt y 3) 0)
+      (cell-has (cellAt s i) i held (numberAt y 4 2) (numberAt y 6 2) (numberAt y 8 2) (numberAt y 10 2) k) stays
 
-  slot-kept : (h : Header) (a day slot : ℕ) (y : List ℕ) (i : Interval) → intervalOf h day slot ≡ i
-      → ((n : ℕ) → intervalOf h day slot ≡ At n → Apart j 1 (cellStart n) 9)
-      → byteAt (Take.slotTaken i s a (Open a day slot) y .log) j ≡ byteAt s j
+  slot-has : (h : Header) (a day slot : ℕ) (y : List ℕ) (i : Interval) → soundOf s ≡ Sound h → intervalOf h day slot ≡ i
+      → ((i : ℕ) (c : Cell) → Asked (record { log = s; held = Open a day slot }) i → P (putCell s i c))
+      → P (Take.slotTaken i s a (Open a day slot) y .log)
   unfolding Take.slotTaken Take.takenAt
-  slot-kept h a day slot y Outside e k = refl
-  slot-kept h a day slot y (At n) e k = form-kept (formOf a slice 14 y) n (Open a day slot) y (k n e)
+  slot-has h a day slot y Outside l e k = stays
+  slot-has h a day slot y (At n) l e k =
+      form-has (formOf a slice 14 y) n (Open a day slot) y
+      (λ c. k n c (record { header = h; address = a; day = day; slot = slot; sound = l; open-ask = refl; interval = e }))
 
-  open-kept : (h : Header) (held : OpenAsk) (y : List ℕ)
-      → ((a day slot i : ℕ) → held ≡ Open a day slot → intervalOf h day slot ≡ At i → Apart j 1 (cellStart i) 9)
-      → byteAt (Take.takenOpen h s held y .log) j ≡ byteAt s j
-  unfolding Take.takenOpen
-  open-kept h Closed y k = refl
-  open-kept h (Open a day slot) y k = slot-kept h a day slot y (intervalOf h day slot) refl (λ n e. k a day slot n refl e)
-
-  pub taken-kept : (held : OpenAsk) (y : List ℕ) → Elsewhere (record { log = s; held = held }) j
-      → byteAt (Take.taken s held y .log) j ≡ byteAt s j
-  unfolding Take.taken Take.logTaken
-  taken-kept held y k = go (soundOf s) refl
+  pub taken-has : (held : OpenAsk) (y : List ℕ) → ((i : ℕ) (c : Cell) → Asked (record { log = s; held = held }) i → P (putCell s i c))
+      → P (Take.taken s held y .log)
+  unfolding Take.taken Take.logTaken Take.takenOpen
+  taken-has held y = go (soundOf s) refl held
     where
-      go : (l : Lent) → soundOf s ≡ l → byteAt (Take.logTaken l s held y .log) j ≡ byteAt s j
-      go Unsound e = refl
-      go (Sound h) e = open-kept h held y (λ a day slot i p q. k h a day slot i e p q)
+      go : (l : Lent) → soundOf s ≡ l → (held : OpenAsk) → ((i : ℕ) (c : Cell) → Asked (record { log = s; held = held }) i → P (putCell s i c))
+          → P (Take.logTaken l s held y .log)
+      go Unsound e held k = stays
+      go (Sound h) e Closed k = stays
+      go (Sound h) e (Open a day slot) k = slot-has h a day slot y (intervalOf h day slot) e refl k
+
+pub byte-kept : (s : State) (y : List ℕ) (j : ℕ) → Elsewhere s j → byteAt (Take.taken (s .log) (s .held) y .log) j ≡ byteAt (s .log) j
+unfolding putCell
+byte-kept s y j k =
+    taken-has (λ (l : List ℕ). byteAt l j ≡ byteAt (s .log) j) (s .log) refl (s .held) y
+    (λ i c a. byteAt-kept (s .log) (cellStart i) (cellBytes c) j (rw length-cellBytes (k i a)))
+
+pub length-kept : (s : State) (y : List ℕ) → length (Take.taken (s .log) (s .held) y .log) ≡ length (s .log)
+length-kept s y =
+    taken-has (λ (l : List ℕ). length l ≡ length (s .log)) (s .log) refl (s .held) y (λ i c a. length-putCell (s .log) i c)
