@@ -1,4 +1,4 @@
-//! The archive's functions as benchmarks/metlazuel.h declares them, with slices around them.
+//! The archive's functions as include/metlazuel.h declares them, with slices around them.
 
 mod c {
     extern "C" {
