@@ -87,7 +87,7 @@ uint8_t metlazuel_lapse(uint8_t *ask, size_t size);
 uint8_t metlazuel_take(uint8_t *log, size_t n, uint8_t *ask, size_t size, const uint8_t *reply, size_t bytes, uint8_t *result);
 
 // A day's report, the days counted from 0: the number of gaps, empty and measured cells, then the sums of E+, E-, R+ and R-, to the front
-// of a row of at least METLAZUEL_ROW numbers. TOO_SHORT, UNSOUND (the log or a cell of the day), NOT_IN_LOG, else DONE.
+// of a row of at least METLAZUEL_ROW numbers. TOO_SHORT, UNSOUND (log), NOT_IN_LOG, UNSOUND (a cell of the day), else DONE.
 uint8_t metlazuel_day_report(const uint8_t *log, size_t n, uint8_t day, uint32_t *row, size_t room);
 
 // A log, written as a file to the front of out, its length to *length. UNSOUND (header, length), TOO_SHORT, UNSOUND (a cell), else DONE.
@@ -140,11 +140,11 @@ uint8_t metlazuel_meter_answer(uint8_t *kept, size_t n, uint8_t *store, size_t s
 // A second passes. UNSOUND, else DONE.
 uint8_t metlazuel_meter_second(uint8_t *kept, size_t n);
 
-// Puts a slice into the store: E+, E-, R+ and R- of an interval. OUT_OF_RANGE, UNSOUND, else DONE.
+// Puts a slice into the store: E+, E-, R+ and R- of an interval. UNSOUND, OUT_OF_RANGE, else DONE.
 uint8_t metlazuel_meter_slice(uint8_t *kept, size_t n, uint8_t *store, size_t size, uint8_t month, uint8_t day, uint8_t number,
                               uint16_t eplus, uint16_t eminus, uint16_t rplus, uint16_t rminus);
 
-// Sets the active powers (parameter 8) or the reactive ones (9), each as the bits of a 32-bit float. OUT_OF_RANGE, UNSOUND, else DONE.
+// Sets the active powers (parameter 8) or the reactive ones (9), each as the bits of a 32-bit float. UNSOUND, OUT_OF_RANGE, else DONE.
 uint8_t metlazuel_meter_powers(uint8_t *kept, size_t n, uint8_t parameter, uint32_t a, uint32_t b, uint32_t c);
 
 #ifdef __cplusplus
