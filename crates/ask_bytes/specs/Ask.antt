@@ -1,6 +1,6 @@
 -- The open ask, four bytes. Source: document 01, "The reader and the log": "at most one ask open, with its address (0..255)"; the bytes are
 -- this project's own.
-use mathlib.Core.Path.{_≡_, refl, _∙_, ap}
+use mathlib.Core.Path.{_≡_, refl}
 use mathlib.Core.Bool.{cond}
 use mathlib.Core.List.{List, [], _∷_}
 use Prim.Native.Nat.{ℕ}

@@ -64,10 +64,10 @@ same-length c = search needs
 returns : tie.Need-returns
 unfolding sixRow countsRow
 returns c = let two = onward _ _ _ _ _ _ _ (c .before .before .before .before .before .before .before .before .before .before .before .before .before .before .before .before .before .before .before .before .before .before .before .before .before .before .before .put-counts .ensures) (c .before .before .before .before .before .before .before .before .before .before .before .before .before .before .before .before .before .before .before .before .before .before .put-counts2 .ensures) refl in
-  let three = onward _ _ _ _ _ _ _ two (c .before .before .before .before .before .before .before .before .before .before .before .before .before .before .before .before .before .put-counts3 .ensures) refl in
-  let four = onward _ _ _ _ _ _ _ three (c .before .before .before .before .before .before .before .before .before .before .before .before .put-counts4 .ensures) refl in
-  let five = onward _ _ _ _ _ _ _ four (c .before .before .before .before .before .before .before .put-counts5 .ensures) refl in
-  onward _ _ _ _ _ _ _ five (c .before .before .put-counts6 .ensures) refl
+    let three = onward _ _ _ _ _ _ _ two (c .before .before .before .before .before .before .before .before .before .before .before .before .before .before .before .before .before .put-counts3 .ensures) refl in
+    let four = onward _ _ _ _ _ _ _ three (c .before .before .before .before .before .before .before .before .before .before .before .before .put-counts4 .ensures) refl in
+    let five = onward _ _ _ _ _ _ _ four (c .before .before .before .before .before .before .before .put-counts5 .ensures) refl in
+    onward _ _ _ _ _ _ _ five (c .before .before .put-counts6 .ensures) refl
 
 pub put-six-spec : {M : Type 1} → statement M
 put-six-spec =
