@@ -1,2 +1,4 @@
 pub mod Told
 pub mod Bits
+pub mod LogTold
+pub mod WireTold
