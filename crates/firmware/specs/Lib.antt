@@ -2,3 +2,4 @@ pub mod Told
 pub mod Bits
 pub mod LogTold
 pub mod WireTold
+pub mod WireLaws
