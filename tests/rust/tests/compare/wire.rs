@@ -64,7 +64,7 @@ fn decodes() {
     group.end(&[0, 1, 23, 24, 26, 27]);
 }
 
-/// A right reply to each kind of request, with each byte changed to each value and in every length.
+/// A right reply and a refusal to each kind of request, with each byte changed to each value and in every length.
 #[test]
 fn every_byte_of_right_replies() {
     let mut group = Group::new("every byte of right replies");
@@ -72,13 +72,20 @@ fn every_byte_of_right_replies() {
         let random = &mut Random::of(group.seed, case);
         let [offset, tariff, detail] = right_fields(random, parameter);
         let request = Request { address: 7, parameter, offset, tariff, detail };
-        let reply = sealed([&[7, READ, parameter, 0][..], &right_data(random, &request)].concat());
-        for reply in byte_changes(&reply).chain(length_changes(&reply)) {
-            let answer = decode_both(&request, &reply, MOST_FIGURES);
-            group.call(case, answer, || format!("{request:?}, {reply:?}"));
+        let right = sealed([&[7, READ, parameter, 0][..], &right_data(random, &request)].concat());
+        let refusal = sealed(vec![7, 0x80 + READ, parameter, 2]);
+        for reply in [right, refusal] {
+            decode_each(&mut group, case, &request, byte_changes(&reply).chain(length_changes(&reply)));
         }
     }
     group.end(&[0, 23, 24, 26, 27]);
+}
+
+fn decode_each(group: &mut Group, case: u64, request: &Request, replies: impl Iterator<Item = Vec<u8>>) {
+    for reply in replies {
+        let answer = decode_both(request, &reply, MOST_FIGURES);
+        group.call(case, answer, || format!("{request:?}, {reply:?}"));
+    }
 }
 
 /// The number, the count, the result and the whole row. 1 comes first; a refusal leaves row and count, and only a 24 stores the result.
