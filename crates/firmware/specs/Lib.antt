@@ -3,3 +3,4 @@ pub mod Bits
 pub mod LogTold
 pub mod WireTold
 pub mod WireLaws
+pub mod LogLaws

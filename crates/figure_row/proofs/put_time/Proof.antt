@@ -2,47 +2,34 @@ use Rattle.figure_row.specs.Row.{timeRow}
 use borrow.Author.Needs.{needs}
 use Rattle.figure_row.proofs.put_time.Statement.{statement}
 use Rattle.figure_row.proofs.put_time.Tie as tie
-use Rattle.figure_row.proofs.put_time.Reads as reads
-use Rattle.figure_row.proofs.put_time.Lts as lts
-use Rattle.figure_row.proofs.put_run.Reads as put-run-reads
 
--- src/lib.rt:64:13
 cast-t8 : tie.Need-cast-t8
 cast-t8 c = search needs
 
--- src/lib.rt:65:13
 cast-t9 : tie.Need-cast-t9
 cast-t9 c = search needs
 
--- src/lib.rt:66:13
 cast-t10 : tie.Need-cast-t10
 cast-t10 c = search needs
 
--- src/lib.rt:67:13
 cast-t11 : tie.Need-cast-t11
 cast-t11 c = search needs
 
--- src/lib.rt:68:13
 cast-t12 : tie.Need-cast-t12
 cast-t12 c = search needs
 
--- src/lib.rt:69:13
 cast-t13 : tie.Need-cast-t13
 cast-t13 c = search needs
 
--- src/lib.rt:63:9
 slice-aggregate-put-run : tie.Need-slice-aggregate-put-run
 slice-aggregate-put-run c = search needs
 
--- src/lib.rt:60:5
 put-run-requires : tie.Need-put-run-requires
 put-run-requires c κs = search needs
 
--- src/lib.rt:56:1
 same-length : tie.Need-same-length
 same-length c = search needs
 
--- src/lib.rt:56:1
 returns : tie.Need-returns
 unfolding timeRow
 returns c = c .before .before .put-run .ensures

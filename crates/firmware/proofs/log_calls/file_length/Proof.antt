@@ -2,32 +2,24 @@ use Rattle.firmware.specs.LogTold.{fileLength}
 use borrow.Author.Needs.{needs}
 use Rattle.firmware.proofs.log_calls.file_length.Statement.{statement}
 use Rattle.firmware.proofs.log_calls.file_length.Tie as tie
-use Rattle.firmware.proofs.log_calls.file_length.Reads as reads
-use Rattle.firmware.proofs.log_calls.file_length.Lts as lts
 
--- src/log_calls.rt:85:27
 enum-known-answer : tie.Need-enum-known-answer
 enum-known-answer c = search needs
 
--- src/log_calls.rt:86:33
 enum-told : tie.Need-enum-told
 enum-told c = search needs
 
--- src/log_calls.rt:87:34
 enum-told-2 : tie.Need-enum-told-2
 enum-told-2 c = search needs
 
--- src/log_calls.rt:81:1
 returns : tie.Need-returns
 unfolding fileLength
 returns c = rw (c .before .answer .given .1)
 
--- src/log_calls.rt:81:1
 returns-2 : tie.Need-returns-2
 unfolding fileLength
 returns-2 c = rw (c .enum-told .given .1)
 
--- src/log_calls.rt:81:1
 returns-3 : tie.Need-returns-3
 unfolding fileLength
 returns-3 c = rw (c .enum-told2 .given .1)

@@ -1,14 +1,10 @@
 use borrow.Author.Tests.{lt-ltb, le-ltb}
 use Rattle.firmware.proofs.log_calls.no_ask_number.Statement.{statement}
 use Rattle.firmware.proofs.log_calls.no_ask_number.Tie as tie
-use Rattle.firmware.proofs.log_calls.no_ask_number.Reads as reads
-use Rattle.firmware.proofs.log_calls.no_ask_number.Lts as lts
 
--- src/log_calls.rt:120:9
 returns : tie.Need-returns
 returns c = rw (lt-ltb _ _ (c .if1 .taken))
 
--- src/log_calls.rt:116:1
 returns-2 : tie.Need-returns-2
 returns-2 c = rw (le-ltb _ _ (c .if1 .left))
 

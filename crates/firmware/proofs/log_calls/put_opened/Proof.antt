@@ -2,15 +2,10 @@ use Rattle.firmware.specs.LogTold.{openedBytes}
 use borrow.Author.Needs.{needs}
 use Rattle.firmware.proofs.log_calls.put_opened.Statement.{statement}
 use Rattle.firmware.proofs.log_calls.put_opened.Tie as tie
-use Rattle.firmware.proofs.log_calls.put_opened.Reads as reads
-use Rattle.firmware.proofs.log_calls.put_opened.Lts as lts
-use Rattle.ask_bytes.proofs.put_ask.Reads as put-ask-reads
 
--- src/log_calls.rt:132:47
 enum-told : tie.Need-enum-told
 enum-told c = search needs
 
--- src/log_calls.rt:132:28
 put-ask-requires : tie.Need-put-ask-requires
 put-ask-requires c κs = search needs
 
@@ -26,31 +21,25 @@ enum-told-4 c = search needs
 enum-told-5 : tie.Need-enum-told-5
 enum-told-5 c = search needs
 
--- src/log_calls.rt:126:1
 same-length : tie.Need-same-length
 same-length c = search needs
 
--- src/log_calls.rt:126:1
 returns : tie.Need-returns
 unfolding openedBytes
 returns c = rw (c .before .before .before .before .enum-told .given .1) (c .before .before .put-ask .ensures)
 
--- src/log_calls.rt:126:1
 returns-2 : tie.Need-returns-2
 unfolding openedBytes
 returns-2 c = rw (c .enum-told2 .given .1)
 
--- src/log_calls.rt:126:1
 returns-3 : tie.Need-returns-3
 unfolding openedBytes
 returns-3 c = rw (c .enum-told3 .given .1)
 
--- src/log_calls.rt:126:1
 returns-4 : tie.Need-returns-4
 unfolding openedBytes
 returns-4 c = rw (c .enum-told4 .given .1)
 
--- src/log_calls.rt:126:1
 returns-5 : tie.Need-returns-5
 unfolding openedBytes
 returns-5 c = rw (c .enum-told5 .given .1)

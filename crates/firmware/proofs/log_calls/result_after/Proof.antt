@@ -2,68 +2,52 @@ use Rattle.firmware.specs.LogTold.{resultAfter}
 use borrow.Author.Needs.{needs}
 use Rattle.firmware.proofs.log_calls.result_after.Statement.{statement}
 use Rattle.firmware.proofs.log_calls.result_after.Tie as tie
-use Rattle.firmware.proofs.log_calls.result_after.Reads as reads
-use Rattle.firmware.proofs.log_calls.result_after.Lts as lts
 
--- src/log_calls.rt:197:29
 enum-told : tie.Need-enum-told
 enum-told c = search needs
 
--- src/log_calls.rt:198:34
 enum-told-2 : tie.Need-enum-told-2
 enum-told-2 c = search needs
 
--- src/log_calls.rt:199:33
 enum-told-3 : tie.Need-enum-told-3
 enum-told-3 c = search needs
 
--- src/log_calls.rt:200:37
 enum-told-4 : tie.Need-enum-told-4
 enum-told-4 c = search needs
 
--- src/log_calls.rt:201:34
 enum-known-answer : tie.Need-enum-known-answer
 enum-known-answer c = search needs
 
--- src/log_calls.rt:202:36
 enum-told-5 : tie.Need-enum-told-5
 enum-told-5 c = search needs
 
--- src/log_calls.rt:203:32
 enum-told-6 : tie.Need-enum-told-6
 enum-told-6 c = search needs
 
--- src/log_calls.rt:193:1
 returns : tie.Need-returns
 unfolding resultAfter
 returns c = rw (c .enum-told .given .1)
 
--- src/log_calls.rt:193:1
 returns-2 : tie.Need-returns-2
 unfolding resultAfter
 returns-2 c = rw (c .enum-told2 .given .1)
 
--- src/log_calls.rt:193:1
 returns-3 : tie.Need-returns-3
 unfolding resultAfter
 returns-3 c = rw (c .enum-told3 .given .1)
 
--- src/log_calls.rt:193:1
 returns-4 : tie.Need-returns-4
 unfolding resultAfter
 returns-4 c = rw (c .enum-told4 .given .1)
 
--- src/log_calls.rt:193:1
 returns-5 : tie.Need-returns-5
 unfolding resultAfter
 returns-5 c = rw (c .before .answer .given .1)
 
--- src/log_calls.rt:193:1
 returns-6 : tie.Need-returns-6
 unfolding resultAfter
 returns-6 c = rw (c .enum-told5 .given .1)
 
--- src/log_calls.rt:193:1
 returns-7 : tie.Need-returns-7
 unfolding resultAfter
 returns-7 c = rw (c .enum-told6 .given .1)

@@ -1,14 +1,10 @@
 use borrow.Author.Tests.{eq-eqb, ne-eqb}
 use Rattle.firmware.proofs.wire_calls.count_after.Statement.{statement}
 use Rattle.firmware.proofs.wire_calls.count_after.Tie as tie
-use Rattle.firmware.proofs.wire_calls.count_after.Reads as reads
-use Rattle.firmware.proofs.wire_calls.count_after.Lts as lts
 
--- src/wire_calls.rt:71:1
 returns : tie.Need-returns
 returns c = rw (eq-eqb _ _ (c .if1 .taken))
 
--- src/wire_calls.rt:71:1
 returns-2 : tie.Need-returns-2
 returns-2 c = rw (ne-eqb _ _ (c .if1 .left))
 
