@@ -10,6 +10,7 @@ pub use fate::Settled;
 pub use fate::settle;
 pub use next::Next;
 pub use next::next_gap;
+pub use reply::SILENT_MOST;
 pub use reply::is_over;
 pub use reply::is_whole;
 pub use tally::Tally;
