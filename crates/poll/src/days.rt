@@ -28,7 +28,7 @@ const REPLY_ROOM: usize = 64;
 
 const FILE_ROOM: usize = 53584;
 
-pub fn begin() -> Course {
+fn begin() -> Course {
     let none = Tally {
         taken: 0,
         silent: 0,
@@ -56,7 +56,6 @@ pub fn poll(wire: Wire, device: &[u8], path: &[u8], image: &mut [u8], from: u8, 
     course
 }
 
-// A taken reply fills a gap: a day with none has left the log as it was, and its file is not touched.
 fn one_day(
     wire: Wire,
     device: &[u8],
@@ -66,10 +65,17 @@ fn one_day(
     before: Course,
 ) -> Course {
     let after = asks(wire, device, path, image, day, before);
-    let tally = after.tally;
     let earlier = before.tally;
+    let course = kept(wire, path, image, earlier.taken, after);
+    let tally = course.tally;
     say::day(wire.terminal, day, tally);
-    if tally.taken == earlier.taken {
+    course
+}
+
+// A taken reply fills a gap: a day with none has left the log as it was, and its file is not touched.
+fn kept(wire: Wire, path: &[u8], image: &[u8], earlier: u32, after: Course) -> Course {
+    let tally = after.tally;
+    if tally.taken == earlier {
         return after;
     }
     if saved(wire, path, image) {
