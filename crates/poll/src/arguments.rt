@@ -1,0 +1,160 @@
+// The program's arguments.
+use calendar::Date;
+use log::Header;
+use text::NumberAnswer;
+
+// The days that are polled.
+pub enum Chosen {
+    All,
+    // Counted from 0.
+    One(u8),
+    // A word that names no day of any log.
+    Unread,
+}
+
+pub enum ByteArgument {
+    Byte(u8),
+    // No number, or a larger one.
+    Unread,
+}
+
+pub enum ShortArgument {
+    Short(u16),
+    Unread,
+}
+
+pub enum Start {
+    Of(Header),
+    OutOfRange,
+}
+
+const MOST_BYTE: u64 = 255;
+
+const MOST_SHORT: u64 = 65535;
+
+// Where the words of `poll DEVICE ADDRESS LOGFILE DAY` and of `poll new LOGFILE YEAR MONTH DAY DAYS MINUTES KE` stand.
+pub const DEVICE: usize = 1;
+
+pub const ADDRESS: usize = 2;
+
+pub const POLLED_LOG: usize = 3;
+
+const POLLED_DAY: usize = 4;
+
+pub const NEW_LOG: usize = 2;
+
+const YEAR: usize = 3;
+
+const MONTH: usize = 4;
+
+const DAY: usize = 5;
+
+const DAYS: usize = 6;
+
+const MINUTES: usize = 7;
+
+const KE: usize = 8;
+
+const FIRST_YEAR: u16 = 2000;
+
+// The last that one byte holds; which dates there are, the log says.
+const LAST_YEAR: u16 = 2255;
+
+// Whether the first word is `new`.
+pub fn is_new() -> bool {
+    let mut word = io::buffer();
+    let n = os::arg(DEVICE, &mut word);
+    if n != 3 {
+        return false;
+    }
+    if word[0] != b'n' {
+        return false;
+    }
+    if word[1] != b'e' {
+        return false;
+    }
+    word[2] == b'w'
+}
+
+pub fn one_day() -> Chosen {
+    match byte_argument(POLLED_DAY) {
+        ByteArgument::Byte(day) => Chosen::One(day),
+        ByteArgument::Unread => Chosen::Unread,
+    }
+}
+
+// YEAR MONTH DAY DAYS MINUTES KE: a word that is no number is no header's either.
+pub fn start_words() -> Start {
+    let ShortArgument::Short(year) = short_argument(YEAR) else {
+        return Start::OutOfRange;
+    };
+    let ByteArgument::Byte(month) = byte_argument(MONTH) else {
+        return Start::OutOfRange;
+    };
+    let ByteArgument::Byte(day) = byte_argument(DAY) else {
+        return Start::OutOfRange;
+    };
+    let ByteArgument::Byte(days) = byte_argument(DAYS) else {
+        return Start::OutOfRange;
+    };
+    let ByteArgument::Byte(minutes) = byte_argument(MINUTES) else {
+        return Start::OutOfRange;
+    };
+    let ShortArgument::Short(ke) = short_argument(KE) else {
+        return Start::OutOfRange;
+    };
+    start_of(year, month, day, days, minutes, ke)
+}
+
+fn start_of(year: u16, month: u8, day: u8, days: u8, minutes: u8, ke: u16) -> Start {
+    if year < FIRST_YEAR {
+        return Start::OutOfRange;
+    }
+    if LAST_YEAR < year {
+        return Start::OutOfRange;
+    }
+    let first = Date {
+        year: (year - FIRST_YEAR) as u8,
+        month: month,
+        day: day,
+    };
+    Start::Of(Header {
+        start: first,
+        days: days,
+        minutes: minutes,
+        ke: ke,
+    })
+}
+
+pub fn byte_argument(i: usize) -> ByteArgument {
+    match number_argument(i) {
+        NumberAnswer::Number(n) => {
+            if n <= MOST_BYTE {
+                ByteArgument::Byte(n as u8)
+            } else {
+                ByteArgument::Unread
+            }
+        }
+        NumberAnswer::NotANumber => ByteArgument::Unread,
+    }
+}
+
+fn short_argument(i: usize) -> ShortArgument {
+    match number_argument(i) {
+        NumberAnswer::Number(n) => {
+            if n <= MOST_SHORT {
+                ShortArgument::Short(n as u16)
+            } else {
+                ShortArgument::Unread
+            }
+        }
+        NumberAnswer::NotANumber => ShortArgument::Unread,
+    }
+}
+
+// A word that is missing or too long reads as an empty one, which is no number.
+fn number_argument(i: usize) -> NumberAnswer {
+    let mut word = io::buffer();
+    let n = os::arg(i, &mut word);
+    text::number_of(&word[..n])
+}

@@ -1,0 +1,44 @@
+// The file of a fresh log.
+use crate::arguments;
+use crate::arguments::Start;
+use crate::part::front;
+use crate::say;
+use log::FreshAnswer;
+use log::Header;
+use logfile::WriteAnswer;
+
+// The longest image and the longest file.
+const IMAGE_ROOM: usize = 53582;
+
+const FILE_ROOM: usize = 53584;
+
+pub fn make() {
+    let mut path = io::buffer();
+    let n = os::arg(arguments::NEW_LOG, &mut path);
+    match arguments::start_words() {
+        Start::Of(h) => make_of(&path[..n], h),
+        Start::OutOfRange => say::refused(&path[..n], refusal::OUT_OF_RANGE),
+    }
+}
+
+fn make_of(path: &[u8], h: Header) {
+    let mut image = [0u8; IMAGE_ROOM];
+    let answer = log::fresh_log(h, &mut image);
+    match answer {
+        FreshAnswer::Done(length) => put(path, front(&image, length)),
+        _ => say::refused(path, answer.number()),
+    }
+}
+
+fn put(path: &[u8], image: &[u8]) {
+    let mut file = [0u8; FILE_ROOM];
+    let answer = logfile::write_file(image, &mut file);
+    let WriteAnswer::Done(n) = answer else {
+        say::refused(path, answer.number());
+        return;
+    };
+    if file_io::made(path, front(&file, n)) {
+        return;
+    }
+    say::failed(path);
+}

@@ -1,0 +1,53 @@
+// The help text, on standard output.
+use libc::STDOUT_FILENO;
+
+pub fn show() {
+    uses();
+    line();
+    limits();
+}
+
+fn uses() {
+    put(b"poll DEVICE ADDRESS LOGFILE [DAY]\n");
+    put(
+        b"    asks the meter with this address (0 to 255) for every interval of the log that is still a gap: of one day,\n",
+    );
+    put(
+        b"    counted from 0, or of all. The file is written anew after each day that changed, and progress is shown on\n",
+    );
+    put(b"    standard error; the day report of what was polled goes to standard output.\n");
+    put(b"poll new LOGFILE YEAR MONTH DAY DAYS MINUTES KE\n");
+    put(
+        b"    makes the file of a fresh log, all gaps: 1 to 62 days from a date of 2000 to 2099 on, intervals of 15 or\n",
+    );
+    put(
+        b"    30 minutes, Ke milliwatt-hours a count (1 to 65535). A file that is there is left as it is.\n",
+    );
+    put(b"\n");
+}
+
+fn line() {
+    put(b"DEVICE is a serial port, which is set before with\n");
+    put(b"    stty -F DEVICE 9600 raw -echo clocal min 0 time 1\n");
+    put(
+        b"at the meter's own speed, so that a read waits at most a tenth of a second. Ten silent reads are no answer: the\n",
+    );
+    put(
+        b"interval stays a gap, and a later poll asks again. So it does after a reply that is malformed, or a refusal.\n",
+    );
+    put(b"\n");
+}
+
+fn limits() {
+    put(
+        b"A reply does not say which interval it is for. Before each ask the line is read until it is silent, for a tenth\n",
+    );
+    put(
+        b"of a second, and for a whole second after an ask that had no answer or a malformed one. A reply that comes\n",
+    );
+    put(b"later still would be taken for the next ask's.\n");
+}
+
+fn put(bytes: &[u8]) {
+    io::write_all(STDOUT_FILENO, bytes);
+}

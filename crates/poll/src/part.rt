@@ -1,0 +1,12 @@
+ghost use mathlib.Core.Path.{_≡_};
+ghost use lib.ListN.{take};
+
+// The first n bytes; all of them where there are no more.
+pub fn front(bytes: &[u8], n: usize) -> &[u8]
+    ensures { λ r. ⌜ now r ≡ take n (now (bytes .entry)) ⌝ }
+{
+    if n < bytes.len() {
+        return &bytes[..n];
+    }
+    bytes
+}

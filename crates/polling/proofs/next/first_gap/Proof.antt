@@ -1,0 +1,67 @@
+use Rattle.polling.specs.NextLaws.{walk-stops, walk-on, walk-ends}
+use Rattle.polling.specs.Next.{gapFrom, isGap}
+use borrow.Author.Needs.{needs}
+use native.Mathlib.Omega.{arith}
+use Prim.Native.Nat.{_-_}
+use mathlib.Core.Path.{_≡_, refl, sym, ap, _∙_}
+use Rattle.polling.proofs.next.first_gap.Statement.{statement}
+use Rattle.polling.proofs.next.first_gap.Tie as tie
+
+abbrev Inv-loop : tie.InvT-loop
+Inv-loop log first slot end i₀ i = gapFrom log first i (end - i) ≡ gapFrom log first slot (end - slot)
+
+abbrev μ-loop : tie.MeasureT-loop
+μ-loop log first slot end i₀ i = end - i
+
+loop-holds : tie.Need-loop-holds Inv-loop μ-loop
+loop-holds c = refl
+
+cast-cell-at : tie.Need-cast-cell-at Inv-loop μ-loop
+cast-cell-at c = search needs
+
+add-cell-at : tie.Need-add-cell-at Inv-loop μ-loop
+add-cell-at c = omega arith
+
+cell-at-requires : tie.Need-cell-at-requires Inv-loop μ-loop
+cell-at-requires c κs = search needs
+
+is-gap-requires : tie.Need-is-gap-requires Inv-loop μ-loop
+is-gap-requires c κs = search needs
+
+returns : tie.Need-returns Inv-loop μ-loop
+returns c =
+    let start = c .before .before .before .before .before .before in
+    let turn = c .before .before .before .before .loop in
+    sym (walk-stops (start .args .log .now) (start .args .first) (turn .i) (start .args .end) (c .before .before .before .loop-test .taken) (ap isGap (sym (c .before .before .cell-at .ensures)) ∙ sym (c .before .is-gap .ensures) ∙ c .if1 .taken)) ∙ turn .inv
+
+add-i : tie.Need-add-i Inv-loop μ-loop
+add-i c = omega arith
+
+loop-less : tie.Need-loop-less Inv-loop μ-loop
+loop-less c = omega arith
+
+loop-again : tie.Need-loop-again Inv-loop μ-loop
+loop-again c =
+    let start = c .before .before .before .before .before .before in
+    let turn = c .before .before .before .before .loop in
+    walk-on (start .args .log .now) (start .args .first) (turn .i) (start .args .end) (c .before .before .before .loop-test .taken) (ap isGap (sym (c .before .before .cell-at .ensures)) ∙ sym (c .before .is-gap .ensures) ∙ c .if1 .left) ∙ turn .inv
+
+returns-2 : tie.Need-returns-2 Inv-loop μ-loop
+returns-2 c = sym (walk-ends (c .before .before .before .args .log .now) (c .before .before .before .args .first) (c .before .loop .i) _ (omega arith)) ∙ c .before .loop .inv
+
+pub first-gap-spec : {M : Type 1} → statement M
+first-gap-spec =
+    tie.close
+    (tie.spec
+    Inv-loop
+    μ-loop
+    loop-holds
+    cast-cell-at
+    add-cell-at
+    cell-at-requires
+    is-gap-requires
+    returns
+    add-i
+    loop-less
+    loop-again
+    returns-2)

@@ -1,0 +1,57 @@
+use Rattle.polling.specs.Next.{nextGap, nextOf, nextIn}
+use borrow.Author.Tests.{lt-ltb, le-ltb}
+use native.Mathlib.Omega.{arith}
+use native.Mathlib.Nat.{mul-le-mul}
+use Prim.Native.Nat.{_≤_}
+use mathlib.Core.Path.{sym, _∙_}
+use borrow.Author.Needs.{needs}
+use Rattle.polling.proofs.next.next_gap.Statement.{statement}
+use Rattle.polling.proofs.next.next_gap.Tie as tie
+
+sound-requires : tie.Need-sound-requires
+sound-requires c κs = search needs
+
+enum-known-h : tie.Need-enum-known-h
+enum-known-h c = search needs
+
+returns : tie.Need-returns
+unfolding nextGap nextOf nextIn
+returns c = simp (sym (c .before .before .before .before .before .sound .ensures) ∙ c .before .before .before .h .given .1, le-ltb _ _ (c .if1 .taken))
+
+slots-of-requires : tie.Need-slots-of-requires
+slots-of-requires c κs = search needs
+
+cast-first-gap : tie.Need-cast-first-gap
+cast-first-gap c = search needs
+
+mul-first-gap : tie.Need-mul-first-gap
+mul-first-gap c = let d : c .before .before .before .before .before .before .before .before .args .day ≤ 255 = search needs in let n : c .slots-of .result ≤ 255 = search needs in omega (arith, mul-le-mul d n)
+
+first-gap-requires : tie.Need-first-gap-requires
+first-gap-requires c κs = search needs
+
+enum-told : tie.Need-enum-told
+enum-told c = search needs
+
+returns-2 : tie.Need-returns-2
+unfolding nextGap nextOf nextIn
+returns-2 c = simp (sym (c .before .before .before .before .before .before .before .sound .ensures) ∙ c .before .before .before .before .before .h .given .1, lt-ltb _ _ (c .before .before .if1 .left), c .first-gap .ensures, c .before .slots-of .ensures)
+
+returns-3 : tie.Need-returns-3
+unfolding nextGap nextOf nextIn
+returns-3 c = simp (sym (c .before .before .sound .ensures) ∙ c .enum-told .given .1)
+
+pub next-gap-spec : {M : Type 1} → statement M
+next-gap-spec =
+    tie.close
+    (tie.spec
+    sound-requires
+    enum-known-h
+    returns
+    slots-of-requires
+    cast-first-gap
+    mul-first-gap
+    first-gap-requires
+    enum-told
+    returns-2
+    returns-3)

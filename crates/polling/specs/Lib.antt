@@ -1,0 +1,7 @@
+pub mod Next
+pub mod NextLaws
+pub mod Reply
+pub mod ReplyLaws
+pub mod Fate
+pub mod FateLaws
+pub mod Tally

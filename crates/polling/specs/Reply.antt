@@ -1,0 +1,19 @@
+-- How long the line is listened to after an ask for a slice. Source: document 01, "The reader and the log": "the right length (6 with
+-- the function's top bit set, else that of its request; 14 for a slice)". The silent reads are the line's: document 01 leaves time-outs
+-- to others.
+use Prim.Native.Nat.{ℕ}
+use mathlib.Core.Bool.{Bool, true, cond}
+use mathlib.Core.List.{List}
+use lib.Dec.{eqb, leb, ltb}
+use lib.ListN.{length}
+use Rattle.words.specs.Place.{byteAt}
+use Rattle.reader.specs.Form.{lengthFor}
+
+-- whether a reply has all its bytes, or more
+unfoldable pub isWhole : List ℕ → Bool
+isWhole y = leb (lengthFor (byteAt y 1) 14) (length y)
+
+-- whether to stop listening: the reply is whole, or ten reads were silent before its first byte, or one behind it
+unfoldable pub isOver : List ℕ → ℕ → Bool
+unfolding isWhole
+isOver y silent = cond (isWhole y) true (cond (eqb (length y) 0) (leb 10 silent) (ltb 0 silent))

@@ -1,0 +1,56 @@
+// What becomes of an ask.
+ghost use mathlib.Core.Path.{_≡_};
+ghost use Rattle.polling.specs.Fate.{outcome, settled, fateOf};
+use logger::OpenAsk;
+use logger::TakeAnswer;
+
+pub enum Fate {
+    // The interval's cell is no gap any more.
+    Taken,
+    Silent,
+    Malformed,
+    // The meter's result was not 0.
+    Refused,
+    // Any other number of the refusal table, which an ask for a gap does not give.
+    Stopped(u8),
+}
+
+// The fate, and the ask that is open after it: none.
+pub struct Settled {
+    pub fate: Fate,
+    pub held: OpenAsk,
+}
+
+// Takes what was heard for the open ask into the log, and closes the ask: with nothing heard, and after a reply that is not well
+// formed, by a lapse. The interval then stays a gap.
+pub fn settle(log: &mut [u8], held: OpenAsk, reply: &[u8]) -> Settled
+    ensures { λ r. ⌜ outcome r (now (log .exit)) ≡ settled (now (log .entry)) held (now (reply .entry)) ⌝ }
+{
+    if reply.len() == 0 {
+        return Settled {
+            fate: Fate::Silent,
+            held: logger::lapse(held),
+        };
+    }
+    let taken = logger::take_reply(log, held, reply);
+    let answer = taken.answer;
+    let open = taken.held;
+    Settled {
+        fate: fate_of(answer),
+        held: logger::lapse(open),
+    }
+}
+
+fn fate_of(answer: TakeAnswer) -> Fate
+    ensures { λ r. ⌜ r ≡ fateOf answer ⌝ }
+{
+    match answer {
+        TakeAnswer::Done => Fate::Taken,
+        TakeAnswer::Malformed(_) => Fate::Malformed,
+        TakeAnswer::MeterRefused(_) => Fate::Refused,
+        TakeAnswer::NoAskOpen => Fate::Stopped(refusal::NO_ASK_OPEN),
+        TakeAnswer::NotInLog => Fate::Stopped(refusal::NOT_IN_LOG),
+        TakeAnswer::OtherCounts => Fate::Stopped(refusal::OTHER_COUNTS),
+        TakeAnswer::Unsound => Fate::Stopped(refusal::UNSOUND),
+    }
+}
