@@ -34,11 +34,18 @@ const MOST_SHORT: u64 = 65535;
 
 const MOST_LONG: u64 = 4294967295;
 
+// The number that a word of a line is.
+fn number_word(line: &[u8], k: usize) -> NumberAnswer
+    ensures { λ r. ⌜ r ≡ numberOfText (wordAt k (now (line .entry))) ⌝ }
+{
+    text::number_of(crate::line::word(line, k))
+}
+
 // A number of one byte.
 pub fn byte_word(line: &[u8], k: usize) -> ByteAnswer
     ensures { λ r. ⌜ r ≡ byteOf (numberOfText (wordAt k (now (line .entry)))) ⌝ }
 {
-    match text::number_of(crate::line::word(line, k)) {
+    match number_word(line, k) {
         NumberAnswer::Number(n) => {
             if n <= MOST_BYTE {
                 ByteAnswer::Byte(n as u8)
@@ -54,7 +61,7 @@ pub fn byte_word(line: &[u8], k: usize) -> ByteAnswer
 pub fn short_word(line: &[u8], k: usize) -> ShortAnswer
     ensures { λ r. ⌜ r ≡ shortOf (numberOfText (wordAt k (now (line .entry)))) ⌝ }
 {
-    match text::number_of(crate::line::word(line, k)) {
+    match number_word(line, k) {
         NumberAnswer::Number(n) => {
             if n <= MOST_SHORT {
                 ShortAnswer::Short(n as u16)
@@ -70,7 +77,7 @@ pub fn short_word(line: &[u8], k: usize) -> ShortAnswer
 pub fn long_word(line: &[u8], k: usize) -> LongAnswer
     ensures { λ r. ⌜ r ≡ longOf (numberOfText (wordAt k (now (line .entry)))) ⌝ }
 {
-    match text::number_of(crate::line::word(line, k)) {
+    match number_word(line, k) {
         NumberAnswer::Number(n) => {
             if n <= MOST_LONG {
                 LongAnswer::Long(n as u32)
