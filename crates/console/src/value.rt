@@ -35,7 +35,7 @@ const MOST_SHORT: u64 = 65535;
 const MOST_LONG: u64 = 4294967295;
 
 // The number that a word of a line is.
-fn number_word(line: &[u8], k: usize) -> NumberAnswer
+pub fn number_word(line: &[u8], k: usize) -> NumberAnswer
     ensures { λ r. ⌜ r ≡ numberOfText (wordAt k (now (line .entry))) ⌝ }
 {
     text::number_of(crate::line::word(line, k))
