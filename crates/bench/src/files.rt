@@ -1,6 +1,6 @@
 // The log's file.
-use crate::Kept;
-use crate::say;
+use console_io::say;
+use log_lines::Kept;
 use logfile::ReadAnswer;
 use logfile::WriteAnswer;
 use logger::OpenAsk;

@@ -1,58 +1,47 @@
 // The console: a line of standard input is a call, and its answer a line of standard output.
-mod arguments;
 mod files;
-mod input;
-mod logs;
-mod meter_words;
 mod meters;
-mod reads;
-mod say;
 mod told;
 mod verb;
 
-use input::Line;
+use console_io::Line;
+use console_io::Rest;
+use libc::STDIN_FILENO;
+use log_lines::Kept;
 use logger::OpenAsk;
 use meter_record::Record;
 use meter_record::RecordAnswer;
-use verb::LogVerb;
-use verb::ReadVerb;
-use verb::Verb;
-
-// What is kept of the log beside its image: its length, 0 where there is no log, and the open ask.
-pub struct Kept {
-    pub length: usize,
-    pub held: OpenAsk,
-}
-
-// #
-const COMMENT: u8 = 35;
 
 fn main() {
-    // The longest image, the meter's 2,976 places for slices, all unused, and the longest line.
+    // The longest image, the meter's 2,976 places for slices, all unused, the longest line, and a block of the input.
     let mut image = [0u8; 53582];
     let mut store = [0u8; 32736];
     let mut line = [0u8; 4096];
-    let RecordAnswer::Done(record) = meters::first() else {
+    let mut block = [0u8; 4096];
+    let RecordAnswer::Done(record) = meter_lines::first() else {
         return;
     };
-    session(&mut image, &mut store, &mut line, record);
+    session(&mut image, &mut store, &mut line, &mut block, record);
 }
 
-fn session(image: &mut [u8], store: &mut [u8], line: &mut [u8], first: Record) {
+fn session(image: &mut [u8], store: &mut [u8], line: &mut [u8], block: &mut [u8], first: Record) {
     let mut kept = Kept {
         length: 0,
         held: OpenAsk::Closed,
     };
     let mut record = first;
+    let mut rest = Rest { at: 0, end: 0 };
     // Nothing says that the input ends: this many lines no run has.
     let mut turns = u64::MAX;
     while 0 < turns {
-        let next = input::next_line(line);
-        if input::is_end(next) {
+        let taken = console_io::next_line(STDIN_FILENO, block, rest, line);
+        let next = taken.line;
+        rest = taken.rest;
+        if is_end(next) {
             return;
         }
+        let n = length_of(next);
         let verb = asked(next, line);
-        let n = input::length_of(next);
         // A verb is the log's or the meter's: the other leaves all as it stands.
         kept = on_log(verb, console::part(line, n), image, kept);
         record = on_meter(verb, console::part(line, n), store, record);
@@ -60,73 +49,64 @@ fn session(image: &mut [u8], store: &mut [u8], line: &mut [u8], first: Record) {
     }
 }
 
-fn asked(next: Line, line: &[u8]) -> Verb {
+fn is_end(next: Line) -> bool {
     match next {
-        Line::Of(n) => asked_in(console::part(line, n)),
-        Line::TooLong => asked_too_long(line),
-        Line::End => Verb::Nothing,
+        Line::Of(_) => false,
+        Line::TooLong => false,
+        Line::End => true,
     }
 }
 
-fn asked_in(line: &[u8]) -> Verb {
-    if line.len() == 0 {
-        return Verb::Nothing;
+fn length_of(next: Line) -> usize {
+    match next {
+        Line::Of(n) => n,
+        Line::TooLong => 0,
+        Line::End => 0,
     }
-    if line[0] == COMMENT {
-        return Verb::Nothing;
-    }
-    verb::verb_of(console::word(line, 0))
 }
 
-// A comment may have any length.
-fn asked_too_long(line: &[u8]) -> Verb {
-    if words::byte_at(line, 0) == COMMENT {
-        return Verb::Nothing;
+fn asked(next: Line, line: &[u8]) -> usize {
+    match next {
+        Line::Of(n) => verb::verb_of(console::part(line, n)),
+        Line::TooLong => verb::OTHER,
+        Line::End => verb::NOTHING,
     }
-    Verb::Unknown
 }
 
-fn on_log(verb: Verb, line: &[u8], image: &mut [u8], kept: Kept) -> Kept {
+fn on_log(verb: usize, line: &[u8], image: &mut [u8], kept: Kept) -> Kept {
     match verb {
-        Verb::Log(v) => changed(v, line, image, kept),
-        Verb::Read(v) => {
+        verb::LOG => log_lines::fresh(line, image, kept),
+        verb::LOAD => files::load(line, image, kept),
+        verb::ASK => log_lines::ask(line, image, kept),
+        verb::LAPSE => log_lines::lapse(line, kept),
+        verb::REPLY => log_lines::reply(line, image, kept),
+        _ => {
             let held = kept.held;
-            read(v, line, console::part(image, kept.length), held);
-            kept
-        }
-        Verb::Meter(_) => kept,
-        Verb::Nothing => kept,
-        Verb::Unknown => {
-            say::unread();
+            read(verb, line, console::part(image, kept.length), held);
             kept
         }
     }
 }
 
-fn on_meter(verb: Verb, line: &[u8], store: &mut [u8], r: Record) -> Record {
-    let Verb::Meter(v) = verb else {
+// What changes neither the log nor the open ask.
+fn read(verb: usize, line: &[u8], image: &[u8], held: OpenAsk) {
+    match verb {
+        verb::SAVE => files::save(line, image),
+        verb::OPEN => log_lines::open_ask(line, held),
+        verb::CELL => log_lines::cell(line, image),
+        verb::REPORT => log_lines::report(line, image),
+        verb::REQUEST => log_lines::request(line),
+        verb::DECODE => log_lines::decode(line),
+        _ => {}
+    }
+}
+
+fn on_meter(verb: usize, line: &[u8], store: &mut [u8], r: Record) -> Record {
+    if verb < verb::FRAME {
         return r;
-    };
-    meters::called(v, line, store, r)
-}
-
-fn changed(verb: LogVerb, line: &[u8], image: &mut [u8], kept: Kept) -> Kept {
-    match verb {
-        LogVerb::Log => logs::fresh(line, image, kept),
-        LogVerb::Load => files::load(line, image, kept),
-        LogVerb::Ask => logs::ask(line, image, kept),
-        LogVerb::Lapse => logs::lapse(line, kept),
-        LogVerb::Reply => logs::reply(line, image, kept),
     }
-}
-
-fn read(verb: ReadVerb, line: &[u8], image: &[u8], held: OpenAsk) {
-    match verb {
-        ReadVerb::Save => files::save(line, image),
-        ReadVerb::Open => logs::open_ask(line, held),
-        ReadVerb::Cell => logs::cell(line, image),
-        ReadVerb::Report => logs::report(line, image),
-        ReadVerb::Request => reads::request(line),
-        ReadVerb::Decode => reads::decode(line),
+    if verb == verb::NOTHING {
+        return r;
     }
+    meters::called(verb, line, store, r)
 }

@@ -1,11 +1,12 @@
 // What the bench meter's lines answer beside a number.
-use crate::arguments::FIRST_YEAR;
-use crate::say;
+use console_io::say;
 use meter_record::Record;
 use second::Level;
 use second::Protection;
 use second::Season;
 use second::Time;
+
+const FIRST_YEAR: u16 = 2000;
 
 // A reply; none where the meter is silent.
 pub fn reply(number: u8, bytes: &[u8]) {

@@ -1,114 +1,46 @@
-// The first word of a line.
-pub enum Verb {
-    Log(LogVerb),
-    Read(ReadVerb),
-    Meter(MeterVerb),
-    // An empty line or a comment.
-    Nothing,
-    Unknown,
-}
+// The first word of a line, by its place among the names. The meter's lines that set it have their names in `meter_lines`.
+pub const LOG: usize = 0;
 
-// What may change the log or the open ask.
-pub enum LogVerb {
-    Log,
-    Load,
-    Ask,
-    Lapse,
-    Reply,
-}
+pub const LOAD: usize = 1;
 
-// What changes neither.
-pub enum ReadVerb {
-    Save,
-    Open,
-    Cell,
-    Report,
-    Request,
-    Decode,
-}
+pub const ASK: usize = 2;
 
-// What the bench meter does.
-pub enum MeterVerb {
-    Meter,
-    Power,
-    Slice,
-    Second,
-    Frame,
-    Record,
-    Shown,
-    Inquire,
-}
+pub const LAPSE: usize = 3;
 
-pub fn verb_of(w: &[u8]) -> Verb {
-    if check::same(w, b"log") {
-        return Verb::Log(LogVerb::Log);
-    }
-    if check::same(w, b"load") {
-        return Verb::Log(LogVerb::Load);
-    }
-    if check::same(w, b"ask") {
-        return Verb::Log(LogVerb::Ask);
-    }
-    if check::same(w, b"lapse") {
-        return Verb::Log(LogVerb::Lapse);
-    }
-    if check::same(w, b"reply") {
-        return Verb::Log(LogVerb::Reply);
-    }
-    read_verb(w)
-}
+pub const REPLY: usize = 4;
 
-fn read_verb(w: &[u8]) -> Verb {
-    if check::same(w, b"save") {
-        return Verb::Read(ReadVerb::Save);
-    }
-    if check::same(w, b"open") {
-        return Verb::Read(ReadVerb::Open);
-    }
-    if check::same(w, b"cell") {
-        return Verb::Read(ReadVerb::Cell);
-    }
-    if check::same(w, b"report") {
-        return Verb::Read(ReadVerb::Report);
-    }
-    if check::same(w, b"request") {
-        return Verb::Read(ReadVerb::Request);
-    }
-    if check::same(w, b"decode") {
-        return Verb::Read(ReadVerb::Decode);
-    }
-    meter_verb(w)
-}
+pub const SAVE: usize = 5;
 
-fn meter_verb(w: &[u8]) -> Verb {
-    if check::same(w, b"meter") {
-        return Verb::Meter(MeterVerb::Meter);
-    }
-    if check::same(w, b"power") {
-        return Verb::Meter(MeterVerb::Power);
-    }
-    if check::same(w, b"slice") {
-        return Verb::Meter(MeterVerb::Slice);
-    }
-    if check::same(w, b"second") {
-        return Verb::Meter(MeterVerb::Second);
-    }
-    if check::same(w, b"frame") {
-        return Verb::Meter(MeterVerb::Frame);
-    }
-    shown_verb(w)
-}
+pub const OPEN: usize = 6;
 
-// What the bench asks its meter without a wire.
-fn shown_verb(w: &[u8]) -> Verb {
-    if check::same(w, b"record") {
-        return Verb::Meter(MeterVerb::Record);
+pub const CELL: usize = 7;
+
+pub const REPORT: usize = 8;
+
+pub const REQUEST: usize = 9;
+
+pub const DECODE: usize = 10;
+
+// From here on the meter's.
+pub const FRAME: usize = 11;
+
+pub const RECORD: usize = 12;
+
+pub const SHOWN: usize = 13;
+
+pub const INQUIRE: usize = 14;
+
+// No name's: a line that is passed over.
+pub const NOTHING: usize = 15;
+
+// What has none of these names is the meter's as well.
+pub const OTHER: usize = 16;
+
+pub fn verb_of(line: &[u8]) -> usize {
+    if console::is_passed_over(line) {
+        return NOTHING;
     }
-    if check::same(w, b"shown") {
-        return Verb::Meter(MeterVerb::Shown);
-    }
-    if check::same(w, b"inquire") {
-        return Verb::Meter(MeterVerb::Inquire);
-    }
-    Verb::Unknown
+    let names =
+        b"log load ask lapse reply save open cell report request decode frame record shown inquire";
+    console::place_of(console::word(line, 0), names)
 }

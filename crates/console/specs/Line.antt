@@ -3,7 +3,7 @@ use Prim.Native.Nat.{ℕ, zero, suc, _+_, _-_, _<_, _≤_}
 use native.Mathlib.Numerals.{add-one}
 use native.Mathlib.Omega.{arith}
 use mathlib.Core.Path.{_≡_, refl, sym, ap, _∙_}
-use mathlib.Core.Bool.{cond}
+use mathlib.Core.Bool.{Bool, true, cond}
 use mathlib.Core.List.{List, [], _∷_}
 use lib.ListN.{take, drop, length, getD, length-drop, drop-of-length-le}
 use lib.Dec.{eqb, leb}
@@ -32,6 +32,10 @@ afterFirst s = drop (indexOf 32 s + 1) s
 unfoldable pub wordAt : ℕ → List ℕ → List ℕ
 wordAt zero s = firstWord s
 wordAt (suc k) s = wordAt k (afterFirst s)
+
+-- an empty line, or one that begins with #
+unfoldable pub isPassedOver : List ℕ → Bool
+isPassedOver s = cond (eqb (length s) 0) true (eqb (getD s 0 0) 35)
 
 -- ---- laws for the walks
 

@@ -5,7 +5,7 @@ use native.Mathlib.Omega.{arith}
 use mathlib.Core.Path.{_≡_, refl, sym, ap, ap₂, _∙_}
 use mathlib.Core.Bool.{cond}
 use mathlib.Core.List.{List, [], _∷_}
-use borrow.Author.Tests.{eq-eqb, ne-eqb}
+use borrow.Author.Tests.{eq-eqb, ne-eqb, lt-ltb, le-ltb}
 use lib.Dec.{ltb, eqb}
 use lib.ListN.{length}
 use Rattle.words.specs.Place.{byteAt, written}
@@ -19,17 +19,20 @@ use Rattle.console.specs.declared.value.ShortAnswer as S
 use Rattle.console.specs.declared.value.LongAnswer as L
 use Rattle.console.specs.declared.value.BytesAnswer as N
 
-unfoldable pub byteOf : NumberAnswer → B.ByteAnswer
-byteOf (Number n) = cond (ltb 255 n) B.the-variants.Unread (B.the-variants.Byte n)
-byteOf NotANumber = B.the-variants.Unread
+-- a number up to the most that an answer holds
+unfoldable pub upTo : {A : Type 0} → ℕ → (ℕ → A) → A → NumberAnswer → A
+upTo most of unread (Number n) = cond (ltb most n) unread (of n)
+upTo most of unread NotANumber = unread
 
-unfoldable pub shortOf : NumberAnswer → S.ShortAnswer
-shortOf (Number n) = cond (ltb 65535 n) S.the-variants.Unread (S.the-variants.Short n)
-shortOf NotANumber = S.the-variants.Unread
+-- a number of 8 bits, of 16 and of 32
+abbrev pub byteOf : NumberAnswer → B.ByteAnswer
+byteOf a = upTo 255 B.the-variants.Byte B.the-variants.Unread a
 
-unfoldable pub longOf : NumberAnswer → L.LongAnswer
-longOf (Number n) = cond (ltb 4294967295 n) L.the-variants.Unread (L.the-variants.Long n)
-longOf NotANumber = L.the-variants.Unread
+abbrev pub shortOf : NumberAnswer → S.ShortAnswer
+shortOf a = upTo 65535 S.the-variants.Short S.the-variants.Unread a
+
+abbrev pub longOf : NumberAnswer → L.LongAnswer
+longOf a = upTo 4294967295 L.the-variants.Long L.the-variants.Unread a
 
 -- the byte of two digits, the higher half first
 unfoldable pub lowOf : ℕ → HexAnswer → B.ByteAnswer
@@ -70,6 +73,20 @@ bytesRead digits out =
     (outcome N.the-variants.Unread out)
 
 -- ---- laws for the walk
+
+-- what an answer of any width is made of: the number that was read and told apart
+module _ {A : Type 0} (most : ℕ) (of : ℕ → A) (unread : A) (read text : NumberAnswer) (same : read ≡ text) where
+  pub fits : {n : ℕ} → read ≡ Number n → n ≤ most → of n ≡ upTo most of unread text
+  unfolding upTo
+  fits {n} e h = rw (sym same ∙ e, le-ltb most n h)
+
+  pub too-large : {n : ℕ} → read ≡ Number n → most < n → unread ≡ upTo most of unread text
+  unfolding upTo
+  too-large {n} e h = rw (sym same ∙ e, lt-ltb most n h)
+
+  pub no-number : read ≡ NotANumber → unread ≡ upTo most of unread text
+  unfolding upTo
+  no-number e = rw (sym same ∙ e)
 
 pub half-a-byte : (d out : List ℕ) → (length d % 2 ≡ 0 → ⊥) → outcome N.the-variants.Unread out ≡ bytesRead d out
 unfolding bytesRead

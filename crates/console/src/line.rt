@@ -1,8 +1,11 @@
 // A line and its words.
 ghost use mathlib.Core.Path.{_≡_};
-ghost use Rattle.console.specs.Line.{partOf, spacesIn, firstWord, afterFirst, wordAt};
+ghost use Rattle.console.specs.Line.{partOf, spacesIn, firstWord, afterFirst, wordAt, isPassedOver};
 
 const SPACE: u8 = 32;
+
+// #
+const COMMENT: u8 = 35;
 
 // The first bytes of a slice: nothing where it has fewer.
 pub fn part(s: &[u8], n: usize) -> &[u8]
@@ -57,4 +60,14 @@ pub fn word(line: &[u8], k: usize) -> &[u8]
         return first_word(line);
     }
     word(after_first(line), k - 1)
+}
+
+// Whether a line is passed over: an empty one, or a comment.
+pub fn is_passed_over(line: &[u8]) -> bool
+    ensures { λ r. ⌜ r ≡ isPassedOver (now (line .entry)) ⌝ }
+{
+    if line.len() == 0 {
+        return true;
+    }
+    words::byte_at(line, 0) == COMMENT
 }

@@ -28,19 +28,27 @@ pub enum BytesAnswer {
     Unread,
 }
 
-const MOST_BYTE: u64 = 255;
+// The largest numbers of 8 bits, of 16 and of 32.
+pub const BYTE: u64 = 255;
 
-const MOST_SHORT: u64 = 65535;
+pub const SHORT: u64 = 65535;
 
-const MOST_LONG: u64 = 4294967295;
+pub const LONG: u64 = 4294967295;
+
+// The number that a word of a line is.
+pub fn number_word(line: &[u8], k: usize) -> NumberAnswer
+    ensures { λ r. ⌜ r ≡ numberOfText (wordAt k (now (line .entry))) ⌝ }
+{
+    text::number_of(crate::line::word(line, k))
+}
 
 // A number of one byte.
 pub fn byte_word(line: &[u8], k: usize) -> ByteAnswer
     ensures { λ r. ⌜ r ≡ byteOf (numberOfText (wordAt k (now (line .entry)))) ⌝ }
 {
-    match text::number_of(crate::line::word(line, k)) {
+    match number_word(line, k) {
         NumberAnswer::Number(n) => {
-            if n <= MOST_BYTE {
+            if n <= BYTE {
                 ByteAnswer::Byte(n as u8)
             } else {
                 ByteAnswer::Unread
@@ -54,9 +62,9 @@ pub fn byte_word(line: &[u8], k: usize) -> ByteAnswer
 pub fn short_word(line: &[u8], k: usize) -> ShortAnswer
     ensures { λ r. ⌜ r ≡ shortOf (numberOfText (wordAt k (now (line .entry)))) ⌝ }
 {
-    match text::number_of(crate::line::word(line, k)) {
+    match number_word(line, k) {
         NumberAnswer::Number(n) => {
-            if n <= MOST_SHORT {
+            if n <= SHORT {
                 ShortAnswer::Short(n as u16)
             } else {
                 ShortAnswer::Unread
@@ -70,9 +78,9 @@ pub fn short_word(line: &[u8], k: usize) -> ShortAnswer
 pub fn long_word(line: &[u8], k: usize) -> LongAnswer
     ensures { λ r. ⌜ r ≡ longOf (numberOfText (wordAt k (now (line .entry)))) ⌝ }
 {
-    match text::number_of(crate::line::word(line, k)) {
+    match number_word(line, k) {
         NumberAnswer::Number(n) => {
-            if n <= MOST_LONG {
+            if n <= LONG {
                 LongAnswer::Long(n as u32)
             } else {
                 LongAnswer::Unread

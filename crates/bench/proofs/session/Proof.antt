@@ -6,11 +6,11 @@ use Rattle.bench.proofs.session.Statement.{statement}
 use Rattle.bench.proofs.session.Tie as tie
 
 abbrev Inv-loop : tie.InvT-loop
-Inv-loop image₀ store₀ line₀ kept₀ record₀ turns₀ image store line kept «record» turns =
-    (length line ≡ length line₀) × (length image ≡ length image₀) × (length store ≡ length store₀)
+Inv-loop image₀ store₀ line₀ block₀ kept₀ record₀ rest₀ turns₀ image store line block kept «record» rest turns =
+    (length line ≡ length line₀) × (length image ≡ length image₀) × (length store ≡ length store₀) × (length block ≡ length block₀)
 
 abbrev μ-loop : tie.MeasureT-loop
-μ-loop image₀ store₀ line₀ kept₀ record₀ turns₀ image store line kept «record» turns = turns
+μ-loop image₀ store₀ line₀ block₀ kept₀ record₀ rest₀ turns₀ image store line block kept «record» rest turns = turns
 
 loop-holds : tie.Need-loop-holds Inv-loop μ-loop
 loop-holds c = search needs
@@ -30,14 +30,17 @@ same-length-2 c = search needs
 same-length-3 : tie.Need-same-length-3 Inv-loop μ-loop
 same-length-3 c = search needs
 
+same-length-4 : tie.Need-same-length-4 Inv-loop μ-loop
+same-length-4 c = search needs
+
 returns : tie.Need-returns Inv-loop μ-loop
 returns c = search needs
 
-asked-requires : tie.Need-asked-requires Inv-loop μ-loop
-asked-requires c κs = search needs
-
 length-of-requires : tie.Need-length-of-requires Inv-loop μ-loop
 length-of-requires c κs = search needs
+
+asked-requires : tie.Need-asked-requires Inv-loop μ-loop
+asked-requires c κs = search needs
 
 part-requires : tie.Need-part-requires Inv-loop μ-loop
 part-requires c κs = search needs
@@ -52,26 +55,25 @@ on-meter-requires : tie.Need-on-meter-requires Inv-loop μ-loop
 on-meter-requires c κs = search needs
 
 sub-turns : tie.Need-sub-turns Inv-loop μ-loop
-sub-turns c = let turn = c .before .before .before .before .before .before .before .before .before .before .before .before .before .before .before .before .before .before .before .before .before in turn .loop-test .taken
+sub-turns c = c .before .before .before .before .before .before .before .before .before .before .before .before .before .before .before .before .before .before .before .before .before .before .before .before .before .loop-test .taken
 
 loop-less : tie.Need-loop-less Inv-loop μ-loop
-loop-less c = let turn = c .before .before .before .before .before .before .before .before .before .before .before .before .before .before .before .before .before .before .before .before .before in omega (arith, turn .loop-test .taken)
+loop-less c = omega (arith, c .before .before .before .before .before .before .before .before .before .before .before .before .before .before .before .before .before .before .before .before .before .before .before .before .before .loop-test .taken)
 
 loop-again : tie.Need-loop-again Inv-loop μ-loop
-loop-again c =
-    let called = c .before .before .before .before .before .before .before in
-    let read = called .before .before .before .before .before .before .before .before .before .before .before in
-    let held = read .before .before .before .before .loop .inv in
-    (read .line .given ∙ held .0, called .image .given ∙ held .1, c .before .store .given ∙ held .2)
-
-same-length-4 : tie.Need-same-length-4 Inv-loop μ-loop
-same-length-4 c = search needs
+loop-again c = let held = c .before .before .before .before .before .before .before .before .before .before .before .before .before .before .before .before .before .before .before .before .before .before .before .before .before .before .loop .inv in (c .before .before .before .before .before .before .before .before .before .before .before .before .before .before .before .before .before .before .before .line .given ∙ held .0, c .before .before .before .before .before .before .before .image .given ∙ held .1, c .before .store .given ∙ held .2, c .before .before .before .before .before .before .before .before .before .before .before .before .before .before .before .before .before .before .before .before .before .block .given ∙ held .3)
 
 same-length-5 : tie.Need-same-length-5 Inv-loop μ-loop
 same-length-5 c = search needs
 
 same-length-6 : tie.Need-same-length-6 Inv-loop μ-loop
 same-length-6 c = search needs
+
+same-length-7 : tie.Need-same-length-7 Inv-loop μ-loop
+same-length-7 c = search needs
+
+same-length-8 : tie.Need-same-length-8 Inv-loop μ-loop
+same-length-8 c = search needs
 
 returns-2 : tie.Need-returns-2 Inv-loop μ-loop
 returns-2 c = search needs
@@ -88,9 +90,10 @@ session-spec =
     same-length
     same-length-2
     same-length-3
+    same-length-4
     returns
-    asked-requires
     length-of-requires
+    asked-requires
     part-requires
     on-log-requires
     part-requires-2
@@ -98,7 +101,8 @@ session-spec =
     sub-turns
     loop-less
     loop-again
-    same-length-4
     same-length-5
     same-length-6
+    same-length-7
+    same-length-8
     returns-2)

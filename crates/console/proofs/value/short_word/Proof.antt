@@ -1,47 +1,30 @@
-use Rattle.console.specs.Value.{shortOf}
-use Rattle.text.specs.Reading.{numberOfText}
-use borrow.Author.Tests.{lt-ltb, le-ltb}
-use mathlib.Core.Path.{ap, sym, _∙_}
+use Rattle.console.specs.Value.{fits, too-large, no-number}
 use borrow.Author.Needs.{needs}
 use Rattle.console.proofs.value.short_word.Statement.{statement}
 use Rattle.console.proofs.value.short_word.Tie as tie
 
-word-requires : tie.Need-word-requires
-word-requires c κs = search needs
-
-number-of-requires : tie.Need-number-of-requires
-number-of-requires c κs = search needs
+number-word-requires : tie.Need-number-word-requires
+number-word-requires c κs = search needs
 
 enum-known-n : tie.Need-enum-known-n
 enum-known-n c = search needs
 
-cast-t9 : tie.Need-cast-t9
-cast-t9 c = search needs
+cast-t8 : tie.Need-cast-t8
+cast-t8 c = search needs
 
 enum-told : tie.Need-enum-told
 enum-told c = search needs
 
 returns : tie.Need-returns
-unfolding shortOf
-returns c = rw (sym (ap numberOfText (c .before .before .before .before .before .word .ensures)), sym (c .before .before .before .before .number-of .ensures), c .before .before .n .given .1, le-ltb _ _ (c .if1 .taken))
+returns c = fits _ _ _ _ _ (c .before .before .before .before .number-word .ensures) (c .before .before .n .given .1) (c .if1 .taken)
 
 returns-2 : tie.Need-returns-2
-unfolding shortOf
-returns-2 c = rw (sym (ap numberOfText (c .before .before .before .before .before .word .ensures)), sym (c .before .before .before .before .number-of .ensures), c .before .before .n .given .1, lt-ltb _ _ (c .if1 .left))
+returns-2 c = too-large _ _ _ _ _ (c .before .before .before .before .number-word .ensures) (c .before .before .n .given .1) (c .if1 .left)
 
 returns-3 : tie.Need-returns-3
-unfolding shortOf
-returns-3 c = rw (sym (ap numberOfText (c .before .before .before .word .ensures)), sym (c .before .before .number-of .ensures), c .enum-told .given .1)
+returns-3 c = no-number _ _ _ _ _ (c .before .before .number-word .ensures) (c .enum-told .given .1)
 
 pub short-word-spec : {M : Type 1} → statement M
 short-word-spec =
     tie.close
-    (tie.spec
-    word-requires
-    number-of-requires
-    enum-known-n
-    cast-t9
-    enum-told
-    returns
-    returns-2
-    returns-3)
+    (tie.spec number-word-requires enum-known-n cast-t8 enum-told returns returns-2 returns-3)

@@ -1,0 +1,27 @@
+use mathlib.Core.Path.{refl}
+use Rattle.console.specs.Form.{isUpTo}
+use Rattle.console.specs.Value.{fits, too-large, no-number}
+use borrow.Author.Needs.{needs}
+use Rattle.console.proofs.form.is_up_to.Statement.{statement}
+use Rattle.console.proofs.form.is_up_to.Tie as tie
+
+enum-known-a : tie.Need-enum-known-a
+enum-known-a c = search needs
+
+enum-told : tie.Need-enum-told
+enum-told c = search needs
+
+returns : tie.Need-returns
+unfolding isUpTo
+returns c = fits _ _ _ _ _ refl (c .before .before .a .given .1) (c .if1 .taken)
+
+returns-2 : tie.Need-returns-2
+unfolding isUpTo
+returns-2 c = too-large _ _ _ _ _ refl (c .before .before .a .given .1) (c .if1 .left)
+
+returns-3 : tie.Need-returns-3
+unfolding isUpTo
+returns-3 c = no-number _ _ _ _ _ refl (c .enum-told .given .1)
+
+pub is-up-to-spec : {M : Type 1} → statement M
+is-up-to-spec = tie.close (tie.spec enum-known-a enum-told returns returns-2 returns-3)

@@ -1,0 +1,14 @@
+// The console's lines that set the bench meter: `meter`, `power`, `slice` and `second`. Each gives the answer and with it the record
+// that stands after the line; a line that is refused or not read changes nothing.
+mod answer;
+mod making;
+mod power;
+mod seconds;
+mod setting;
+mod slice;
+
+pub use answer::LineAnswer;
+pub use answer::record_after;
+pub use making::first;
+pub use seconds::seconds_later;
+pub use setting::set;
