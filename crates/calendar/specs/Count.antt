@@ -2,9 +2,10 @@
 use Prim.Native.Nat.{ℕ, zero, suc, _+_, _-_, _≤_, _<_}
 use native.Mathlib.Omega.{arith}
 use mathlib.Core.Path.{_≡_, refl}
-use mathlib.Core.Bool.{Bool, true, false, cond}
+use mathlib.Core.Bool.{Bool, true, false, cond, _&&_}
 use lib.Dec.{ltb}
 use borrow.Author.Tests.{ltb-true, ltb-false, lt-ltb, le-ltb}
+use Rattle.decide.specs.Test.{both}
 
 -- a place in a row of pieces: the piece's number from 0, and how far into the piece
 pub record Place : Type 0 where
@@ -84,3 +85,23 @@ module _ (len : ℕ → ℕ) where
   -- counting off always finds a place, where there is one
   pub counts-off : (N n : ℕ) → n < starts len N → Lies len N n (countOff len N 0 n)
   counts-off N n h = let w = located N n h in rw (counted N n (w .0) (w .1)) (w .1)
+
+-- ---- A test at every piece, which antt computes in one walk along the row
+
+-- the test f passes at n pieces, from piece k on, which begins at s: f sees a piece's number and its beginning
+unfoldable pub everyPiece : (ℕ → ℕ) → (ℕ → ℕ → Bool) → ℕ → ℕ → ℕ → Bool
+everyPiece len f zero k s = true
+everyPiece len f (suc n) k s = f k s && everyPiece len f n (suc k) (s + len k)
+
+-- so it passes at any of them
+pub at-piece : (len : ℕ → ℕ) (f : ℕ → ℕ → Bool) (n j : ℕ) → everyPiece len f n j (starts len j) ≡ true
+    → (k : ℕ) → j ≤ k → k < j + n → f k (starts len k) ≡ true
+unfolding everyPiece starts
+at-piece len f zero j t k h l = absurd (omega arith)
+at-piece len f (suc n) j t k h l = go (ltb j k) refl (at-piece len f n (suc j) (both (f j (starts len j)) _ t .1) k)
+  where
+    go : (b : Bool) → ltb j k ≡ b → (suc j ≤ k → k < suc j + n → f k (starts len k) ≡ true) → f k (starts len k) ≡ true
+    go true e rec = rec (ltb-true j k e) (omega arith)
+    go false e rec =
+        let q : k ≡ j = omega (arith, ltb-false j k e) in
+        rw q (both (f j (starts len j)) _ t .0)

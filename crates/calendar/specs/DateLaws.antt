@@ -8,10 +8,12 @@ use mathlib.Core.Bool.{Bool, true, false, cond, _&&_, _||_, Bool·beq, and-false
 use lib.Dec.{ltb, leb, eqb}
 use lib.ListN.{getD, List·getD-eq-default}
 use borrow.Author.Tests.{ltb-true, ltb-false, leb-true, leb-false, eqb-true, lt-ltb, le-ltb, le-leb, ne-eqb}
-use Rattle.decide.specs.Test.{both, chosen, everyBelow, below}
+use Rattle.decide.specs.Test.{both, everyBelow, below}
 use Rattle.calendar.specs.Count.{Place, Lies, starts, countOff, starts-mono, ends-before, counted, counts-off}
 use Rattle.calendar.specs.Date.{leap, monthLengths, daysInMonth, lengthOf, daysBefore, centuryDays, isDate, monthNumber, dayNumber, dateAt, dateOf, dateOn, dateBack, daysLater, daysEarlier}
+use Rattle.calendar.specs.Numbered.{Numbered, NumberedBefore, Numbering, same, answered, answers, later, earlier}
 use Rattle.calendar.specs.declared.date.Date.{Date}
+use Rattle.calendar.specs.declared.date.DateAnswer.{DateAnswer}
 use Rattle.calendar.specs.declared.date.DateAnswer.the-variants.{On, NotADate, OutOfRange}
 
 -- ---- Months
@@ -158,9 +160,8 @@ day-of-month d h = go (leb (d .day) (daysInMonth (d .year) (d .month))) refl
     go false e = rw (e, and-false)
 
 -- d is the date with day number n
-pub record DateIs (n : ℕ) (d : Date) : Type 0 where
-  pub valid : isDate d ≡ true
-  pub number : dayNumber d ≡ n
+abbrev pub DateIs : ℕ → Date → Type 0
+DateIs = Numbered isDate dayNumber
 
 -- a day of a month has the month's days before it
 pub date-at : (n : ℕ) (p : Place) → Lies lengthOf 1200 n p → DateIs n (dateAt p)
@@ -206,9 +207,28 @@ number-below d e =
     let l = date-lies d e in
     omega (arith, l .rest-below, ends-before lengthOf (monthNumber d) 1200 (l .piece-below), century)
 
+-- dates are numbered by their days
+dates : Numbering Date DateAnswer
+dates = record {
+  isValid = isDate;
+  numberOf = dayNumber;
+  bound = centuryDays;
+  nth = dateOf;
+  found = On;
+  outside = OutOfRange;
+  none = NotADate;
+  nth-is = date-of;
+  nth-number = date-of-number;
+  number-below = number-below;
+  found-one = λ d e p. cc;
+  outside≢found = λ d p. let z : _≡_ {A = ℕ} 0 1 = cc in omega arith;
+  none≢found = λ d p. let z : _≡_ {A = ℕ} 0 1 = cc in omega arith;
+}
+
 -- two dates with one day number are one date
 pub same-number : (d e : Date) → isDate d ≡ true → isDate e ≡ true → dayNumber d ≡ dayNumber e → d ≡ e
-same-number d e p q s = sym (date-of-number d p) ∙ ap dateOf s ∙ date-of-number e q
+unfolding dates
+same-number = same dates
 
 -- the first of a month has the month's days before it
 pub first-of-month : (d : Date) → isDate d ≡ true → d .day ≤ 1 → daysBefore (monthNumber d) ≡ dayNumber d
@@ -217,44 +237,27 @@ first-of-month d e h = omega (arith, ranges d e .day-from)
 
 -- ---- Days later and earlier
 
-outside≢on : (e : Date) → OutOfRange ≡ On e → ⊥
-outside≢on e p = let z : _≡_ {A = ℕ} 0 1 = cc in omega arith
-
-none≢on : (e : Date) → NotADate ≡ On e → ⊥
-none≢on e p = let z : _≡_ {A = ℕ} 0 1 = cc in omega arith
-
 -- the answer at a day number is the one date that has it
 pub date-on : (n : ℕ) (e : Date) → DateIs n e → dateOn n ≡ On e
-unfolding dateOn
-date-on n e s =
-    let h : n < centuryDays = rw (s .number) at (number-below e (s .valid)) in
-    let q : dateOf n ≡ e = rw (s .number) at (date-of-number e (s .valid)) in
-    rw (lt-ltb _ _ h, q)
+unfolding dates dateOn
+date-on = answered dates
 
 pub on-date : (n : ℕ) (e : Date) → dateOn n ≡ On e → DateIs n e
-unfolding dateOn
-on-date n e p =
-    let w = chosen (ltb n centuryDays) (On (dateOf n)) OutOfRange p (outside≢on e) in
-    let s : dateOf n ≡ e = cc (w .1) in
-    rw s at (date-of n (ltb-true _ _ (w .0)))
+unfolding dates dateOn
+on-date = answers dates
 
 -- n days later the day number is n more
 pub days-later : (d : Date) (n : ℕ) (e : Date) → daysLater d n ≡ On e → DateIs (dayNumber d + n) e
-unfolding daysLater
-days-later d n e p = on-date _ e (chosen (isDate d) (dateOn (dayNumber d + n)) NotADate p (none≢on e) .1)
+unfolding dates daysLater dateOn
+days-later = later dates
 
 -- n days earlier it is n less
-pub record Earlier (d : Date) (n : ℕ) (e : Date) : Type 0 where
-  pub valid : isDate e ≡ true
-  pub number : dayNumber e + n ≡ dayNumber d
+abbrev pub Earlier : Date → ℕ → Date → Type 0
+Earlier = NumberedBefore isDate dayNumber
 
 pub days-earlier : (d : Date) (n : ℕ) (e : Date) → daysEarlier d n ≡ On e → Earlier d n e
-unfolding daysEarlier dateBack
-days-earlier d n e p =
-    let v = chosen (isDate d) (dateBack (dayNumber d) n) NotADate p (none≢on e) in
-    let w = chosen (leb n (dayNumber d)) (dateOn (dayNumber d - n)) OutOfRange (v .1) (outside≢on e) in
-    let s = on-date (dayNumber d - n) e (w .1) in
-    record { valid = s .valid; number = omega (arith, s .number, leb-true n (dayNumber d) (w .0)) }
+unfolding dates daysEarlier dateBack dateOn
+days-earlier = earlier dates
 
 -- days that fit into a month are a date of it
 pub date-found : (k r : ℕ) → k < 1200 → r < lengthOf k → dateOn (daysBefore k + r) ≡ On (dateAt (record { piece = k; rest = r }))
@@ -262,7 +265,7 @@ date-found k r hk hr = date-on _ _ (date-at _ (record { piece = k; rest = r }) (
 
 -- no day is left after the last month
 pub date-past : (k r : ℕ) → 1200 ≤ k → dateOn (daysBefore k + r) ≡ OutOfRange
-unfolding dateOn
+unfolding dates dateOn
 date-past k r h = rw (le-ltb (daysBefore k + r) centuryDays (omega (arith, century, starts-mono lengthOf 1200 k h)))
 
 -- the day before a later day of a month

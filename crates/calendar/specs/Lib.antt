@@ -7,3 +7,4 @@ pub mod SundayLaws
 pub mod Examples
 pub mod Steps
 pub mod Count
+pub mod Numbered

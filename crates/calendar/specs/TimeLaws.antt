@@ -2,18 +2,20 @@
 -- many second numbers on and back.
 use Prim.Native.Nat.{ℕ, _+_, _*_, _-_, _/_, _%_, _≤_, _<_}
 use native.Mathlib.Omega.{arith}
-use mathlib.Core.Path.{_≡_, refl, sym, _∙_, ap}
+use mathlib.Core.Path.{_≡_, refl, ap}
 use mathlib.Core.Bool.{Bool, true, false}
 use lib.Dec.{ltb, leb}
 use borrow.Author.Tests.{ltb-true, ltb-false, leb-true, leb-false, lt-ltb, le-ltb, le-leb, lt-leb}
-use Rattle.decide.specs.Test.{both, chosen}
+use Rattle.decide.specs.Test.{both}
 use Rattle.calendar.specs.Count.{ends-before}
 use Rattle.calendar.specs.Date.{centuryDays, isDate, lengthOf, daysBefore, monthNumber, dayNumber, dateOf, dateOn, dateBack, daysLater, daysEarlier}
 use Rattle.calendar.specs.DateLaws.{DateIs, date-lies, date-of, date-of-number, number-below, date-on, length-range}
 use Rattle.calendar.specs.Time.{isTime, secondNumber, centurySeconds, timeOf, timeAt, timeBack, secondsLater, secondsEarlier, orderOf}
 use Rattle.calendar.specs.Steps.{onDay, dateKey, sortKey}
+use Rattle.calendar.specs.Numbered.{Numbered, NumberedBefore, Numbering, same, answered, answers, later, earlier}
 use Rattle.calendar.specs.declared.date.Date.{Date}
 use Rattle.calendar.specs.declared.time.DateTime.{DateTime}
+use Rattle.calendar.specs.declared.time.TimeAnswer.{TimeAnswer}
 use Rattle.calendar.specs.declared.time.TimeAnswer.the-variants.{At, NotATime, OutOfRange}
 use Rattle.calendar.specs.declared.time.Order.the-variants.{Before, Same, After}
 
@@ -37,9 +39,8 @@ unfolding isTime
 is-time t r = simp (r .date, lt-ltb _ _ (r .hour-below), lt-ltb _ _ (r .minute-below), lt-ltb _ _ (r .second-below))
 
 -- t is the time with second number n
-pub record TimeIs (n : ℕ) (t : DateTime) : Type 0 where
-  pub valid : isTime t ≡ true
-  pub number : secondNumber t ≡ n
+abbrev pub TimeIs : ℕ → DateTime → Type 0
+TimeIs = Numbered isTime secondNumber
 
 -- the second numbers below the century's seconds are the times'
 pub time-of : (n : ℕ) → n < centurySeconds → TimeIs n (timeOf n)
@@ -70,54 +71,56 @@ second-below t e =
     let r = time-ranges t e in
     omega (arith, number-below (t .date) (r .date), r .hour-below, r .minute-below, r .second-below)
 
+-- times are numbered by their seconds
+times : Numbering DateTime TimeAnswer
+times = record {
+  isValid = isTime;
+  numberOf = secondNumber;
+  bound = centurySeconds;
+  nth = timeOf;
+  found = At;
+  outside = OutOfRange;
+  none = NotATime;
+  nth-is = time-of;
+  nth-number = time-of-number;
+  number-below = second-below;
+  found-one = λ t u p. cc;
+  outside≢found = λ t p. let z : _≡_ {A = ℕ} 0 1 = cc in omega arith;
+  none≢found = λ t p. let z : _≡_ {A = ℕ} 0 1 = cc in omega arith;
+}
+
 -- two times with one second number are one time
 pub same-second : (a b : DateTime) → isTime a ≡ true → isTime b ≡ true → secondNumber a ≡ secondNumber b → a ≡ b
-same-second a b p q s = sym (time-of-number a p) ∙ ap timeOf s ∙ time-of-number b q
+unfolding times
+same-second = same times
 
 -- ---- Seconds later and earlier
 
-outside≢at : (t : DateTime) → OutOfRange ≡ At t → ⊥
-outside≢at t p = let z : _≡_ {A = ℕ} 0 1 = cc in omega arith
-
-none≢at : (t : DateTime) → NotATime ≡ At t → ⊥
-none≢at t p = let z : _≡_ {A = ℕ} 0 1 = cc in omega arith
-
 -- the answer at a second number is the one time that has it
 pub time-at : (n : ℕ) (t : DateTime) → TimeIs n t → timeAt n ≡ At t
-unfolding timeAt
-time-at n t s =
-    let h : n < centurySeconds = rw (s .number) at (second-below t (s .valid)) in
-    let q : timeOf n ≡ t = rw (s .number) at (time-of-number t (s .valid)) in
-    rw (lt-ltb _ _ h, q)
+unfolding times timeAt
+time-at = answered times
 
 pub time-past : (n : ℕ) → centurySeconds ≤ n → timeAt n ≡ OutOfRange
-unfolding timeAt
+unfolding times timeAt
 time-past n h = rw (le-ltb _ _ h)
 
 pub at-time : (n : ℕ) (t : DateTime) → timeAt n ≡ At t → TimeIs n t
-unfolding timeAt
-at-time n t p =
-    let w = chosen (ltb n centurySeconds) (At (timeOf n)) OutOfRange p (outside≢at t) in
-    let s : timeOf n ≡ t = cc (w .1) in
-    rw s at (time-of n (ltb-true _ _ (w .0)))
+unfolding times timeAt
+at-time = answers times
 
 -- n seconds later the second number is n more
 pub seconds-later : (t : DateTime) (n : ℕ) (u : DateTime) → secondsLater t n ≡ At u → TimeIs (secondNumber t + n) u
-unfolding secondsLater
-seconds-later t n u p = at-time _ u (chosen (isTime t) (timeAt (secondNumber t + n)) NotATime p (none≢at u) .1)
+unfolding times secondsLater timeAt
+seconds-later = later times
 
 -- n seconds earlier it is n less
-pub record TimeEarlier (t : DateTime) (n : ℕ) (u : DateTime) : Type 0 where
-  pub valid : isTime u ≡ true
-  pub number : secondNumber u + n ≡ secondNumber t
+abbrev pub TimeEarlier : DateTime → ℕ → DateTime → Type 0
+TimeEarlier = NumberedBefore isTime secondNumber
 
 pub seconds-earlier : (t : DateTime) (n : ℕ) (u : DateTime) → secondsEarlier t n ≡ At u → TimeEarlier t n u
-unfolding secondsEarlier timeBack
-seconds-earlier t n u p =
-    let v = chosen (isTime t) (timeBack (secondNumber t) n) NotATime p (none≢at u) in
-    let w = chosen (leb n (secondNumber t)) (timeAt (secondNumber t - n)) OutOfRange (v .1) (outside≢at u) in
-    let s = at-time (secondNumber t - n) u (w .1) in
-    record { valid = s .valid; number = omega (arith, s .number, leb-true n (secondNumber t) (w .0)) }
+unfolding times secondsEarlier timeBack timeAt
+seconds-earlier = earlier times
 
 -- the next second adds one to the second number, and an hour later is 3,600 on
 pub next-second : (t u : DateTime) → secondsLater t 1 ≡ At u → secondNumber u ≡ secondNumber t + 1

@@ -1,13 +1,13 @@
 // Changes: which fit, and the record after one.
 use crate::parts::DATA;
 use crate::parts::DETAIL;
+use crate::remade;
 use figures::Telemetry;
 use frame::code::Parameter;
 use meter_record::Password;
 use meter_record::Passwords;
 use meter_record::Record;
 use second::SwitchDate;
-use second::Time;
 ghost use mathlib.Core.Path.{_≡_};
 ghost use Rattle.command.specs.Change.{changeable, changeBytes, telemetryFits, detailFits, dataFits, passwordsAfter, changed, zeroable, zeroed};
 
@@ -124,49 +124,27 @@ fn passwords_after(p: Passwords, detail: u8, password: u64) -> Passwords
 pub fn changed(p: Parameter, r: Record, frame: &[u8]) -> Record
     ensures { λ a. ⌜ a ≡ changed p r (now (frame .entry)) ⌝ }
 {
-    let time = r.time;
+    let passwords = r.passwords;
     let bytes = words::tail(frame, DATA);
     match p {
-        Parameter::Address => Record {
-            address: words::byte_at(bytes, 0),
-            ..r
-        },
-        Parameter::Telemetry => Record {
-            telemetry: figures::telemetry_of(bytes),
-            ..r
-        },
-        Parameter::SummerDate => Record {
-            time: Time {
-                summer: SwitchDate::ByHand(figures::date_time_of(bytes)),
-                ..time
-            },
-            ..r
-        },
-        Parameter::WinterDate => Record {
-            time: Time {
-                winter: SwitchDate::ByHand(figures::date_time_of(bytes)),
-                ..time
-            },
-            ..r
-        },
-        Parameter::Clock => Record {
-            time: Time {
-                clock: figures::date_time_of(bytes),
-                ..time
-            },
-            ..r
-        },
-        Parameter::DisplayMask => Record {
-            mask: figures::display_mask(bytes),
-            ..r
-        },
+        Parameter::Address => remade::with_address(r, words::byte_at(bytes, 0)),
+        Parameter::Telemetry => remade::with_telemetry(r, figures::telemetry_of(bytes)),
+        Parameter::SummerDate => remade::with_summer(
+            r,
+            SwitchDate::ByHand(figures::date_time_of(bytes)),
+        ),
+        Parameter::WinterDate => remade::with_winter(
+            r,
+            SwitchDate::ByHand(figures::date_time_of(bytes)),
+        ),
+        Parameter::Clock => remade::with_clock(r, figures::date_time_of(bytes)),
+        Parameter::DisplayMask => remade::with_mask(r, figures::display_mask(bytes)),
         Parameter::Password => {
-            let passwords = r.passwords;
             let detail = words::byte_at(frame, DETAIL);
-            Record {
-                passwords: passwords_after(passwords, detail, words::u64_at(bytes, 0)),
-                ..r
-            }
+            remade::with_passwords(
+                r,
+                passwords_after(passwords, detail, words::u64_at(bytes, 0)),
+            )
         }
         Parameter::ActivePower => r,
         Parameter::ReactivePower => r,
@@ -199,23 +177,10 @@ pub fn is_zeroable(p: Parameter) -> bool
 pub fn zeroed(p: Parameter, r: Record) -> Record
     ensures { λ a. ⌜ a ≡ zeroed p r ⌝ }
 {
-    let time = r.time;
     match p {
-        Parameter::SummerDate => Record {
-            time: Time {
-                summer: SwitchDate::Automatic,
-                ..time
-            },
-            ..r
-        },
-        Parameter::WinterDate => Record {
-            time: Time {
-                winter: SwitchDate::Automatic,
-                ..time
-            },
-            ..r
-        },
-        Parameter::Slice => Record { next: 0, ..r },
+        Parameter::SummerDate => remade::with_summer(r, SwitchDate::Automatic),
+        Parameter::WinterDate => remade::with_winter(r, SwitchDate::Automatic),
+        Parameter::Slice => remade::with_next(r, 0),
         Parameter::Address => r,
         Parameter::Telemetry => r,
         Parameter::Clock => r,

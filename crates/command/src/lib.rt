@@ -6,6 +6,7 @@ mod access;
 mod change;
 mod judgement;
 mod parts;
+mod remade;
 mod verdict;
 
 pub use access::level_for;

@@ -22,6 +22,11 @@ pub chosen : {A : Type 0} (b : Bool) (x y : A) {z : A} → cond b x y ≡ z → 
 chosen true x y p other = (refl, p)
 chosen false x y p other = absurd (other p)
 
+-- what holds on both sides of a test
+pub either : {X : Type 0} (P : X → Type 0) (b : Bool) {x y : X} → P x → P y → P (cond b x y)
+either P true p q = p
+either P false p q = q
+
 -- the test f passes at each number below n
 unfoldable pub everyBelow : (ℕ → Bool) → ℕ → Bool
 everyBelow f zero = true

@@ -9,6 +9,7 @@ use Prim.Native.Nat.{ℕ}
 use lib.Dec.{eqb, leb}
 use lib.ListN.{length}
 use borrow.Author.Tests.{eqb-true}
+use Rattle.decide.specs.Test.{either}
 use Rattle.words.specs.Place.{byteAt, numberAt}
 use Rattle.frame.specs.declared.code.Function.{Function}
 use Rattle.frame.specs.declared.code.Function.the-variants as function
@@ -31,7 +32,7 @@ use Rattle.command.specs.declared.verdict.Verdict.{Verdict}
 use Rattle.command.specs.declared.verdict.Verdict.the-variants.{Done, WrongLength, NoAccess, WrongArgument}
 use Rattle.meter.specs.Effect.{renewed, afterOf, afterBy, isSlice, clears, clearsBy, storeAfter}
 use Rattle.meter.specs.Reply.{Outcome, answerOf}
-use Rattle.demands.specs.Demand1.{either, answer-told}
+use Rattle.demands.specs.Demand1.{answer-told}
 use Rattle.demands.specs.Demand2.{passed}
 
 -- ---- the claim

@@ -124,11 +124,6 @@ done before after = record { told = refl; stays = λ n. absurd (n refl) }
 kept : {A : Type 0} (number : ℕ) (x : A) → inTable number ≡ true → Demand1 number x x
 kept number x t = record { told = t; stays = λ n. refl }
 
--- what holds on both sides of a test
-pub either : {X : Type 0} (P : X → Type 0) (b : Bool) {x y : X} → P x → P y → P (cond b x y)
-either P true p q = p
-either P false p q = q
-
 -- ---- requests
 
 pub request-told : (q : Request) (out : List ℕ)

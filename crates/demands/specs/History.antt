@@ -9,6 +9,7 @@ use borrow.Author.Tests.{ltb-true, ltb-false}
 use lib.Dec.{eqb, ltb}
 use lib.ListN.{length, getD, List·getD-eq-default}
 use lib.Seq.{ext-getD}
+use Rattle.decide.specs.Test.{either}
 use Rattle.words.specs.Place.{Apart, byteAt, numberAt, byteAt-kept}
 use Rattle.frame.specs.Code.{slice}
 use Rattle.reader.specs.Form.{formOf}
@@ -38,7 +39,6 @@ use Rattle.logger.specs.declared.held.OpenAsk.{OpenAsk}
 use Rattle.logger.specs.declared.held.OpenAsk.the-variants.{Closed, Open}
 use Rattle.logger.specs.declared.take.Update.{Update}
 use Rattle.logger.specs.declared.take.Update.the-variants.{Put, Keep, Conflict}
-use Rattle.demands.specs.Demand1.{either}
 
 -- ---- a list of calls
 

@@ -74,17 +74,20 @@ timeOr time.OutOfRange t = t
 abbrev pub shows : Time → DateTime → Season → Time
 shows t u s = record { clock = u; season = s; summer = t .summer; winter = t .winter }
 
+-- the clock at u, or, if a season begins there, at the time that is shown then
+unfoldable pub switched : Time → DateTime → DateTime → DateTime → Season → Time
+unfolding sameTime
+switched t u begins shown s = cond (sameTime u begins) (shows t shown s) (shows t u (t .season))
+
 -- "In summer season the second that would reach 03:00:00 on the last Sunday of October gives 02:00:00 and winter."
 unfoldable pub intoWinter : Time → DateTime → Time
-unfolding sameTime
-intoWinter t u =
-    cond (sameTime u (winterDate (t .winter) (u .date .year))) (shows t (timeOr (secondsEarlier u 3600) u) Winter) (shows t u (t .season))
+unfolding switched
+intoWinter t u = switched t u (winterDate (t .winter) (u .date .year)) (timeOr (secondsEarlier u 3600) u) Winter
 
 -- "In winter season the one that would reach 02:00:00 on the last Sunday of March gives 03:00:00 and summer."
 unfoldable pub intoSummer : Time → DateTime → Time
-unfolding sameTime
-intoSummer t u =
-    cond (sameTime u (summerDate (t .summer) (u .date .year))) (shows t (timeOr (secondsLater u 3600) u) Summer) (shows t u (t .season))
+unfolding switched
+intoSummer t u = switched t u (summerDate (t .summer) (u .date .year)) (timeOr (secondsLater u 3600) u) Summer
 
 unfoldable pub inSeason : Season → Time → DateTime → Time
 unfolding intoWinter intoSummer

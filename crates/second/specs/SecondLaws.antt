@@ -6,7 +6,7 @@ use Prim.Native.Nat.{ℕ, _+_, _-_, _≤_, _<_}
 use native.Mathlib.Omega.{arith}
 use lib.Dec.{leb, ltb}
 use borrow.Author.Tests.{le-leb, lt-ltb, leb-true, leb-false, eqb-true}
-use Rattle.decide.specs.Test.{both}
+use Rattle.decide.specs.Test.{both, either}
 use Rattle.calendar.specs.Date.{daysInMonth}
 use Rattle.calendar.specs.Sunday.{lastSunday, lastSundayOf}
 use Rattle.calendar.specs.Time.{isTime, secondNumber, centurySeconds, timeAt, timeBack, secondsLater, secondsEarlier}
@@ -15,7 +15,7 @@ use Rattle.calendar.specs.declared.time.DateTime.{DateTime}
 use Rattle.calendar.specs.declared.time.TimeAnswer.{TimeAnswer}
 use Rattle.calendar.specs.declared.time.TimeAnswer.the-variants as time
 use Rattle.second.specs.Protection.{opened, isRunning, isProtection, quietSecond}
-use Rattle.second.specs.Season.{dayOf, isSwitchable, isChoice, isFitting, timeOr, shows, intoWinter, intoSummer, inSeason, reached, nextTime, sameTime, summerDate, winterDate}
+use Rattle.second.specs.Season.{dayOf, isSwitchable, isChoice, isFitting, timeOr, shows, switched, intoWinter, intoSummer, inSeason, reached, nextTime, sameTime, summerDate, winterDate}
 use Rattle.second.specs.declared.protection.Level.{Level}
 use Rattle.second.specs.declared.protection.Level.the-variants.{Shut, Auxiliary, Main}
 use Rattle.second.specs.declared.protection.Protection.{Protection}
@@ -58,20 +58,11 @@ hours-beside t = go (isTime t) refl (leb 3600 (secondNumber t)) refl (ltb (secon
 
 -- ---- a second keeps the ranges
 
--- what both values of a choice pass
-either : {A : Type 0} (f : A → Bool) (b : Bool) (x y : A) → f x ≡ true → f y ≡ true → f (cond b x y) ≡ true
-either f true x y p q = p
-either f false x y p q = q
-
-later-is-time : (u : DateTime) (n : ℕ) (a : TimeAnswer) → secondsLater u n ≡ a → isTime u ≡ true → isTime (timeOr a u) ≡ true
-later-is-time u n (time.At v) e h = seconds-later u n v e .valid
-later-is-time u n time.NotATime e h = h
-later-is-time u n time.OutOfRange e h = h
-
-earlier-is-time : (u : DateTime) (n : ℕ) (a : TimeAnswer) → secondsEarlier u n ≡ a → isTime u ≡ true → isTime (timeOr a u) ≡ true
-earlier-is-time u n (time.At v) e h = seconds-earlier u n v e .valid
-earlier-is-time u n time.NotATime e h = h
-earlier-is-time u n time.OutOfRange e h = h
+-- the time that the calendar answered, or the one that it was asked about
+answer-is-time : (u : DateTime) (a : TimeAnswer) → ((v : DateTime) → a ≡ time.At v → isTime v ≡ true) → isTime u ≡ true → isTime (timeOr a u) ≡ true
+answer-is-time u (time.At v) f h = f v refl
+answer-is-time u time.NotATime f h = h
+answer-is-time u time.OutOfRange f h = h
 
 -- what fits, part by part
 pub record Fitting (t : Time) : Type 0 where
@@ -94,22 +85,16 @@ is-fitting t f = ap₂ _&&_ (ap₂ _&&_ (f .clock) (f .summer)) (f .winter)
 moved-fits : (t : Time) (u : DateTime) (s : Season) → isFitting t ≡ true → isTime u ≡ true → isFitting (shows t u s) ≡ true
 moved-fits t u s h e = let f = fitting t h in is-fitting (shows t u s) (record { clock = e; summer = f .summer; winter = f .winter })
 
-into-winter-fits : (t : Time) (u : DateTime) → isFitting t ≡ true → isTime u ≡ true → isFitting (intoWinter t u) ≡ true
-unfolding intoWinter
-into-winter-fits t u h e =
-    either isFitting (sameTime u (winterDate (t .winter) (u .date .year))) _ _
-    (moved-fits t _ Winter h (earlier-is-time u 3600 (secondsEarlier u 3600) refl e)) (moved-fits t u (t .season) h e)
-
-into-summer-fits : (t : Time) (u : DateTime) → isFitting t ≡ true → isTime u ≡ true → isFitting (intoSummer t u) ≡ true
-unfolding intoSummer
-into-summer-fits t u h e =
-    either isFitting (sameTime u (summerDate (t .summer) (u .date .year))) _ _
-    (moved-fits t _ Summer h (later-is-time u 3600 (secondsLater u 3600) refl e)) (moved-fits t u (t .season) h e)
+switched-fits : (t : Time) (u begins shown : DateTime) (s : Season) → isFitting t ≡ true → isTime u ≡ true → isTime shown ≡ true
+    → isFitting (switched t u begins shown s) ≡ true
+unfolding switched
+switched-fits t u begins shown s h e g =
+    either (λ x. isFitting x ≡ true) (sameTime u begins) (moved-fits t shown s h g) (moved-fits t u (t .season) h e)
 
 reached-fits : (s : Season) (t : Time) (u : DateTime) → isFitting t ≡ true → isTime u ≡ true → isFitting (inSeason s t u) ≡ true
-unfolding inSeason
-reached-fits Winter t u h e = into-summer-fits t u h e
-reached-fits Summer t u h e = into-winter-fits t u h e
+unfolding inSeason intoSummer intoWinter
+reached-fits Winter t u h e = switched-fits t u _ _ Summer h e (answer-is-time u (secondsLater u 3600) (λ v p. seconds-later u 3600 v p .valid) e)
+reached-fits Summer t u h e = switched-fits t u _ _ Winter h e (answer-is-time u (secondsEarlier u 3600) (λ v p. seconds-earlier u 3600 v p .valid) e)
 
 pub next-fits : (t : Time) → isFitting t ≡ true → isFitting (nextTime t) ≡ true
 unfolding nextTime reached

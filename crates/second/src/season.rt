@@ -4,7 +4,7 @@ use calendar::DateAnswer;
 use calendar::DateTime;
 use calendar::TimeAnswer;
 ghost use mathlib.Core.Path.{_≡_};
-ghost use Rattle.second.specs.Season.{dayOf, onHour, chosenDate, summerDate, winterDate, isSwitchable, isChoice, isFitting, sameDate, sameTime, timeOr, reached, intoWinter, intoSummer, nextTime};
+ghost use Rattle.second.specs.Season.{dayOf, onHour, chosenDate, summerDate, winterDate, isSwitchable, isChoice, isFitting, sameDate, sameTime, timeOr, reached, switched, intoWinter, intoSummer, nextTime};
 
 pub enum Season {
     Winter,
@@ -187,15 +187,13 @@ fn into_winter(t: Time, u: DateTime) -> Time
 {
     let winter = t.winter;
     let date = u.date;
-    if same_time(u, winter_date(winter, date.year)) {
-        Time {
-            clock: time_or(calendar::hour_earlier(u), u),
-            season: Season::Winter,
-            ..t
-        }
-    } else {
-        Time { clock: u, ..t }
-    }
+    switched(
+        t,
+        u,
+        winter_date(winter, date.year),
+        time_or(calendar::hour_earlier(u), u),
+        Season::Winter,
+    )
 }
 
 fn into_summer(t: Time, u: DateTime) -> Time
@@ -203,10 +201,23 @@ fn into_summer(t: Time, u: DateTime) -> Time
 {
     let summer = t.summer;
     let date = u.date;
-    if same_time(u, summer_date(summer, date.year)) {
+    switched(
+        t,
+        u,
+        summer_date(summer, date.year),
+        time_or(calendar::hour_later(u), u),
+        Season::Summer,
+    )
+}
+
+// The clock at u, or, if a season begins there, at the time that it begins with.
+fn switched(t: Time, u: DateTime, begins: DateTime, shown: DateTime, season: Season) -> Time
+    ensures { λ r. ⌜ r ≡ switched t u begins shown season ⌝ }
+{
+    if same_time(u, begins) {
         Time {
-            clock: time_or(calendar::hour_later(u), u),
-            season: Season::Summer,
+            clock: shown,
+            season: season,
             ..t
         }
     } else {

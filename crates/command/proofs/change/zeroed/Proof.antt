@@ -1,3 +1,4 @@
+use mathlib.Core.Path.{_∙_}
 use borrow.Author.Needs.{needs}
 use Rattle.command.proofs.change.zeroed.Statement.{statement}
 use Rattle.command.proofs.change.zeroed.Tie as tie
@@ -5,11 +6,20 @@ use Rattle.command.proofs.change.zeroed.Tie as tie
 enum-told : tie.Need-enum-told
 enum-told c = search needs
 
+with-summer-requires : tie.Need-with-summer-requires
+with-summer-requires c κs = search needs
+
 enum-told-2 : tie.Need-enum-told-2
 enum-told-2 c = search needs
 
+with-winter-requires : tie.Need-with-winter-requires
+with-winter-requires c κs = search needs
+
 enum-told-3 : tie.Need-enum-told-3
 enum-told-3 c = search needs
+
+with-next-requires : tie.Need-with-next-requires
+with-next-requires c κs = search needs
 
 enum-told-4 : tie.Need-enum-told-4
 enum-told-4 c = search needs
@@ -39,13 +49,13 @@ enum-told-12 : tie.Need-enum-told-12
 enum-told-12 c = search needs
 
 returns : tie.Need-returns
-returns c = simp (c .before .before .before .before .before .before .before .enum-told .given .1)
+returns c = c .with-summer .ensures ∙ simp (c .before .enum-told .given .1)
 
 returns-2 : tie.Need-returns-2
-returns-2 c = simp (c .before .before .before .before .before .before .before .enum-told2 .given .1)
+returns-2 c = c .with-winter .ensures ∙ simp (c .before .enum-told2 .given .1)
 
 returns-3 : tie.Need-returns-3
-returns-3 c = simp (c .before .before .before .before .before .before .before .enum-told3 .given .1)
+returns-3 c = c .with-next .ensures ∙ simp (c .before .enum-told3 .given .1)
 
 returns-4 : tie.Need-returns-4
 returns-4 c = simp (c .enum-told4 .given .1)
@@ -79,8 +89,11 @@ zeroed-spec =
     tie.close
     (tie.spec
     enum-told
+    with-summer-requires
     enum-told-2
+    with-winter-requires
     enum-told-3
+    with-next-requires
     enum-told-4
     enum-told-5
     enum-told-6

@@ -1,0 +1,19 @@
+use Rattle.second.specs.Season.{switched}
+use mathlib.Core.Path.{sym, _∙_}
+use borrow.Author.Needs.{needs}
+use Rattle.second.proofs.season.switched.Statement.{statement}
+use Rattle.second.proofs.season.switched.Tie as tie
+
+same-time-requires : tie.Need-same-time-requires
+same-time-requires c κs = search needs
+
+returns : tie.Need-returns
+unfolding switched
+returns c = simp (sym (c .before .same-time .ensures) ∙ c .if1 .taken)
+
+returns-2 : tie.Need-returns-2
+unfolding switched
+returns-2 c = simp (sym (c .before .same-time .ensures) ∙ c .if1 .left)
+
+pub switched-spec : {M : Type 1} → statement M
+switched-spec = tie.close (tie.spec same-time-requires returns returns-2)
