@@ -29,6 +29,7 @@ use Rattle.request.specs.declared.request.Request.{Request}
 use Rattle.store.specs.Store.{sixOf, storeBytes}
 use Rattle.meter_record.specs.RangeLaws.{Within, within}
 use Rattle.meter_record.specs.Ranges.{isWithin}
+use Rattle.meter_record.specs.Widths.{FitsRecord}
 use Rattle.meter_record.specs.declared.record.Record.{Record}
 use Rattle.command.specs.Judgement.{verdictOf, verdictBy, readVerdict}
 use Rattle.command.specs.JudgementLaws.{read-accepted}
@@ -44,7 +45,7 @@ use Rattle.reader.specs.Form.{lengthFor, formOf}
 use Rattle.reader.specs.Rows.{replyData, sixOf as sixIn}
 use Rattle.reader.specs.Reply.{decodedOf, repliedOf}
 use Rattle.reader.specs.declared.reply.Decoded.the-variants as decoded
-use Rattle.demands.specs.Held.{held, FitsRecord, same-size, found-again}
+use Rattle.demands.specs.Held.{held, same-size, found-again}
 use Rattle.demands.specs.Six.{six-again}
 use Rattle.demands.specs.Wire.{OfBytes, nil, bytes-cons, slice-fits, figures-bytes, replyBody, reply-formed, front-again}
 

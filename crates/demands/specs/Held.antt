@@ -2,7 +2,7 @@
 use mathlib.Core.Path.{_≡_, refl, ap, _∙_}
 use mathlib.Core.Bool.{Bool, true, false, cond, _&&_, false≢true}
 use mathlib.Core.List.{List, _++_, append-assoc}
-use Prim.Native.Nat.{ℕ, _+_, _-_, _^_, _<_}
+use Prim.Native.Nat.{ℕ, _+_, _-_}
 use native.Mathlib.Nat.{mod-eq-of-lt}
 use lib.Dec.{eqb, leb}
 use Rattle.words.specs.Number.{bytesOf}
@@ -12,7 +12,7 @@ use Rattle.figures.specs.Clock.{dateTimeOf-bytes}
 use Rattle.figures.specs.Mask.{maskOf-bytes}
 use Rattle.figures.specs.Power.{totalOf, powerBytes, powersBytes}
 use Rattle.figures.specs.PowerLaws.{FitsPhases, powerOf-bytes}
-use Rattle.figures.specs.Telemetry.{FitsTelemetry, telemetryOf-bytes}
+use Rattle.figures.specs.Telemetry.{telemetryOf-bytes}
 use Rattle.figures.specs.declared.power.Phases.{Phases}
 use Rattle.frame.specs.declared.code.Parameter.{Parameter}
 use Rattle.frame.specs.declared.code.Parameter.the-variants as parameter
@@ -26,6 +26,7 @@ use Rattle.store.specs.StoreLaws.{RowFits}
 use Rattle.meter_record.specs.Power.{arePowers}
 use Rattle.meter_record.specs.PowerLaws.{BoundsPhases, powers-bounds, bounds-finite, powers-read}
 use Rattle.meter_record.specs.RangeLaws.{Within}
+use Rattle.meter_record.specs.Widths.{FitsRecord}
 use Rattle.meter_record.specs.declared.record.Record.{Record}
 use Rattle.meter.specs.Reading.{phase, powerData, summerShown, winterShown, figuresOf, powerSize, sizeOf}
 use Rattle.reader.specs.Reply.{countsOf, figuresOf as figuresIn}
@@ -62,16 +63,6 @@ held parameter.Slice r s q = decoded.Slice (fourCounts (sliceOf s (keyOf q)))
 held parameter.SixSlices r s q = decoded.SixSlices
 held parameter.Password r s q = decoded.OutOfRange
 held parameter.Unknown r s q = decoded.OutOfRange
-
--- the record's numbers fit their widths, as those of every Rattle value do
-pub record FitsRecord (r : Record) : Type 0 where
-  pub address : r .address < 256
-  pub telemetry : FitsTelemetry (r .telemetry)
-  pub parameters : r .mask .parameters < 2 ^ 32
-  pub tariffs : r .mask .tariffs < 256
-  pub directions : r .mask .directions < 256
-  pub active : FitsPhases (r .active)
-  pub reactive : FitsPhases (r .reactive)
 
 -- ---- what a request that is answered asks for
 

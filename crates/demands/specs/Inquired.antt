@@ -12,6 +12,7 @@ use Rattle.frame.specs.Code.{parameterOf}
 use Rattle.request.specs.Request.{requestFrame}
 use Rattle.request.specs.Subject.{subjectOf, mostSlots, askable}
 use Rattle.request.specs.declared.request.Request.{Request}
+use Rattle.meter_record.specs.Widths.{FitsRecord}
 use Rattle.meter_record.specs.declared.record.Record.{Record}
 use Rattle.command.specs.Judgement.{verdictOf}
 use Rattle.command.specs.Verdict.{numberOf, isDone}
@@ -25,7 +26,7 @@ use Rattle.inquiry.specs.Inquiry.{isSilent, toldOf, asked, inquired}
 use Rattle.inquiry.specs.declared.Inquired.the-variants.{TooShort, Unsound, Silent, Told}
 use Rattle.demands.specs.Demand1.{inTable, decode-told}
 use Rattle.demands.specs.Demand2.{answered, replyIn, FitsRequest, done-only, demand-2-read, demand-2-refused}
-use Rattle.demands.specs.Held.{held, FitsRecord}
+use Rattle.demands.specs.Held.{held}
 
 -- ---- the claim: for every record, store and request
 

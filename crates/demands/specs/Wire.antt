@@ -34,11 +34,11 @@ use Rattle.slots.specs.declared.key.Key.{Key}
 use Rattle.store.specs.Store.{rowAt, isKept, placeOf, sliceOf, sixOf, countAt, rowBytes}
 use Rattle.store.specs.StoreLaws.{RowFits}
 use Rattle.meter_record.specs.RangeLaws.{Within}
+use Rattle.meter_record.specs.Widths.{FitsRecord}
 use Rattle.meter_record.specs.declared.record.Record.{Record}
 use Rattle.meter.specs.Reading.{phase, powerData, sixBytes, figuresOf}
 use Rattle.reader.specs.Form.{lengthFor, functionFor, headOf, formOf}
 use Rattle.reader.specs.declared.form.Form.the-variants.{WellFormed}
-use Rattle.demands.specs.Held.{FitsRecord}
 
 -- ---- lists of bytes
 

@@ -5,3 +5,4 @@ pub mod Record
 pub mod With
 pub mod Display
 pub mod RangeLaws
+pub mod Widths

@@ -2,7 +2,7 @@
 use mathlib.Core.Path.{_≡_, refl, ap, _∙_}
 use mathlib.Core.Bool.{Bool, true, false}
 use mathlib.Core.List.{List, [], _∷_, _++_, append-nil}
-use Prim.Native.Nat.{ℕ, _+_, _^_, _<_}
+use Prim.Native.Nat.{ℕ, _+_}
 use native.Mathlib.Nat.{mod-eq-of-lt}
 use native.Mathlib.Omega.{arith}
 use borrow.Author.Tests.{eqb-true}
@@ -13,8 +13,8 @@ use Rattle.words.specs.Place.{byteAt, numberAt, written, numberAt-front, writte
 use Rattle.figures.specs.Clock.{dateTimeBytes}
 use Rattle.figures.specs.Mask.{maskOf, maskBytes, maskOf-bytes}
 use Rattle.figures.specs.Power.{powerBytes}
-use Rattle.figures.specs.PowerLaws.{FitsPhases}
-use Rattle.figures.specs.Telemetry.{FitsTelemetry, telemetryOf, telemetryBytes, telemetryOf-bytes}
+use Rattle.figures.specs.Telemetry.{telemetryOf, telemetryBytes, telemetryOf-bytes}
+use Rattle.meter_record.specs.Widths.{FitsRecord}
 use Rattle.meter_record.specs.declared.record.Record.{Record}
 use Rattle.record_bytes.specs.Level.{levelByte, levelOf, level-back}
 use Rattle.record_bytes.specs.Power.{phasesBytes, phasesOf, FinitePhases, phases-back}
@@ -65,16 +65,6 @@ read-size s r e = go (eqb (length s) recordSize) refl
         omega arith
 
 -- ---- there and back
-
--- each number fits its bytes, as those of a Rattle value do
-pub record FitsRecord (r : Record) : Type 0 where
-  pub main : r .passwords .main .0 < 2 ^ 64
-  pub auxiliary : r .passwords .auxiliary .0 < 2 ^ 64
-  pub telemetry : FitsTelemetry (r .telemetry)
-  pub mask : r .mask .parameters < 2 ^ 32
-  pub active : FitsPhases (r .active)
-  pub reactive : FitsPhases (r .reactive)
-  pub next : r .next < 2 ^ 16
 
 -- the parts that stand from a byte on
 module _ (r : Record) where
@@ -128,7 +118,7 @@ module _ (r : Record) where
       let active-read : phasesOf (drop 54 bs) ≡ phases.Read (r .active) = rw from-active (phases-back (r .active) _ (f .active) a) in
       let reactive-read : phasesOf (drop 66 bs) ≡ phases.Read (r .reactive) = rw from-reactive (phases-back (r .reactive) _ (f .reactive) p) in
       let telemetry-read : telemetryOf (drop 40 bs) ≡ r .telemetry = rw from-telemetry (telemetryOf-bytes (r .telemetry) _ (f .telemetry)) in
-      let mask-read : maskOf (drop 48 bs) ≡ r .mask = rw from-mask (maskOf-bytes (r .mask) _ (f .mask)) in
+      let mask-read : maskOf (drop 48 bs) ≡ r .mask = rw from-mask (maskOf-bytes (r .mask) _ (f .parameters)) in
       let main-read : numberAt bs 3 8 ≡ r .passwords .main .0 = main-there ∙ numberAt-front 8 (r .passwords .main .0) [] ∙ mod-eq-of-lt (f .main) in
       let auxiliary-read : numberAt bs 11 8 ≡ r .passwords .auxiliary .0 =
       auxiliary-there ∙ numberAt-front 8 (r .passwords .auxiliary .0) [] ∙ mod-eq-of-lt (f .auxiliary) in
