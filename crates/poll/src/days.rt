@@ -1,4 +1,8 @@
-// The asks of the days, one after the other.
+// The asks of the days, one after the other. Whatever the line carries, the log and the open ask go on by the logger's calls alone, so
+// that demand 3 says what stands in every cell.
+ghost use mathlib.Core.Path.{_≡_};
+ghost use Rattle.logger.specs.declared.held.OpenAsk.the-variants.{Closed};
+ghost use Rattle.polling.specs.Reached.{standing, Reached, ReachedHeld};
 use crate::part::front;
 use crate::say;
 use crate::wire;
@@ -28,7 +32,9 @@ const REPLY_ROOM: usize = 64;
 
 const FILE_ROOM: usize = 53584;
 
-fn begin() -> Course {
+fn begin() -> Course
+    ensures { λ r. ⌜ r .held ≡ Closed ⌝ }
+{
     let none = Tally {
         taken: 0,
         silent: 0,
@@ -43,7 +49,9 @@ fn begin() -> Course {
 }
 
 // Asks for the gaps of the days from one on and before another.
-pub fn poll(wire: Wire, device: &[u8], path: &[u8], image: &mut [u8], from: u8, end: u8) -> Course {
+pub fn poll(wire: Wire, device: &[u8], path: &[u8], image: &mut [u8], from: u8, end: u8) -> Course
+    ensures { λ r. ⌜ Reached (standing (now (image .entry)) (Closed)) (standing (now (image .exit)) (r .held)) ⌝ }
+{
     let mut course = begin();
     let mut day = from;
     while day < end {
@@ -63,7 +71,9 @@ fn one_day(
     image: &mut [u8],
     day: u8,
     before: Course,
-) -> Course {
+) -> Course
+    ensures { λ r. ⌜ Reached (standing (now (image .entry)) (before .held)) (standing (now (image .exit)) (r .held)) ⌝ }
+{
     let after = asks(wire, device, path, image, day, before);
     let earlier = before.tally;
     let course = kept(wire, path, image, earlier.taken, after);
@@ -73,7 +83,9 @@ fn one_day(
 }
 
 // A taken reply fills a gap: a day with none has left the log as it was, and its file is not touched.
-fn kept(wire: Wire, path: &[u8], image: &[u8], earlier: u32, after: Course) -> Course {
+fn kept(wire: Wire, path: &[u8], image: &[u8], earlier: u32, after: Course) -> Course
+    ensures { λ r. ⌜ ReachedHeld (after .held) (r .held) ⌝ }
+{
     let tally = after.tally;
     if tally.taken == earlier {
         return after;
@@ -84,14 +96,9 @@ fn kept(wire: Wire, path: &[u8], image: &[u8], earlier: u32, after: Course) -> C
     ended(after)
 }
 
-fn asks(
-    wire: Wire,
-    device: &[u8],
-    path: &[u8],
-    image: &mut [u8],
-    day: u8,
-    before: Course,
-) -> Course {
+fn asks(wire: Wire, device: &[u8], path: &[u8], image: &mut [u8], day: u8, before: Course) -> Course
+    ensures { λ r. ⌜ Reached (standing (now (image .entry)) (before .held)) (standing (now (image .exit)) (r .held)) ⌝ }
+{
     let mut course = before;
     let mut slot: u8 = 0;
     while slot < SLOTS_MOST {
@@ -115,7 +122,9 @@ fn one_ask(
     day: u8,
     slot: u8,
     before: Course,
-) -> Course {
+) -> Course
+    ensures { λ r. ⌜ Reached (standing (now (image .entry)) (before .held)) (standing (now (image .exit)) (r .held)) ⌝ }
+{
     let tally = before.tally;
     let none = before.held;
     say::slot(wire.terminal, day, slot, tally);
@@ -144,12 +153,14 @@ fn heard(
     path: &[u8],
     image: &mut [u8],
     frame: &[u8],
-    open: Course,
-) -> Course {
+    course: Course,
+) -> Course
+    ensures { λ r. ⌜ Reached (standing (now (image .entry)) (course .held)) (standing (now (image .exit)) (r .held)) ⌝ }
+{
     let mut reply = [0u8; REPLY_ROOM];
     match wire::exchange(wire, device, frame, &mut reply) {
-        Heard::Bytes(n) => settled(wire, device, path, image, front(&reply, n), open),
-        Heard::Failed => ended(open),
+        Heard::Bytes(n) => settled(wire, device, path, image, front(&reply, n), course),
+        Heard::Failed => ended(course),
     }
 }
 
@@ -159,10 +170,12 @@ fn settled(
     path: &[u8],
     image: &mut [u8],
     reply: &[u8],
-    open: Course,
-) -> Course {
-    let held = open.held;
-    let tally = open.tally;
+    course: Course,
+) -> Course
+    ensures { λ r. ⌜ Reached (standing (now (image .entry)) (course .held)) (standing (now (image .exit)) (r .held)) ⌝ }
+{
+    let held = course.held;
+    let tally = course.tally;
     let settled = polling::settle(image, held, reply);
     let fate = settled.fate;
     let none = settled.held;
@@ -172,6 +185,13 @@ fn settled(
         held: none,
         ended: false,
     };
+    followed(wire, device, path, fate, closed)
+}
+
+// What an ask's fate leads to.
+fn followed(wire: Wire, device: &[u8], path: &[u8], fate: Fate, closed: Course) -> Course
+    ensures { λ r. ⌜ ReachedHeld (closed .held) (r .held) ⌝ }
+{
     match fate {
         Fate::Taken => closed,
         Fate::Refused => closed,
@@ -185,7 +205,9 @@ fn settled(
     }
 }
 
-fn after_a_loss(wire: Wire, device: &[u8], closed: Course) -> Course {
+fn after_a_loss(wire: Wire, device: &[u8], closed: Course) -> Course
+    ensures { λ r. ⌜ ReachedHeld (closed .held) (r .held) ⌝ }
+{
     if wire::settled(wire, device) {
         return closed;
     }
@@ -193,7 +215,9 @@ fn after_a_loss(wire: Wire, device: &[u8], closed: Course) -> Course {
 }
 
 // The poll ends early: an open ask lapses.
-fn ended(course: Course) -> Course {
+fn ended(course: Course) -> Course
+    ensures { λ r. ⌜ ReachedHeld (course .held) (r .held) ⌝ }
+{
     let tally = course.tally;
     let held = course.held;
     Course {

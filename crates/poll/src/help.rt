@@ -30,11 +30,12 @@ fn line() {
     put(b"DEVICE is a serial port, which is set before with\n");
     put(b"    stty -F DEVICE 9600 raw -echo clocal min 0 time 1\n");
     put(
-        b"at the meter's own speed, so that a read waits at most a tenth of a second. Ten silent reads are no answer: the\n",
+        b"at the meter's own speed. So a read waits a tenth of a second; without these settings it may wait for ever.\n",
     );
     put(
-        b"interval stays a gap, and a later poll asks again. So it does after a reply that is malformed, or a refusal.\n",
+        b"Ten silent reads are no answer: the interval stays a gap, and a later poll asks again, as it does after a\n",
     );
+    put(b"malformed reply or a refusal.\n");
     put(b"\n");
 }
 

@@ -5,3 +5,4 @@ pub mod ReplyLaws
 pub mod Fate
 pub mod FateLaws
 pub mod Tally
+pub mod Reached

@@ -1,20 +1,21 @@
 use borrow.Author.Needs.{needs}
 use Prim.Native.Nat.{_-_}
-use mathlib.Core.Path.{_≡_, sym, _∙_}
+use mathlib.Core.Path.{_≡_, refl, sym, _∙_}
 use lib.ListN.{length}
 use native.Mathlib.Omega.{arith}
 use Rattle.polling.specs.NextLaws.{next-bounds}
+use Rattle.polling.specs.Reached.{standing, Reached, stays, onward}
 use Rattle.poll.proofs.days.asks.Statement.{statement}
 use Rattle.poll.proofs.days.asks.Tie as tie
 
 abbrev Inv-loop : tie.InvT-loop
-Inv-loop wire device path image₀ day course₀ slot₀ image course slot = length image ≡ length image₀
+Inv-loop wire device path image₀ day course₀ slot₀ image course slot = (length image ≡ length image₀) × Reached (standing image₀ (course₀ .held)) (standing image (course .held))
 
 abbrev μ-loop : tie.MeasureT-loop
 μ-loop wire device path image₀ day course₀ slot₀ image course slot = 96 - slot
 
 loop-holds : tie.Need-loop-holds Inv-loop μ-loop
-loop-holds c = search needs
+loop-holds c = (refl, stays _)
 
 next-gap-requires : tie.Need-next-gap-requires Inv-loop μ-loop
 next-gap-requires c κs = search needs
@@ -29,7 +30,7 @@ same-length : tie.Need-same-length Inv-loop μ-loop
 same-length c = search needs
 
 returns : tie.Need-returns Inv-loop μ-loop
-returns c = search needs
+returns c = c .before .before .before .before .before .loop .inv .1
 
 one-ask-requires : tie.Need-one-ask-requires Inv-loop μ-loop
 one-ask-requires c κs = search needs
@@ -38,7 +39,7 @@ same-length-2 : tie.Need-same-length-2 Inv-loop μ-loop
 same-length-2 c = search needs
 
 returns-2 : tie.Need-returns-2 Inv-loop μ-loop
-returns-2 c = search needs
+returns-2 c = onward (c .before .before .before .before .before .before .before .before .before .before .before .loop .inv .1) (c .before .before .before .one-ask .ensures)
 
 add-slot : tie.Need-add-slot Inv-loop μ-loop
 add-slot c = omega (arith, next-bounds (c .before .before .before .before .before .before .before .before .before .before .before .loop .image) (c .before .before .before .before .before .before .before .before .before .before .before .before .before .before .before .args .day) (c .before .before .before .before .before .before .before .before .before .before .before .loop .slot) _ (sym (c .before .before .before .before .before .before .before .before .next-gap .ensures) ∙ c .before .before .before .before .before .before .next .given .1))
@@ -47,13 +48,13 @@ loop-less : tie.Need-loop-less Inv-loop μ-loop
 loop-less c = omega (arith, next-bounds (c .before .before .before .before .before .before .before .before .before .before .before .loop .image) (c .before .before .before .before .before .before .before .before .before .before .before .before .before .before .before .args .day) (c .before .before .before .before .before .before .before .before .before .before .before .loop .slot) _ (sym (c .before .before .before .before .before .before .before .before .next-gap .ensures) ∙ c .before .before .before .before .before .before .next .given .1))
 
 loop-again : tie.Need-loop-again Inv-loop μ-loop
-loop-again c = search needs
+loop-again c = (search needs, onward (c .before .before .before .before .before .before .before .before .before .before .before .loop .inv .1) (c .before .before .before .one-ask .ensures))
 
 same-length-3 : tie.Need-same-length-3 Inv-loop μ-loop
 same-length-3 c = search needs
 
 returns-3 : tie.Need-returns-3 Inv-loop μ-loop
-returns-3 c = search needs
+returns-3 c = c .before .loop .inv .1
 
 pub asks-spec : {M : Type 1} → statement M
 asks-spec =

@@ -1,12 +1,14 @@
 use borrow.Author.Needs.{needs}
 use Prim.Native.Nat.{_-_}
-use mathlib.Core.Path.{_≡_}
+use mathlib.Core.Path.{_≡_, refl, sym}
 use lib.ListN.{length}
+use Rattle.logger.specs.declared.held.OpenAsk.the-variants.{Closed}
+use Rattle.polling.specs.Reached.{standing, Reached, stays, onward}
 use Rattle.poll.proofs.days.poll.Statement.{statement}
 use Rattle.poll.proofs.days.poll.Tie as tie
 
 abbrev Inv-loop : tie.InvT-loop
-Inv-loop wire device path image₀ from end course₀ day₀ image course day = length image ≡ length image₀
+Inv-loop wire device path image₀ from end course₀ day₀ image course day = (length image ≡ length image₀) × Reached (standing image₀ Closed) (standing image (course .held))
 
 abbrev μ-loop : tie.MeasureT-loop
 μ-loop wire device path image₀ from end course₀ day₀ image course day = end - day
@@ -15,7 +17,7 @@ begin-requires : tie.Need-begin-requires Inv-loop μ-loop
 begin-requires c κs = search needs
 
 loop-holds : tie.Need-loop-holds Inv-loop μ-loop
-loop-holds c = search needs
+loop-holds c = (refl, rw (c .begin .ensures) (stays _))
 
 one-day-requires : tie.Need-one-day-requires Inv-loop μ-loop
 one-day-requires c κs = search needs
@@ -24,7 +26,7 @@ same-length : tie.Need-same-length Inv-loop μ-loop
 same-length c = search needs
 
 returns : tie.Need-returns Inv-loop μ-loop
-returns c = search needs
+returns c = onward (c .before .before .before .before .before .before .loop .inv .1) (c .before .before .before .one-day .ensures)
 
 add-day : tie.Need-add-day Inv-loop μ-loop
 add-day c = search needs
@@ -33,13 +35,13 @@ loop-less : tie.Need-loop-less Inv-loop μ-loop
 loop-less c = search needs
 
 loop-again : tie.Need-loop-again Inv-loop μ-loop
-loop-again c = search needs
+loop-again c = (search needs, onward (c .before .before .before .before .before .before .loop .inv .1) (c .before .before .before .one-day .ensures))
 
 same-length-2 : tie.Need-same-length-2 Inv-loop μ-loop
 same-length-2 c = search needs
 
 returns-2 : tie.Need-returns-2 Inv-loop μ-loop
-returns-2 c = search needs
+returns-2 c = c .before .loop .inv .1
 
 pub poll-spec : {M : Type 1} → statement M
 poll-spec =
