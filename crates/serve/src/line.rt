@@ -87,10 +87,7 @@ fn next(n: u64) -> u64 {
 fn wall_clock() -> u64 {
     let mut t: i64 = 0;
     let now = libc::time(&mut t);
-    if now < 0 {
-        return 0;
-    }
-    now as u64
+    if now > 0 { now as u64 } else { 0 }
 }
 
 fn ended(read: u64, answered: u64) {
