@@ -1,10 +1,7 @@
 // The console: a line of standard input is a call, and its answer a line of standard output.
 mod files;
-mod meters;
-mod told;
 mod verb;
 
-use console_io::Line;
 use console_io::Rest;
 use libc::STDIN_FILENO;
 use log_lines::Kept;
@@ -18,7 +15,7 @@ fn main() {
     let mut store = [0u8; 32736];
     let mut line = [0u8; 4096];
     let mut block = [0u8; 4096];
-    let RecordAnswer::Done(record) = meter_lines::first() else {
+    let RecordAnswer::Done(record) = setting::first() else {
         return;
     };
     session(&mut image, &mut store, &mut line, &mut block, record);
@@ -35,41 +32,16 @@ fn session(image: &mut [u8], store: &mut [u8], line: &mut [u8], block: &mut [u8]
     let mut turns = u64::MAX;
     while 0 < turns {
         let taken = console_io::next_line(STDIN_FILENO, block, rest, line);
-        let next = taken.line;
-        rest = taken.rest;
-        if is_end(next) {
+        if taken.ended {
             return;
         }
-        let n = length_of(next);
-        let verb = asked(next, line);
+        rest = taken.rest;
+        let n = taken.length;
+        let verb = verb::verb_of(console::part(line, n));
         // A verb is the log's or the meter's: the other leaves all as it stands.
         kept = on_log(verb, console::part(line, n), image, kept);
         record = on_meter(verb, console::part(line, n), store, record);
         turns -= 1;
-    }
-}
-
-fn is_end(next: Line) -> bool {
-    match next {
-        Line::Of(_) => false,
-        Line::TooLong => false,
-        Line::End => true,
-    }
-}
-
-fn length_of(next: Line) -> usize {
-    match next {
-        Line::Of(n) => n,
-        Line::TooLong => 0,
-        Line::End => 0,
-    }
-}
-
-fn asked(next: Line, line: &[u8]) -> usize {
-    match next {
-        Line::Of(n) => verb::verb_of(console::part(line, n)),
-        Line::TooLong => verb::OTHER,
-        Line::End => verb::NOTHING,
     }
 }
 
@@ -102,11 +74,8 @@ fn read(verb: usize, line: &[u8], image: &[u8], held: OpenAsk) {
 }
 
 fn on_meter(verb: usize, line: &[u8], store: &mut [u8], r: Record) -> Record {
-    if verb < verb::FRAME {
+    if verb <= verb::NOTHING {
         return r;
     }
-    if verb == verb::NOTHING {
-        return r;
-    }
-    meters::called(verb, line, store, r)
+    meter_lines::called(line, store, r)
 }

@@ -1,4 +1,4 @@
-// The first word of a line, by its place among the names. The meter's lines that set it have their names in `meter_lines`.
+// The first word of a line, by its place among the names of the log's and the reader's lines.
 pub const LOG: usize = 0;
 
 pub const LOAD: usize = 1;
@@ -21,26 +21,15 @@ pub const REQUEST: usize = 9;
 
 pub const DECODE: usize = 10;
 
-// From here on the meter's.
-pub const FRAME: usize = 11;
-
-pub const RECORD: usize = 12;
-
-pub const SHOWN: usize = 13;
-
-pub const INQUIRE: usize = 14;
-
-// No name's: a line that is passed over.
-pub const NOTHING: usize = 15;
-
-// What has none of these names is the meter's as well.
-pub const OTHER: usize = 16;
+// A line that is passed over. What has none of the names is left to the meter.
+pub const NOTHING: usize = 11;
 
 pub fn verb_of(line: &[u8]) -> usize {
     if console::is_passed_over(line) {
         return NOTHING;
     }
-    let names =
-        b"log load ask lapse reply save open cell report request decode frame record shown inquire";
-    console::place_of(console::word(line, 0), names)
+    console::place_of(
+        console::word(line, 0),
+        b"log load ask lapse reply save open cell report request decode",
+    )
 }

@@ -1,12 +1,5 @@
 // A descriptor's bytes, a line at a time. They are read in blocks: a read gives what is there, so a person who types is answered at
 // once, and a script takes few reads.
-pub enum Line {
-    // Its length, without the newline.
-    Of(usize),
-    TooLong,
-    End,
-}
-
 // What of a block is yet to be taken: from one place up to another.
 pub struct Rest {
     pub at: usize,
@@ -14,7 +7,9 @@ pub struct Rest {
 }
 
 pub struct Taken {
-    pub line: Line,
+    pub ended: bool,
+    // Of the line, without the newline.
+    pub length: usize,
     pub rest: Rest,
 }
 
@@ -23,8 +18,11 @@ const NEWLINE: u8 = 10;
 // #
 const COMMENT: u8 = 35;
 
-// The next line to the front of a lent buffer. A line that does not fit is read to its end all the same; a comment that does not is
-// as good as an empty line. The last line may lack its newline.
+// What no call is named.
+const UNREAD: u8 = 63;
+
+// The next line to the front of a lent buffer. The last line may lack its newline. A line that does not fit is read to its end all the
+// same, and is given as `?` alone, or as a comment if it is one.
 pub fn next_line(fd: i32, block: &mut [u8], from: Rest, line: &mut [u8]) -> Taken {
     let mut rest = from;
     let mut n: usize = 0;
@@ -41,7 +39,8 @@ pub fn next_line(fd: i32, block: &mut [u8], from: Rest, line: &mut [u8]) -> Take
         let byte = words::byte_at(block, at);
         if byte == NEWLINE {
             return Taken {
-                line: line_of(line, n, long),
+                ended: false,
+                length: fitting(line, n, long),
                 rest: rest,
             };
         }
@@ -71,31 +70,29 @@ fn filled(fd: i32, block: &mut [u8], rest: Rest) -> Rest {
 
 fn ended() -> Taken {
     Taken {
-        line: Line::End,
+        ended: true,
+        length: 0,
         rest: Rest { at: 0, end: 0 },
     }
 }
 
-fn last_line(line: &[u8], n: usize, long: bool) -> Taken {
+fn last_line(line: &mut [u8], n: usize, long: bool) -> Taken {
     if n == 0 {
         return ended();
     }
     Taken {
-        line: line_of(line, n, long),
+        ended: false,
+        length: fitting(line, n, long),
         rest: Rest { at: 0, end: 0 },
     }
 }
 
-fn line_of(line: &[u8], n: usize, long: bool) -> Line {
+fn fitting(line: &mut [u8], n: usize, long: bool) -> usize {
     if long {
-        return too_long(line);
+        if words::byte_at(line, 0) != COMMENT {
+            words::put_byte(line, 0, UNREAD);
+        }
+        return 1;
     }
-    Line::Of(n)
-}
-
-fn too_long(line: &[u8]) -> Line {
-    if words::byte_at(line, 0) == COMMENT {
-        return Line::Of(0);
-    }
-    Line::TooLong
+    n
 }

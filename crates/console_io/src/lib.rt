@@ -2,7 +2,6 @@
 mod input;
 pub mod say;
 
-pub use input::Line;
 pub use input::Rest;
 pub use input::Taken;
 pub use input::next_line;

@@ -1,14 +1,5 @@
-// The console's lines that set the bench meter: `meter`, `power`, `slice` and `second`. Each gives the answer and with it the record
-// that stands after the line; a line that is refused or not read changes nothing.
-mod answer;
-mod making;
-mod power;
-mod seconds;
-mod setting;
-mod slice;
+// The console's lines of the bench meter, each with its answer on standard output. Those that set the meter are `setting`'s.
+mod meters;
+mod told;
 
-pub use answer::LineAnswer;
-pub use answer::record_after;
-pub use making::first;
-pub use seconds::seconds_later;
-pub use setting::set;
+pub use meters::called;

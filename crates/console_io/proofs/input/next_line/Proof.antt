@@ -1,7 +1,6 @@
 use borrow.Author.Needs.{needs}
-use mathlib.Core.Path.{_≡_, refl, _∙_}
+use mathlib.Core.Path.{_≡_, refl}
 use lib.ListN.{length}
-use native.Mathlib.Omega.{arith}
 use Rattle.console_io.proofs.input.next_line.Statement.{statement}
 use Rattle.console_io.proofs.input.next_line.Tie as tie
 
@@ -35,8 +34,8 @@ add-rest c = search needs
 byte-at-requires : tie.Need-byte-at-requires Inv-loop μ-loop
 byte-at-requires c κs = search needs
 
-line-of-requires : tie.Need-line-of-requires Inv-loop μ-loop
-line-of-requires c κs = search needs
+fitting-requires : tie.Need-fitting-requires Inv-loop μ-loop
+fitting-requires c κs = search needs
 
 same-length-3 : tie.Need-same-length-3 Inv-loop μ-loop
 same-length-3 c = search needs
@@ -88,7 +87,7 @@ next-line-spec =
     returns
     add-rest
     byte-at-requires
-    line-of-requires
+    fitting-requires
     same-length-3
     same-length-4
     returns-2

@@ -1,0 +1,109 @@
+use native.Mathlib.Omega.{arith}
+use Prim.Native.Nat.{ℕ, _-_}
+use borrow.Author.Needs.{needs}
+use mathlib.Core.Path.{_≡_, _∙_}
+use lib.ListN.{length}
+use Rattle.serve.proofs.script.walk.Statement.{statement}
+use Rattle.serve.proofs.script.walk.Tie as tie
+
+-- u64::MAX
+abbrev most : ℕ
+most = 18446744073709551615
+
+abbrev Inv-loop : tie.InvT-loop
+Inv-loop fd path store₀ line₀ block₀ record₀ rest₀ number₀ store line block «record» rest number =
+    (length store ≡ length store₀) × (length line ≡ length line₀) × (length block ≡ length block₀)
+
+abbrev μ-loop : tie.MeasureT-loop
+μ-loop fd path store₀ line₀ block₀ record₀ rest₀ number₀ store line block «record» rest number = most - number
+
+loop-holds : tie.Need-loop-holds Inv-loop μ-loop
+loop-holds c = search needs
+
+next-line-requires : tie.Need-next-line-requires Inv-loop μ-loop
+next-line-requires c κs = search needs
+
+same-length : tie.Need-same-length Inv-loop μ-loop
+same-length c = search needs
+
+same-length-2 : tie.Need-same-length-2 Inv-loop μ-loop
+same-length-2 c = search needs
+
+same-length-3 : tie.Need-same-length-3 Inv-loop μ-loop
+same-length-3 c = search needs
+
+returns : tie.Need-returns Inv-loop μ-loop
+returns c = search needs
+
+part-requires : tie.Need-part-requires Inv-loop μ-loop
+part-requires c κs = search needs
+
+set-requires : tie.Need-set-requires Inv-loop μ-loop
+set-requires c κs = search needs
+
+told-requires : tie.Need-told-requires Inv-loop μ-loop
+told-requires c κs = search needs
+
+enum-known-after : tie.Need-enum-known-after Inv-loop μ-loop
+enum-known-after c = search needs
+
+same-length-4 : tie.Need-same-length-4 Inv-loop μ-loop
+same-length-4 c = search needs
+
+same-length-5 : tie.Need-same-length-5 Inv-loop μ-loop
+same-length-5 c = search needs
+
+same-length-6 : tie.Need-same-length-6 Inv-loop μ-loop
+same-length-6 c = search needs
+
+returns-2 : tie.Need-returns-2 Inv-loop μ-loop
+returns-2 c = search needs
+
+add-number : tie.Need-add-number Inv-loop μ-loop
+add-number c = omega (arith, c .before .before .before .before .before .before .before .before .before .before .before .before .before .before .before .before .before .before .before .loop-test .taken)
+
+loop-less : tie.Need-loop-less Inv-loop μ-loop
+loop-less c = omega (arith, c .before .before .before .before .before .before .before .before .before .before .before .before .before .before .before .before .before .before .before .loop-test .taken)
+
+loop-again : tie.Need-loop-again Inv-loop μ-loop
+loop-again c = let held = c .before .before .before .before .before .before .before .before .before .before .before .before .before .before .before .before .before .before .before .before .loop .inv in (c .before .before .before .before .before .store .given ∙ held .0, c .before .before .before .before .before .before .before .before .before .before .before .before .before .line .given ∙ held .1, c .before .before .before .before .before .before .before .before .before .before .before .before .before .before .before .block .given ∙ held .2)
+
+same-length-7 : tie.Need-same-length-7 Inv-loop μ-loop
+same-length-7 c = search needs
+
+same-length-8 : tie.Need-same-length-8 Inv-loop μ-loop
+same-length-8 c = search needs
+
+same-length-9 : tie.Need-same-length-9 Inv-loop μ-loop
+same-length-9 c = search needs
+
+returns-3 : tie.Need-returns-3 Inv-loop μ-loop
+returns-3 c = search needs
+
+pub walk-spec : {M : Type 1} → statement M
+walk-spec =
+    tie.close
+    (tie.spec
+    Inv-loop
+    μ-loop
+    loop-holds
+    next-line-requires
+    same-length
+    same-length-2
+    same-length-3
+    returns
+    part-requires
+    set-requires
+    told-requires
+    enum-known-after
+    same-length-4
+    same-length-5
+    same-length-6
+    returns-2
+    add-number
+    loop-less
+    loop-again
+    same-length-7
+    same-length-8
+    same-length-9
+    returns-3)

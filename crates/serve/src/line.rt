@@ -1,0 +1,99 @@
+// The serial line: a frame is what one read gives, and its reply is written at once.
+use libc::STDERR_FILENO;
+use meter_record::Record;
+
+// The meter and its wall clock as they stand, and the frames so far.
+pub struct Served {
+    pub record: Record,
+    // The wall clock when it was last looked at.
+    pub seen: u64,
+    pub read: u64,
+    pub answered: u64,
+    pub open: bool,
+}
+
+// Until the device is closed, or so many frames were read.
+pub fn serve(fd: i32, count: u64, store: &mut [u8], record: Record) {
+    let mut served = Served {
+        record: record,
+        seen: wall_clock(),
+        read: 0,
+        answered: 0,
+        open: true,
+    };
+    let mut left = count;
+    while 0 < left {
+        served = turn(fd, store, served);
+        if served.open {
+            left -= 1;
+        } else {
+            left = 0;
+        }
+    }
+    ended(served.read, served.answered);
+}
+
+fn turn(fd: i32, store: &mut [u8], s: Served) -> Served {
+    // Longer than any frame, so that one which is too long is seen as that.
+    let mut frame = [0u8; 256];
+    let got = libc::read(fd, &mut frame);
+    if got < 1 {
+        return Served { open: false, ..s };
+    }
+    let n = io::count(got, &frame);
+    let now = wall_clock();
+    let record = setting::seconds_later(s.record, setting::seconds_between(s.seen, now));
+    answer(
+        fd,
+        store,
+        &frame[..n],
+        Served {
+            record: record,
+            seen: now,
+            ..s
+        },
+    )
+}
+
+fn answer(fd: i32, store: &mut [u8], frame: &[u8], s: Served) -> Served {
+    let mut out = [0u8; 64];
+    let record = s.record;
+    let a = meter::answer(record, store, frame, &mut out);
+    let length = a.length;
+    let after = a.after;
+    Served {
+        record: after,
+        seen: s.seen,
+        read: next(s.read),
+        answered: replied(fd, console::part(&out, length), s.answered),
+        open: true,
+    }
+}
+
+// How many were answered, this one among them unless it is met with silence.
+fn replied(fd: i32, reply: &[u8], answered: u64) -> u64 {
+    if reply.len() == 0 {
+        return answered;
+    }
+    io::write_all(fd, reply);
+    next(answered)
+}
+
+fn next(n: u64) -> u64 {
+    if n < u64::MAX { n + 1 } else { n }
+}
+
+// Seconds since 1970; 0 where they cannot be told.
+fn wall_clock() -> u64 {
+    let mut t: i64 = 0;
+    let now = libc::time(&mut t);
+    if now > 0 { now as u64 } else { 0 }
+}
+
+fn ended(read: u64, answered: u64) {
+    io::write_all(STDERR_FILENO, b"serve: ");
+    io::print_decimal(STDERR_FILENO, read);
+    io::write_all(STDERR_FILENO, b" frames read, ");
+    io::print_decimal(STDERR_FILENO, answered);
+    io::write_all(STDERR_FILENO, b" answered\n");
+}

@@ -1,0 +1,65 @@
+// The bench meter on a serial line: it is made by a script of the console's lines, and then answers the frames that come in. What is
+// right is decided in the libraries.
+mod help;
+mod line;
+mod script;
+
+use meter_record::Record;
+use script::Ready;
+use text::NumberAnswer;
+
+// The program's own name, DEVICE and SCRIPT.
+const LEAST_WORDS: usize = 3;
+
+// And COUNT.
+const MOST_WORDS: usize = 4;
+
+fn main() {
+    let words = os::arg_count();
+    if words < LEAST_WORDS {
+        help::say();
+        return;
+    }
+    if MOST_WORDS < words {
+        help::say();
+        return;
+    }
+    if words == MOST_WORDS {
+        counted();
+    } else {
+        // Nothing says that a device is closed: this many frames no run has.
+        made(u64::MAX);
+    }
+}
+
+fn counted() {
+    let mut word = io::buffer();
+    let n = os::arg(3, &mut word);
+    match text::number_of(&word[..n]) {
+        NumberAnswer::Number(count) => made(count),
+        NumberAnswer::NotANumber => help::say(),
+    }
+}
+
+// The meter is made first, so that a script that stops leaves the device alone.
+fn made(count: u64) {
+    let mut store = [0u8; 32736];
+    let mut path = io::buffer();
+    let n = os::arg(2, &mut path);
+    match script::made_by(&path[..n], &mut store) {
+        Ready::Meter(record) => opened(count, &mut store, record),
+        Ready::Stopped => {}
+    }
+}
+
+fn opened(count: u64, store: &mut [u8], record: Record) {
+    let mut path = io::buffer();
+    let n = os::arg(1, &mut path);
+    let fd = os::open_update(&path[..n]);
+    if fd < 0 {
+        os::fail(&path[..n]);
+        return;
+    }
+    line::serve(fd, count, store, record);
+    libc::close(fd);
+}

@@ -1,0 +1,109 @@
+// The script: the console's lines that set the meter.
+use console_io::Rest;
+use libc::STDERR_FILENO;
+use meter_record::Record;
+use meter_record::RecordAnswer;
+use setting::LineAnswer;
+
+pub enum Ready {
+    Meter(Record),
+    // And it was said why.
+    Stopped,
+}
+
+pub fn made_by(path: &[u8], store: &mut [u8]) -> Ready {
+    let RecordAnswer::Done(first) = setting::first() else {
+        return Ready::Stopped;
+    };
+    let fd = os::open_read(path);
+    if fd < 0 {
+        os::fail(path);
+        return Ready::Stopped;
+    }
+    let ready = lines(fd, path, store, first);
+    libc::close(fd);
+    ready
+}
+
+fn lines(fd: i32, path: &[u8], store: &mut [u8], first: Record) -> Ready {
+    let mut line = [0u8; 4096];
+    let mut block = [0u8; 4096];
+    walk(fd, path, store, first, &mut line, &mut block)
+}
+
+fn walk(
+    fd: i32,
+    path: &[u8],
+    store: &mut [u8],
+    first: Record,
+    line: &mut [u8],
+    block: &mut [u8],
+) -> Ready {
+    let mut record = first;
+    let mut rest = Rest { at: 0, end: 0 };
+    // Nothing says that a file ends: this many lines none has.
+    let mut number: u64 = 1;
+    while number < u64::MAX {
+        let taken = console_io::next_line(fd, block, rest, line);
+        if taken.ended {
+            return Ready::Meter(record);
+        }
+        rest = taken.rest;
+        let n = taken.length;
+        let answer = set(console::part(line, n), store, record);
+        let RecordAnswer::Done(after) = told(answer, path, number) else {
+            return Ready::Stopped;
+        };
+        record = after;
+        number += 1;
+    }
+    Ready::Stopped
+}
+
+// How many names there are of lines that only ask.
+const ASKING: usize = 4;
+
+// What only asks the meter changes nothing here.
+fn set(line: &[u8], store: &mut [u8], r: Record) -> LineAnswer {
+    if console::is_passed_over(line) {
+        return LineAnswer::Answered(RecordAnswer::Done(r));
+    }
+    if console::place_of(console::word(line, 0), b"frame record shown inquire") < ASKING {
+        return LineAnswer::Answered(RecordAnswer::Done(r));
+    }
+    setting::set(line, store, r)
+}
+
+// What a line was answered; a line that was not done is told of on standard error.
+fn told(answer: LineAnswer, path: &[u8], number: u64) -> RecordAnswer {
+    match answer {
+        LineAnswer::Answered(a) => {
+            refused(path, number, a.number());
+            a
+        }
+        LineAnswer::Unread => {
+            place(path, number);
+            io::write_all(STDERR_FILENO, b"not read\n");
+            RecordAnswer::OutOfRange
+        }
+    }
+}
+
+fn refused(path: &[u8], number: u64, n: u8) {
+    if n == refusal::DONE {
+        return;
+    }
+    place(path, number);
+    io::write_all(STDERR_FILENO, b"refused ");
+    io::print_decimal(STDERR_FILENO, n as u64);
+    io::write_all(STDERR_FILENO, b"\n");
+}
+
+// serve: SCRIPT:NUMBER:
+fn place(path: &[u8], number: u64) {
+    io::write_all(STDERR_FILENO, b"serve: ");
+    io::write_all(STDERR_FILENO, path);
+    io::write_all(STDERR_FILENO, b":");
+    io::print_decimal(STDERR_FILENO, number);
+    io::write_all(STDERR_FILENO, b": ");
+}

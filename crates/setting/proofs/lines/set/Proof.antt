@@ -1,0 +1,72 @@
+use mathlib.Core.Path.{sym, _∙_}
+use borrow.Author.Tests.{ne-eqb}
+use Rattle.setting.specs.Lines.{setLine, setBy}
+use borrow.Author.Needs.{needs}
+use Rattle.setting.proofs.lines.set.Statement.{statement}
+use Rattle.setting.proofs.lines.set.Tie as tie
+
+word-requires : tie.Need-word-requires
+word-requires c κs = search needs
+
+slice-aggregate-place-of : tie.Need-slice-aggregate-place-of
+slice-aggregate-place-of c = search needs
+
+place-of-requires : tie.Need-place-of-requires
+place-of-requires c κs = search needs
+
+meter-requires : tie.Need-meter-requires
+meter-requires c κs = search needs
+
+power-requires : tie.Need-power-requires
+power-requires c κs = search needs
+
+slice-requires : tie.Need-slice-requires
+slice-requires c κs = search needs
+
+second-requires : tie.Need-second-requires
+second-requires c κs = search needs
+
+same-length : tie.Need-same-length
+same-length c = search needs
+
+returns : tie.Need-returns
+unfolding setLine setBy
+returns c = rw (sym (c .before .before .before .before .before .before .before .word .ensures), sym (c .before .before .before .before .before .place-of .ensures), c .before .before .before .before .match .keys1) (c .before .before .meter .ensures)
+
+returns-2 : tie.Need-returns-2
+unfolding setLine setBy
+returns-2 c = rw (sym (c .before .before .before .before .word .ensures), sym (c .before .before .place-of .ensures), c .before .match .keys2, c .power .ensures)
+
+same-length-2 : tie.Need-same-length-2
+same-length-2 c = search needs
+
+returns-3 : tie.Need-returns-3
+unfolding setLine setBy
+returns-3 c = rw (sym (c .before .before .before .before .before .before .before .word .ensures), sym (c .before .before .before .before .before .place-of .ensures), c .before .before .before .before .match .keys3) (c .before .before .slice .ensures)
+
+returns-4 : tie.Need-returns-4
+unfolding setLine setBy
+returns-4 c = rw (sym (c .before .before .before .before .word .ensures), sym (c .before .before .place-of .ensures), c .before .match .keys4, c .second .ensures)
+
+returns-5 : tie.Need-returns-5
+unfolding setLine setBy
+returns-5 c = let r = c .match .rest in simp (sym (c .before .before .before .word .ensures), sym (c .before .place-of .ensures), ne-eqb _ _ (r .0 .0 .0 .1), ne-eqb _ _ (r .0 .0 .1), ne-eqb _ _ (r .0 .1), ne-eqb _ _ (r .1))
+
+pub set-spec : {M : Type 1} → statement M
+set-spec =
+    tie.close
+    (tie.spec
+    word-requires
+    slice-aggregate-place-of
+    place-of-requires
+    meter-requires
+    power-requires
+    slice-requires
+    second-requires
+    same-length
+    returns
+    returns-2
+    same-length-2
+    returns-3
+    returns-4
+    returns-5)
