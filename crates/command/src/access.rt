@@ -42,18 +42,17 @@ pub fn change_allowed(p: Parameter, level: Level) -> bool
     ensures { λ r. ⌜ r ≡ changeAllowed p level ⌝ }
 {
     match p {
-        Parameter::Address => is_open(level),
-        Parameter::DisplayMask => is_open(level),
-        Parameter::ActivePower => is_main(level),
-        Parameter::ReactivePower => is_main(level),
-        Parameter::Telemetry => is_main(level),
-        Parameter::SummerDate => is_main(level),
-        Parameter::WinterDate => is_main(level),
-        Parameter::Clock => is_main(level),
-        Parameter::Slice => is_main(level),
-        Parameter::Password => is_main(level),
-        Parameter::SixSlices => is_main(level),
-        Parameter::Unknown => is_main(level),
+        Parameter::Address | Parameter::DisplayMask => is_open(level),
+        Parameter::ActivePower
+        | Parameter::ReactivePower
+        | Parameter::Telemetry
+        | Parameter::SummerDate
+        | Parameter::WinterDate
+        | Parameter::Clock
+        | Parameter::Slice
+        | Parameter::Password
+        | Parameter::SixSlices
+        | Parameter::Unknown => is_main(level),
     }
 }
 

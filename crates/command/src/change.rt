@@ -20,18 +20,18 @@ pub fn is_changeable(p: Parameter) -> bool
     ensures { λ r. ⌜ r ≡ changeable p ⌝ }
 {
     match p {
-        Parameter::Address => true,
-        Parameter::Telemetry => true,
-        Parameter::SummerDate => true,
-        Parameter::WinterDate => true,
-        Parameter::Clock => true,
-        Parameter::DisplayMask => true,
-        Parameter::Password => true,
-        Parameter::ActivePower => false,
-        Parameter::ReactivePower => false,
-        Parameter::Slice => false,
-        Parameter::SixSlices => false,
-        Parameter::Unknown => false,
+        Parameter::Address
+        | Parameter::Telemetry
+        | Parameter::SummerDate
+        | Parameter::WinterDate
+        | Parameter::Clock
+        | Parameter::DisplayMask
+        | Parameter::Password => true,
+        Parameter::ActivePower
+        | Parameter::ReactivePower
+        | Parameter::Slice
+        | Parameter::SixSlices
+        | Parameter::Unknown => false,
     }
 }
 
@@ -41,17 +41,14 @@ pub fn change_bytes(p: Parameter) -> usize
 {
     match p {
         Parameter::Address => 1,
-        Parameter::Telemetry => 8,
-        Parameter::SummerDate => 6,
-        Parameter::WinterDate => 6,
-        Parameter::Clock => 6,
-        Parameter::DisplayMask => 6,
-        Parameter::Password => 8,
-        Parameter::ActivePower => 0,
-        Parameter::ReactivePower => 0,
-        Parameter::Slice => 0,
-        Parameter::SixSlices => 0,
-        Parameter::Unknown => 0,
+        Parameter::Telemetry | Parameter::Password => 8,
+        Parameter::SummerDate | Parameter::WinterDate | Parameter::Clock | Parameter::DisplayMask =>
+            6,
+        Parameter::ActivePower
+        | Parameter::ReactivePower
+        | Parameter::Slice
+        | Parameter::SixSlices
+        | Parameter::Unknown => 0,
     }
 }
 
@@ -62,16 +59,16 @@ pub fn detail_fits(p: Parameter, detail: u8) -> bool
     match p {
         Parameter::Clock => detail == SET_CLOCK,
         Parameter::Password => detail <= AUXILIARY,
-        Parameter::Address => detail == 0,
-        Parameter::Telemetry => detail == 0,
-        Parameter::SummerDate => detail == 0,
-        Parameter::WinterDate => detail == 0,
-        Parameter::DisplayMask => detail == 0,
-        Parameter::ActivePower => detail == 0,
-        Parameter::ReactivePower => detail == 0,
-        Parameter::Slice => detail == 0,
-        Parameter::SixSlices => detail == 0,
-        Parameter::Unknown => detail == 0,
+        Parameter::ActivePower
+        | Parameter::ReactivePower
+        | Parameter::Address
+        | Parameter::Telemetry
+        | Parameter::SummerDate
+        | Parameter::WinterDate
+        | Parameter::DisplayMask
+        | Parameter::Slice
+        | Parameter::SixSlices
+        | Parameter::Unknown => detail == 0,
     }
 }
 
@@ -91,16 +88,16 @@ pub fn data_fits(p: Parameter, held: Telemetry, bytes: &[u8]) -> bool
     match p {
         Parameter::Address => 1 <= words::byte_at(bytes, 0),
         Parameter::Telemetry => telemetry_fits(figures::telemetry_of(bytes), held),
-        Parameter::SummerDate => second::is_switchable(figures::date_time_of(bytes)),
-        Parameter::WinterDate => second::is_switchable(figures::date_time_of(bytes)),
+        Parameter::SummerDate | Parameter::WinterDate =>
+            second::is_switchable(figures::date_time_of(bytes)),
         Parameter::Clock => calendar::is_time(figures::date_time_of(bytes)),
-        Parameter::DisplayMask => true,
-        Parameter::Password => true,
-        Parameter::ActivePower => true,
-        Parameter::ReactivePower => true,
-        Parameter::Slice => true,
-        Parameter::SixSlices => true,
-        Parameter::Unknown => true,
+        Parameter::ActivePower
+        | Parameter::ReactivePower
+        | Parameter::DisplayMask
+        | Parameter::Slice
+        | Parameter::Password
+        | Parameter::SixSlices
+        | Parameter::Unknown => true,
     }
 }
 
@@ -146,11 +143,11 @@ pub fn changed(p: Parameter, r: Record, frame: &[u8]) -> Record
                 passwords_after(passwords, detail, words::u64_at(bytes, 0)),
             )
         }
-        Parameter::ActivePower => r,
-        Parameter::ReactivePower => r,
-        Parameter::Slice => r,
-        Parameter::SixSlices => r,
-        Parameter::Unknown => r,
+        Parameter::ActivePower
+        | Parameter::ReactivePower
+        | Parameter::Slice
+        | Parameter::SixSlices
+        | Parameter::Unknown => r,
     }
 }
 
@@ -158,18 +155,16 @@ pub fn is_zeroable(p: Parameter) -> bool
     ensures { λ r. ⌜ r ≡ zeroable p ⌝ }
 {
     match p {
-        Parameter::SummerDate => true,
-        Parameter::WinterDate => true,
-        Parameter::Slice => true,
-        Parameter::Address => false,
-        Parameter::Telemetry => false,
-        Parameter::Clock => false,
-        Parameter::DisplayMask => false,
-        Parameter::Password => false,
-        Parameter::ActivePower => false,
-        Parameter::ReactivePower => false,
-        Parameter::SixSlices => false,
-        Parameter::Unknown => false,
+        Parameter::SummerDate | Parameter::WinterDate | Parameter::Slice => true,
+        Parameter::ActivePower
+        | Parameter::ReactivePower
+        | Parameter::Address
+        | Parameter::Telemetry
+        | Parameter::Clock
+        | Parameter::DisplayMask
+        | Parameter::Password
+        | Parameter::SixSlices
+        | Parameter::Unknown => false,
     }
 }
 
@@ -181,14 +176,14 @@ pub fn zeroed(p: Parameter, r: Record) -> Record
         Parameter::SummerDate => remade::with_summer(r, SwitchDate::Automatic),
         Parameter::WinterDate => remade::with_winter(r, SwitchDate::Automatic),
         Parameter::Slice => remade::with_next(r, 0),
-        Parameter::Address => r,
-        Parameter::Telemetry => r,
-        Parameter::Clock => r,
-        Parameter::DisplayMask => r,
-        Parameter::Password => r,
-        Parameter::ActivePower => r,
-        Parameter::ReactivePower => r,
-        Parameter::SixSlices => r,
-        Parameter::Unknown => r,
+        Parameter::ActivePower
+        | Parameter::ReactivePower
+        | Parameter::Address
+        | Parameter::Telemetry
+        | Parameter::Clock
+        | Parameter::DisplayMask
+        | Parameter::Password
+        | Parameter::SixSlices
+        | Parameter::Unknown => r,
     }
 }

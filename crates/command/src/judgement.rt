@@ -21,17 +21,17 @@ fn is_readable(p: Parameter) -> bool
 {
     match p {
         Parameter::Password => false,
-        Parameter::ActivePower => true,
-        Parameter::ReactivePower => true,
-        Parameter::Address => true,
-        Parameter::Telemetry => true,
-        Parameter::SummerDate => true,
-        Parameter::WinterDate => true,
-        Parameter::Clock => true,
-        Parameter::DisplayMask => true,
-        Parameter::Slice => true,
-        Parameter::SixSlices => true,
-        Parameter::Unknown => true,
+        Parameter::ActivePower
+        | Parameter::ReactivePower
+        | Parameter::Address
+        | Parameter::Telemetry
+        | Parameter::SummerDate
+        | Parameter::WinterDate
+        | Parameter::Clock
+        | Parameter::DisplayMask
+        | Parameter::Slice
+        | Parameter::SixSlices
+        | Parameter::Unknown => true,
     }
 }
 

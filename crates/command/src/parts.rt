@@ -58,18 +58,18 @@ pub fn is_known(p: Parameter) -> bool
     ensures { λ r. ⌜ r ≡ known p ⌝ }
 {
     match p {
-        Parameter::ActivePower => true,
-        Parameter::ReactivePower => true,
-        Parameter::Address => true,
-        Parameter::Telemetry => true,
-        Parameter::SummerDate => true,
-        Parameter::WinterDate => true,
-        Parameter::Clock => true,
-        Parameter::DisplayMask => true,
-        Parameter::Slice => true,
-        Parameter::Password => true,
-        Parameter::SixSlices => true,
         Parameter::Unknown => false,
+        Parameter::ActivePower
+        | Parameter::ReactivePower
+        | Parameter::Address
+        | Parameter::Telemetry
+        | Parameter::SummerDate
+        | Parameter::WinterDate
+        | Parameter::Clock
+        | Parameter::DisplayMask
+        | Parameter::Slice
+        | Parameter::Password
+        | Parameter::SixSlices => true,
     }
 }
 

@@ -10,6 +10,7 @@ use Prim.Native.Nat.{ℕ, _+_}
 use native.Mathlib.Omega.{arith}
 use lib.Dec.{eqb, leb, ltb}
 use lib.ListN.{length, take, drop}
+use Rattle.decide.specs.Test.{either}
 use Rattle.words.specs.Place.{byteAt, numberAt, written, drop-written}
 use Rattle.calendar.specs.declared.date.Date.{Date}
 use Rattle.calendar.specs.declared.time.DateTime.{DateTime}

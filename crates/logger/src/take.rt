@@ -9,7 +9,7 @@ use log::Lent;
 use reader::Fault;
 use reader::Form;
 ghost use mathlib.Core.Path.{_≡_};
-ghost use Rattle.logger.specs.Take.{outcome, taken, takenOpen, takenAt, takenSound, takenCounts, updateOf, filled, compared, sameCounts, numberOf};
+ghost use Rattle.logger.specs.Take.{outcome, taken, takenOpen, takenAt, takenSound, takenCounts, updateOf, updated, filled, compared, sameCounts, numberOf};
 
 pub enum TakeAnswer {
     Done,
@@ -131,22 +131,29 @@ fn take_counts(log: &mut [u8], i: usize, held: OpenAsk, ep: u16, em: u16, rp: u1
             answer: TakeAnswer::Unsound,
             held: held,
         },
-        CellAnswer::Good(cell) => match update_of(cell, ep, em, rp, rm) {
-            Update::Put(new) => {
-                log::put_cell(log, i, new);
-                Taken {
-                    answer: TakeAnswer::Done,
-                    held: OpenAsk::Closed,
-                }
-            }
-            Update::Keep => Taken {
+        CellAnswer::Good(cell) => updated(log, i, update_of(cell, ep, em, rp, rm)),
+    }
+}
+
+// What the reply does to the cell is done, and the ask is closed.
+fn updated(log: &mut [u8], i: usize, update: Update) -> Taken
+    ensures { λ r. ⌜ outcome r (now (log .exit)) ≡ updated update (now (log .entry)) i ⌝ }
+{
+    match update {
+        Update::Put(new) => {
+            log::put_cell(log, i, new);
+            Taken {
                 answer: TakeAnswer::Done,
                 held: OpenAsk::Closed,
-            },
-            Update::Conflict => Taken {
-                answer: TakeAnswer::OtherCounts,
-                held: OpenAsk::Closed,
-            },
+            }
+        }
+        Update::Keep => Taken {
+            answer: TakeAnswer::Done,
+            held: OpenAsk::Closed,
+        },
+        Update::Conflict => Taken {
+            answer: TakeAnswer::OtherCounts,
+            held: OpenAsk::Closed,
         },
     }
 }

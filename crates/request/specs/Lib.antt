@@ -1,3 +1,4 @@
 pub mod Subject
 pub mod Request
 pub mod RequestLaws
+pub mod Arm

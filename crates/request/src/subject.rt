@@ -32,18 +32,17 @@ pub fn subject_of(q: Request, slots: u8) -> Subject
     ensures { λ r. ⌜ r ≡ subjectOf q slots ⌝ }
 {
     match code::parameter_of(q.parameter) {
-        Parameter::ActivePower => power(q),
-        Parameter::ReactivePower => power(q),
+        Parameter::ActivePower | Parameter::ReactivePower => power(q),
         Parameter::Address => unused(q, Subject::Address),
         Parameter::Telemetry => unused(q, Subject::Telemetry),
-        Parameter::SummerDate => unused(q, Subject::DateTime),
-        Parameter::WinterDate => unused(q, Subject::DateTime),
-        Parameter::Clock => unused(q, Subject::DateTime),
+        Parameter::SummerDate | Parameter::WinterDate | Parameter::Clock => unused(
+            q,
+            Subject::DateTime,
+        ),
         Parameter::DisplayMask => unused(q, Subject::DisplayMask),
         Parameter::Slice => slice(q, slots, Subject::Slice),
-        Parameter::Password => Subject::Nothing,
         Parameter::SixSlices => slice(q, with_five_after(slots), Subject::SixSlices),
-        Parameter::Unknown => Subject::Nothing,
+        Parameter::Password | Parameter::Unknown => Subject::Nothing,
     }
 }
 

@@ -1,5 +1,8 @@
-use mathlib.Core.Path.{_∙_}
-use Rattle.command.specs.Change.{changed}
+use Rattle.command.specs.Change.{changeable, changed}
+use mathlib.Core.Path.{refl, _∙_}
+use mathlib.Core.Bool.{not}
+use Rattle.decide.specs.Keys.{keysWhere, each}
+use Rattle.request.specs.Arm.{byKey, keysIf, in-arm}
 use borrow.Author.Needs.{needs}
 use Rattle.command.proofs.change.changed.Statement.{statement}
 use Rattle.command.proofs.change.changed.Tie as tie
@@ -76,21 +79,6 @@ passwords-after-requires c κs = search needs
 with-passwords-requires : tie.Need-with-passwords-requires
 with-passwords-requires c κs = search needs
 
-enum-told-8 : tie.Need-enum-told-8
-enum-told-8 c = search needs
-
-enum-told-9 : tie.Need-enum-told-9
-enum-told-9 c = search needs
-
-enum-told-10 : tie.Need-enum-told-10
-enum-told-10 c = search needs
-
-enum-told-11 : tie.Need-enum-told-11
-enum-told-11 c = search needs
-
-enum-told-12 : tie.Need-enum-told-12
-enum-told-12 c = search needs
-
 returns : tie.Need-returns
 unfolding changed
 returns c = c .with-address .ensures ∙ simp (c .before .before .enum-told .given .1, c .before .byte-at .ensures, c .before .before .before .before .tail .ensures)
@@ -120,24 +108,8 @@ unfolding changed
 returns-7 c = c .with-passwords .ensures ∙ simp (c .before .before .before .before .enum-told7 .given .1, c .before .passwords-after .ensures, c .before .before .before .byte-at2 .ensures, c .before .before .u64-at .ensures, c .before .before .before .before .before .before .tail .ensures)
 
 returns-8 : tie.Need-returns-8
-unfolding changed
-returns-8 c = simp (c .enum-told8 .given .1)
-
-returns-9 : tie.Need-returns-9
-unfolding changed
-returns-9 c = simp (c .enum-told9 .given .1)
-
-returns-10 : tie.Need-returns-10
-unfolding changed
-returns-10 c = simp (c .enum-told10 .given .1)
-
-returns-11 : tie.Need-returns-11
-unfolding changed
-returns-11 c = simp (c .enum-told11 .given .1)
-
-returns-12 : tie.Need-returns-12
-unfolding changed
-returns-12 c = simp (c .enum-told12 .given .1)
+unfolding changed keysIf keysWhere each byKey
+returns-8 c = in-arm (keysIf (λ p. not (changeable p))) (λ p. changed p (c .before .before .before .before .args .r) (c .before .before .before .before .args .frame .now)) (c .before .before .before .before .args .r) (c .before .before .before .before .args .p) (c .match .keys8) refl
 
 pub changed-spec : {M : Type 1} → statement M
 changed-spec =
@@ -167,11 +139,6 @@ changed-spec =
     u64-at-requires
     passwords-after-requires
     with-passwords-requires
-    enum-told-8
-    enum-told-9
-    enum-told-10
-    enum-told-11
-    enum-told-12
     returns
     returns-2
     returns-3
@@ -179,8 +146,4 @@ changed-spec =
     returns-5
     returns-6
     returns-7
-    returns-8
-    returns-9
-    returns-10
-    returns-11
-    returns-12)
+    returns-8)

@@ -1,4 +1,8 @@
-use mathlib.Core.Path.{_∙_}
+use Rattle.command.specs.Change.{zeroable, zeroed}
+use mathlib.Core.Path.{refl, _∙_}
+use mathlib.Core.Bool.{not}
+use Rattle.decide.specs.Keys.{keysWhere, each}
+use Rattle.request.specs.Arm.{byKey, keysIf, in-arm}
 use borrow.Author.Needs.{needs}
 use Rattle.command.proofs.change.zeroed.Statement.{statement}
 use Rattle.command.proofs.change.zeroed.Tie as tie
@@ -21,33 +25,6 @@ enum-told-3 c = search needs
 with-next-requires : tie.Need-with-next-requires
 with-next-requires c κs = search needs
 
-enum-told-4 : tie.Need-enum-told-4
-enum-told-4 c = search needs
-
-enum-told-5 : tie.Need-enum-told-5
-enum-told-5 c = search needs
-
-enum-told-6 : tie.Need-enum-told-6
-enum-told-6 c = search needs
-
-enum-told-7 : tie.Need-enum-told-7
-enum-told-7 c = search needs
-
-enum-told-8 : tie.Need-enum-told-8
-enum-told-8 c = search needs
-
-enum-told-9 : tie.Need-enum-told-9
-enum-told-9 c = search needs
-
-enum-told-10 : tie.Need-enum-told-10
-enum-told-10 c = search needs
-
-enum-told-11 : tie.Need-enum-told-11
-enum-told-11 c = search needs
-
-enum-told-12 : tie.Need-enum-told-12
-enum-told-12 c = search needs
-
 returns : tie.Need-returns
 returns c = c .with-summer .ensures ∙ simp (c .before .enum-told .given .1)
 
@@ -58,31 +35,8 @@ returns-3 : tie.Need-returns-3
 returns-3 c = c .with-next .ensures ∙ simp (c .before .enum-told3 .given .1)
 
 returns-4 : tie.Need-returns-4
-returns-4 c = simp (c .enum-told4 .given .1)
-
-returns-5 : tie.Need-returns-5
-returns-5 c = simp (c .enum-told5 .given .1)
-
-returns-6 : tie.Need-returns-6
-returns-6 c = simp (c .enum-told6 .given .1)
-
-returns-7 : tie.Need-returns-7
-returns-7 c = simp (c .enum-told7 .given .1)
-
-returns-8 : tie.Need-returns-8
-returns-8 c = simp (c .enum-told8 .given .1)
-
-returns-9 : tie.Need-returns-9
-returns-9 c = simp (c .enum-told9 .given .1)
-
-returns-10 : tie.Need-returns-10
-returns-10 c = simp (c .enum-told10 .given .1)
-
-returns-11 : tie.Need-returns-11
-returns-11 c = simp (c .enum-told11 .given .1)
-
-returns-12 : tie.Need-returns-12
-returns-12 c = simp (c .enum-told12 .given .1)
+unfolding keysIf keysWhere each byKey
+returns-4 c = in-arm (keysIf (λ p. not (zeroable p))) (λ p. zeroed p (c .before .args .r)) (c .before .args .r) (c .before .args .p) (c .match .keys4) refl
 
 pub zeroed-spec : {M : Type 1} → statement M
 zeroed-spec =
@@ -94,24 +48,7 @@ zeroed-spec =
     with-winter-requires
     enum-told-3
     with-next-requires
-    enum-told-4
-    enum-told-5
-    enum-told-6
-    enum-told-7
-    enum-told-8
-    enum-told-9
-    enum-told-10
-    enum-told-11
-    enum-told-12
     returns
     returns-2
     returns-3
-    returns-4
-    returns-5
-    returns-6
-    returns-7
-    returns-8
-    returns-9
-    returns-10
-    returns-11
-    returns-12)
+    returns-4)
