@@ -21,9 +21,10 @@ use Rattle.log.specs.declared.header.Header.{Header}
 use Rattle.logfile.specs.FileLaws.{Accepted, accepted-image}
 use Rattle.logger.specs.Book.{Call, ask, lapse, reply, startBook, BookRun, bookRun, workedOut}
 use Rattle.logger.specs.Run.{State, Run, step, run}
-use Rattle.logger.specs.StepLaws.{stateOf}
+use Rattle.logger.specs.StepLaws.{stateOf, AllBytes}
 use Rattle.logger.specs.declared.held.OpenAsk.the-variants.{Closed}
-use Rattle.demands.specs.History.{AllBytes, Elsewhere, together, start-sane, start-state, byte-kept, length-kept}
+use Rattle.polling.specs.Reached.{Reached}
+use Rattle.demands.specs.History.{Elsewhere, together, start-sane, start-state, byte-kept, length-kept}
 
 -- ---- the claim
 
@@ -96,3 +97,11 @@ pub file-start : (f out y : List ℕ) (n : ℕ) → Bytes f → Accepted f out y
 file-start f out y n k a =
     let i = accepted-image f out y n k a in
     record { header = a .header; cells = i .cells; right = i .header; count = i .count; each = i .each; image = i .image }
+
+-- ---- the poller
+
+-- what the program `poll` promises (`polling/specs/Reached.antt`) leaves: whatever the line carried, the log is the one worked out afresh from
+-- a history of asks, lapses and replies
+pub polled : (s : List ℕ) (start : Start s) (t : State) (p : Reached (record { log = s; held = Closed }) t)
+    → t .log ≡ imageOf (start .header) (workedOut (booked start (p .calls) .book .kept) 0 (cellsOf (start .header)))
+polled s start t p = ap (λ (w : State). w .log) (sym (p .leads)) ∙ demand-3 s start (p .calls) (p .bytes) .log

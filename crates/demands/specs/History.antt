@@ -34,17 +34,13 @@ use Rattle.logger.specs.Take as Take
 use Rattle.logger.specs.Book.{Call, Answer, Book, isZero, counts, firstOf, byFirst, afresh, cameFirst, startBook, bookStep, bookRun, workedOut}
 use Rattle.logger.specs.BookLaws.{Fitting, length-workedOut, workedOut-at}
 use Rattle.logger.specs.Run.{State, run}
-use Rattle.logger.specs.StepLaws.{stateOf, Sane, CallBytes, step-agrees, step-sane}
+use Rattle.logger.specs.StepLaws.{stateOf, Sane, AllBytes, step-agrees, step-sane}
 use Rattle.logger.specs.declared.held.OpenAsk.{OpenAsk}
 use Rattle.logger.specs.declared.held.OpenAsk.the-variants.{Closed, Open}
 use Rattle.logger.specs.declared.take.Update.{Update}
 use Rattle.logger.specs.declared.take.Update.the-variants.{Put, Keep, Conflict}
 
 -- ---- a list of calls
-
-abbrev pub AllBytes : List Call → Type 0
-AllBytes [] = Unit
-AllBytes (c ∷ calls) = CallBytes c × AllBytes calls
 
 pub record Together (h : Header) (b : Book) (calls : List Call) : Type 0 where
   pub answers : run (stateOf h b) calls .answers ≡ bookRun h b calls .answers

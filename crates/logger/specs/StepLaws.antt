@@ -190,6 +190,10 @@ CallBytes (ask address day slot out) = Unit
 CallBytes lapse = Unit
 CallBytes (reply y) = Bytes y
 
+abbrev pub AllBytes : List Call → Type 0
+AllBytes [] = Unit
+AllBytes (c ∷ calls) = CallBytes c × AllBytes calls
+
 lapsed : (h : Header) (b : Book) → Agree h (step (stateOf h b) lapse) (entry (plain 0) Closed (b .kept))
 unfolding step
 lapsed h b = record { answer = refl; state = refl }

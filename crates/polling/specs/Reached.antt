@@ -7,7 +7,7 @@ use Rattle.words.specs.Number.{Bytes}
 use Rattle.logger.specs.Ask as Ask
 use Rattle.logger.specs.Book.{Call, ask, lapse, reply}
 use Rattle.logger.specs.Run.{State, step, run}
-use Rattle.logger.specs.StepLaws.{CallBytes}
+use Rattle.logger.specs.StepLaws.{AllBytes}
 use Rattle.logger.specs.declared.ask.Asked.{Asked}
 use Rattle.logger.specs.declared.held.OpenAsk.{OpenAsk}
 use Rattle.logger.specs.declared.held.OpenAsk.the-variants.{Closed}
@@ -19,15 +19,10 @@ use Rattle.polling.specs.declared.fate.Settled.{Settled}
 abbrev pub standing : List ℕ → OpenAsk → State
 standing s held = record { log = s; held = held }
 
--- the replies among some calls are bytes, as demand 3 asks
-abbrev pub ByteReplies : List Call → Type 0
-ByteReplies [] = Unit
-ByteReplies (c ∷ calls) = CallBytes c × ByteReplies calls
-
 -- some asks, lapses and replies lead from one state to another (demand 3's "any list")
 pub record Reached (s t : State) : Type 0 where
   pub calls : List Call
-  pub bytes : ByteReplies calls
+  pub bytes : AllBytes calls
   pub leads : run s calls .state ≡ t
 
 -- the open ask alone goes from one to another: the log stays
@@ -44,7 +39,7 @@ pub lapses : (s : List ℕ) (o p : OpenAsk) → p ≡ Closed → Reached (standi
 unfolding run step
 lapses s o p e = record { calls = lapse ∷ []; bytes = (tt, tt); leads = ap (standing s) (sym e) }
 
-both-bytes : (a b : List Call) → ByteReplies a → ByteReplies b → ByteReplies (a ++ b)
+both-bytes : (a b : List Call) → AllBytes a → AllBytes b → AllBytes (a ++ b)
 both-bytes [] b x y = y
 both-bytes (c ∷ a) b x y = (x .0, both-bytes a b (x .1) y)
 
@@ -67,7 +62,7 @@ unfolding run step
 asks s o address day slot out after r e =
     record { calls = ask address day slot out ∷ []; bytes = (tt, tt); leads = ap (λ (x : Ask.Outcome). standing s (x .result .held)) (sym e) }
 
-settle-bytes : (y : List ℕ) → Bytes y → ByteReplies (settleCalls y)
+settle-bytes : (y : List ℕ) → Bytes y → AllBytes (settleCalls y)
 unfolding settleCalls
 settle-bytes [] k = (tt, tt)
 settle-bytes (b ∷ y) k = (k, (tt, tt))
