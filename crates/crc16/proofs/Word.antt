@@ -126,7 +126,7 @@ more-pair a m first second h e =
 
 -- a times x ^ 16, which is x ^ 2 + x, modulo Q
 abbrev pub belowQ : ℕ → ℕ
-belowQ a = belowX15 (belowX15 (bitXor (belowX30 (belowX30 a) / 2) (belowX30 (belowX30 a) / 2 ^ 2)))
+belowQ a = belowX15 (belowX15 (bitXor (belowX30 a / 2) (belowX30 a / 2 ^ 2)))
 
 up-lt : (k a : ℕ) → up k a < 2 ^ 64
 up-lt k a = mod-lt (a * 2 ^ k) (pow-pos 64)
@@ -141,10 +141,10 @@ linear-belowQ : Linear belowQ
 linear-belowQ =
     linear-compose linear-belowX15
     (linear-compose linear-belowX15
-    (linear-compose (linear-xor (linear-shr 1) (linear-shr 2)) (linear-compose linear-belowX30 linear-belowX30)))
+    (linear-compose (linear-xor (linear-shr 1) (linear-shr 2)) linear-belowX30))
 
 below-lt : (a : ℕ) → belowQ a < 2 ^ 64
-below-lt a = belowX15-lt (belowX15 (bitXor (belowX30 (belowX30 a) / 2) (belowX30 (belowX30 a) / 2 ^ 2)))
+below-lt a = belowX15-lt (belowX15 (bitXor (belowX30 a / 2) (belowX30 a / 2 ^ 2)))
 
 settle-looks : (a : ℕ) → a < 2 ^ 64 → bitXor (belowQ a / 2 ^ 48) (onesIn 64 (bitXor a (belowQ a)) % 2 * 0xC001) ≡ register a
 unfolding everyBelow times register onesIn

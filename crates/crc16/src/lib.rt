@@ -7,12 +7,15 @@
 ghost use mathlib.Core.Path.{_≡_};
 ghost use Prim.Native.Nat.{_≤_};
 ghost use lib.ListN.{length, drop};
-ghost use Rattle.words.specs.Number.{bytesOf};
+ghost use Rattle.words.specs.Number.{number, bytesOf};
 ghost use Rattle.crc16.specs.Crc.{byteStep, crcFrom, crcOf};
 ghost use Rattle.crc16.specs.Word.{register, byX64, belowX30, belowX15};
 
 // Stands for the register's start, FFFF hex.
 const START: u64 = 0x0F14;
+
+// The register's start itself.
+const FIRST: u64 = 0xFFFF;
 
 // Q as a register, whose bit i is x^(15 - i).
 const Q: u32 = 0xC001;
@@ -75,7 +78,7 @@ fn below_x15(a: u64) -> u64
 fn settled(a: u64) -> u16
     ensures { λ r. ⌜ r ≡ register a ⌝ }
 {
-    let b = below_x30(below_x30(a));
+    let b = below_x30(a);
     let c = below_x15(below_x15((b >> 1) ^ (b >> 2)));
     (((c >> 48) as u32) ^ (u64::count_ones(a ^ c) % 2 * Q)) as u16
 }
@@ -115,8 +118,8 @@ fn by_word(a: u64, bytes: &[u8], at: usize) -> u16
     by_half(word_more(a, words::u64_at(bytes, at)), bytes, at + 8)
 }
 
-// The CRC of a frame's bytes before it; its low byte travels first.
-pub fn crc16(bytes: &[u8]) -> u16
+// Sixteen bytes at a time, and then the rest.
+fn by_pairs(bytes: &[u8]) -> u16
     ensures { λ r. ⌜ r ≡ crcOf (now (bytes .entry)) ⌝ }
 {
     let mut a = START;
@@ -126,4 +129,53 @@ pub fn crc16(bytes: &[u8]) -> u16
         i += 16;
     }
     by_word(a, bytes, i)
+}
+
+// The first n bytes of a word, after the register's start: it is xored into the first two of them, and zeros before them would leave a
+// register of 0 as it is.
+fn raised(word: u64, n: usize) -> u64
+    requires { ⌜ (2 ≤ n) × (n ≤ 8) ⌝ }
+    ensures { λ r. ⌜ register r ≡ crcOf (bytesOf n word) ⌝ }
+{
+    (word ^ FIRST) << (64 - 8 * n)
+}
+
+// Four to eight bytes as a number: the first four, and above them those of the last four that are not among the first.
+fn few(bytes: &[u8]) -> u64
+    requires { ⌜ (4 ≤ length (now bytes)) × (length (now bytes) ≤ 8) ⌝ }
+    ensures { λ r. ⌜ r ≡ number (now (bytes .entry)) ⌝ }
+{
+    let n = bytes.len();
+    let low = words::u32_at(bytes, 0);
+    let last = words::u32_at(bytes, n - 4);
+    ((last as u64) >> (64 - 8 * n) << 32) + (low as u64)
+}
+
+// Ten to fifteen bytes: those before the last eight, and the last eight.
+fn two_words(bytes: &[u8]) -> u64
+    requires { ⌜ (10 ≤ length (now bytes)) × (length (now bytes) ≤ 16) ⌝ }
+    ensures { λ r. ⌜ register r ≡ crcOf (now (bytes .entry)) ⌝ }
+{
+    let n = bytes.len() - 8;
+    word_more(raised(words::u64_at(bytes, 0), n), words::u64_at(bytes, n))
+}
+
+// The CRC of a frame's bytes before it; its low byte travels first. Frames are short, so those of four to eight bytes and of ten to
+// fifteen go by one word or two, without a loop.
+pub fn crc16(bytes: &[u8]) -> u16
+    ensures { λ r. ⌜ r ≡ crcOf (now (bytes .entry)) ⌝ }
+{
+    let n = bytes.len();
+    if n < 4 {
+        return by_bytes(START, bytes, 0);
+    }
+    if n <= 8 {
+        return settled(raised(few(bytes), n));
+    }
+    if n < 16 {
+        if 10 <= n {
+            return settled(two_words(bytes));
+        }
+    }
+    by_pairs(bytes)
 }

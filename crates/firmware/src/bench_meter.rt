@@ -236,13 +236,8 @@ pub extern "C" fn metlazuel_meter_answer(
 ) -> u8
     ensures { λ n. ⌜ answerOutcome n (now (length .exit)) (now (kept .exit)) (now (store .exit)) (now (out .exit)) ≡ answerTold (recordOf (now (kept .entry))) (now (kept .entry)) (now (store .entry)) (now (frame .entry)) (now (out .entry)) ⌝ }
 {
-    let RecordRead::Read(r) = record_bytes::record_of(kept) else {
-        *length = 0;
-        return unread_number(out.len());
-    };
-    let answer = meter::answer(r, store, frame, out);
-    put_reply(kept, answer);
-    *length = answer.length;
-    let verdict = answer.verdict;
+    let told = kept_meter::answer(kept, store, frame, out);
+    *length = told.length;
+    let verdict = told.verdict;
     verdict.number()
 }

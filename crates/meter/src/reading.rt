@@ -22,7 +22,7 @@ fn phase(p: Phases, detail: u8) -> f32
 }
 
 // The total and the three phases, or one of them.
-fn put_power(out: &mut [u8], p: Phases, detail: u8)
+pub fn put_power(out: &mut [u8], p: Phases, detail: u8)
     ensures { λ _. ⌜ now (out .exit) ≡ written (now (out .entry)) 0 (powerData p detail) ⌝ }
 {
     if detail == 0 {
@@ -33,7 +33,7 @@ fn put_power(out: &mut [u8], p: Phases, detail: u8)
 }
 
 // The automatic dates read as those of the clock's year.
-fn summer_shown(t: Time) -> DateTime
+pub fn summer_shown(t: Time) -> DateTime
     ensures { λ r. ⌜ r ≡ summerShown t ⌝ }
 {
     let summer = t.summer;
@@ -42,7 +42,7 @@ fn summer_shown(t: Time) -> DateTime
     second::summer_date(summer, date.year)
 }
 
-fn winter_shown(t: Time) -> DateTime
+pub fn winter_shown(t: Time) -> DateTime
     ensures { λ r. ⌜ r ≡ winterShown t ⌝ }
 {
     let winter = t.winter;
@@ -52,7 +52,7 @@ fn winter_shown(t: Time) -> DateTime
 }
 
 // Six rows one behind the other.
-fn put_six(out: &mut [u8], rows: [[u16; 4]; 6])
+pub fn put_six(out: &mut [u8], rows: [[u16; 4]; 6])
     ensures { λ _. ⌜ now (out .exit) ≡ written (now (out .entry)) 0 (sixBytes rows) ⌝ }
 {
     store::put_row(out, 0, rows[0]);
@@ -90,7 +90,7 @@ fn put_figures(out: &mut [u8], p: Parameter, r: Record, store: &[u8], q: Request
 }
 
 // How many bytes a parameter's figures have.
-fn figure_bytes(p: Parameter, detail: u8) -> usize
+pub fn figure_bytes(p: Parameter, detail: u8) -> usize
     ensures { λ r. ⌜ r ≡ sizeOf p detail ⌝ }
 {
     match p {

@@ -37,7 +37,7 @@ pub fn is_sound(r: Record, store: &[u8]) -> bool
 }
 
 // Whether bytes are a frame for this meter: its own address, or 0.
-fn is_heard(r: Record, frame: &[u8]) -> bool
+pub fn is_heard(own: u8, frame: &[u8]) -> bool
     ensures { λ a. ⌜ a ≡ heard r (now (frame .entry)) ⌝ }
 {
     let address = words::byte_at(frame, 0);
@@ -45,7 +45,7 @@ fn is_heard(r: Record, frame: &[u8]) -> bool
         if address == 0 {
             return true;
         }
-        return address == r.address;
+        return address == own;
     }
     false
 }
@@ -64,7 +64,7 @@ fn function_for(v: Verdict, function: u8) -> u8
 }
 
 // The four bytes before the data: the command's address, function and parameter, and the result.
-fn put_head(out: &mut [u8], v: Verdict, frame: &[u8])
+pub fn put_head(out: &mut [u8], v: Verdict, frame: &[u8])
     ensures { λ _. ⌜ now (out .exit) ≡ written (now (out .entry)) 0 (headOf v (now (frame .entry))) ⌝ }
 {
     let head = [
@@ -88,7 +88,7 @@ pub fn answer(r: Record, store: &mut [u8], frame: &[u8], out: &mut [u8]) -> Answ
         };
     }
     if is_sound(r, store) {
-        if is_heard(r, frame) {
+        if is_heard(r.address, frame) {
             return replied(r, store, frame, out);
         }
         return Answered {

@@ -1,0 +1,5 @@
+mod answer;
+mod shown;
+
+pub use answer::Told;
+pub use answer::answer;
