@@ -1,3 +1,4 @@
+-- `crc16::crc16` meets its contract, each length by its own way.
 use Rattle.crc16.specs.Word.{register}
 use Rattle.crc16.specs.Crc.{crcOf, crcFrom, times, bitStep}
 use Rattle.words.specs.Number.{number, bytesOf, bytesOf-number}
@@ -6,59 +7,40 @@ use mathlib.Core.Path.{_∙_, sym, ap, refl}
 use borrow.Author.Needs.{needs}
 use Rattle.crc16.proofs.crc16.Statement.{statement}
 use Rattle.crc16.proofs.crc16.Tie as tie
-use Rattle.crc16.proofs.crc16.Reads as reads
-use Rattle.crc16.proofs.crc16.Lts as lts
-use Rattle.crc16.proofs.by_bytes.Reads as by-bytes-reads
-use Rattle.crc16.proofs.by_pairs.Reads as by-pairs-reads
-use Rattle.crc16.proofs.few.Reads as few-reads
-use Rattle.crc16.proofs.raised.Reads as raised-reads
-use Rattle.crc16.proofs.settled.Reads as settled-reads
-use Rattle.crc16.proofs.two_words.Reads as two-words-reads
 
--- src/lib.rt:170:9
 by-bytes-requires : tie.Need-by-bytes-requires
 by-bytes-requires c κs = search needs
 
--- src/lib.rt:170:9
 returns : tie.Need-returns
 unfolding crcOf register times bitStep
 returns c = c .by-bytes .ensures
 
--- src/lib.rt:173:31
 few-requires : tie.Need-few-requires
 few-requires c κs = search needs
 
--- src/lib.rt:173:24
 raised-requires : tie.Need-raised-requires
 raised-requires c κs = search needs
 
--- src/lib.rt:173:9
 settled-requires : tie.Need-settled-requires
 settled-requires c κs = search needs
 
--- src/lib.rt:173:9
 returns-2 : tie.Need-returns-2
 returns-2 c = let s = c .before .before .before .before .before .before .args .bytes .now in
-  let known = c .before .before .before .before .before .shared-slice-known .given in
-  c .settled .ensures ∙ c .before .raised .ensures ∙ (rw (c .before .before .few .ensures) (ap crcOf (bytesOf-number s (λ i. known i .fits))))
+    let known = c .before .before .before .before .before .shared-slice-known .given in
+    c .settled .ensures ∙ c .before .raised .ensures ∙ (rw (c .before .before .few .ensures) (ap crcOf (bytesOf-number s (λ i. known i .fits))))
 
--- src/lib.rt:177:28
 two-words-requires : tie.Need-two-words-requires
 two-words-requires c κs = search needs
 
--- src/lib.rt:177:13
 settled-requires-2 : tie.Need-settled-requires-2
 settled-requires-2 c κs = search needs
 
--- src/lib.rt:177:13
 returns-3 : tie.Need-returns-3
 returns-3 c = c .settled2 .ensures ∙ c .before .two-words .ensures
 
--- src/lib.rt:180:5
 by-pairs-requires : tie.Need-by-pairs-requires
 by-pairs-requires c κs = search needs
 
--- src/lib.rt:165:1
 returns-4 : tie.Need-returns-4
 returns-4 c = search needs
 

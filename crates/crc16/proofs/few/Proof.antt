@@ -1,52 +1,40 @@
+-- `crc16::few` meets its contract: the first four bytes, and above them the rest of the last four.
 use Rattle.crc16.specs.Short.{few-number}
 use borrow.Author.Needs.{needs}
 use Rattle.crc16.proofs.few.Statement.{statement}
 use Rattle.crc16.proofs.few.Tie as tie
-use Rattle.crc16.proofs.few.Reads as reads
-use Rattle.crc16.proofs.few.Lts as lts
-use Rattle.words.proofs.u32_at.Reads as u32-at-reads
 
--- src/lib.rt:149:9
 u32-at-requires : tie.Need-u32-at-requires
 u32-at-requires c κs = search needs
 
--- src/lib.rt:150:37
 sub-u32-at : tie.Need-sub-u32-at
 sub-u32-at c = search needs
 
--- src/lib.rt:150:9
 u32-at-requires-2 : tie.Need-u32-at-requires-2
 u32-at-requires-2 c κs = search needs
 
--- src/lib.rt:151:7
 cast-result : tie.Need-cast-result
 cast-result c = search needs
 
--- src/lib.rt:151:29
 mul-result : tie.Need-mul-result
 mul-result c = search needs
 
--- src/lib.rt:151:24
 sub-result : tie.Need-sub-result
 sub-result c = search needs
 
--- src/lib.rt:151:6
 shr-result : tie.Need-shr-result
 shr-result c = search needs
 
--- src/lib.rt:151:46
 cast-result-2 : tie.Need-cast-result-2
 cast-result-2 c = search needs
 
--- src/lib.rt:151:5
 add-result : tie.Need-add-result
 add-result c = search needs
 
--- src/lib.rt:144:1
 returns : tie.Need-returns
 returns c = let start = c .before .before .before .args in
-  let known = c .before .before .shared-slice-known .given in
-  rw (c .u32-at2 .ensures, c .before .u32-at .ensures) (few-number (start .bytes .now) (λ i. known i .fits) (c .before .before .before .pre .0) (c .before .before .before .pre .1))
+    let known = c .before .before .shared-slice-known .given in
+    rw (c .u32-at2 .ensures, c .before .u32-at .ensures) (few-number (start .bytes .now) (λ i. known i .fits) (c .before .before .before .pre .0) (c .before .before .before .pre .1))
 
 pub few-spec : {M : Type 1} → statement M
 few-spec =
