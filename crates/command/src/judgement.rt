@@ -63,11 +63,11 @@ fn passed(length_fits: bool, allowed: bool, fits: bool) -> Verdict
     Verdict::WrongLength
 }
 
-pub fn read_verdict(minutes: u8, frame: &[u8]) -> Verdict
+fn read_verdict(r: Record, frame: &[u8]) -> Verdict
     ensures { λ a. ⌜ a ≡ readVerdict r (now (frame .entry)) ⌝ }
 {
     let p = parts::parameter_in(frame);
-    let slots = slots::slots_of(minutes);
+    let slots = slots::slots_of(r.minutes);
     let subject = request::subject_of(parts::request_in(frame), slots);
     checked(
         parts::is_known(p),
@@ -123,7 +123,7 @@ pub fn judge(r: Record, frame: &[u8]) -> Verdict
 {
     let passwords = r.passwords;
     match parts::function_in(frame) {
-        Function::Read => read_verdict(r.minutes, frame),
+        Function::Read => read_verdict(r, frame),
         Function::Change => change_verdict(r, frame),
         Function::Zero => zero_verdict(r, frame),
         Function::Unlock => access::unlock_verdict(passwords, frame),

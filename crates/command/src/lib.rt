@@ -12,7 +12,6 @@ pub use access::level_for;
 pub use change::changed;
 pub use change::zeroed;
 pub use judgement::judge;
-pub use judgement::read_verdict;
 pub use parts::DATA;
 pub use parts::DETAIL;
 pub use parts::FUNCTION;

@@ -9,10 +9,9 @@ mod reply;
 
 pub use bench::put_slice;
 pub use reading::figure_bytes;
-pub use reading::put_power;
+pub use reading::is_read;
+pub use reading::put_figures;
 pub use reading::put_six;
-pub use reading::summer_shown;
-pub use reading::winter_shown;
 pub use reply::Answered;
 pub use reply::answer;
 pub use reply::is_heard;

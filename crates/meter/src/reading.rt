@@ -22,7 +22,7 @@ fn phase(p: Phases, detail: u8) -> f32
 }
 
 // The total and the three phases, or one of them.
-pub fn put_power(out: &mut [u8], p: Phases, detail: u8)
+fn put_power(out: &mut [u8], p: Phases, detail: u8)
     ensures { λ _. ⌜ now (out .exit) ≡ written (now (out .entry)) 0 (powerData p detail) ⌝ }
 {
     if detail == 0 {
@@ -33,7 +33,7 @@ pub fn put_power(out: &mut [u8], p: Phases, detail: u8)
 }
 
 // The automatic dates read as those of the clock's year.
-pub fn summer_shown(t: Time) -> DateTime
+fn summer_shown(t: Time) -> DateTime
     ensures { λ r. ⌜ r ≡ summerShown t ⌝ }
 {
     let summer = t.summer;
@@ -42,7 +42,7 @@ pub fn summer_shown(t: Time) -> DateTime
     second::summer_date(summer, date.year)
 }
 
-pub fn winter_shown(t: Time) -> DateTime
+fn winter_shown(t: Time) -> DateTime
     ensures { λ r. ⌜ r ≡ winterShown t ⌝ }
 {
     let winter = t.winter;
@@ -64,7 +64,7 @@ pub fn put_six(out: &mut [u8], rows: [[u16; 4]; 6])
 }
 
 // The figures of a parameter that is read.
-fn put_figures(out: &mut [u8], p: Parameter, r: Record, store: &[u8], q: Request)
+pub fn put_figures(out: &mut [u8], p: Parameter, r: Record, store: &[u8], q: Request)
     ensures { λ _. ⌜ now (out .exit) ≡ written (now (out .entry)) 0 (figuresOf p r (now (store .entry)) q) ⌝ }
 {
     let active = r.active;
@@ -116,7 +116,7 @@ fn power_bytes(detail: u8) -> usize
 }
 
 // Only a read has data.
-fn is_read(frame: &[u8]) -> bool
+pub fn is_read(frame: &[u8]) -> bool
     ensures { λ r. ⌜ r ≡ isRead (functionIn (now (frame .entry))) ⌝ }
 {
     match command::function_in(frame) {

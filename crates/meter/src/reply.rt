@@ -10,7 +10,7 @@ ghost use Prim.Native.Nat.{_≤_, _+_};
 ghost use lib.ListN.{length};
 ghost use Rattle.words.specs.Place.{written};
 ghost use Rattle.frame.specs.Sealing.{sealed};
-ghost use Rattle.meter.specs.Reply.{outcome, isSound, heard, functionFor, headOf, replied, filled, answerOf};
+ghost use Rattle.meter.specs.Reply.{outcome, isSound, heardAt, functionFor, headOf, replied, filled, answerOf};
 ghost use Rattle.command.specs.Judgement.{verdictOf};
 ghost use Rattle.meter.specs.Reading.{dataOf};
 
@@ -36,9 +36,9 @@ pub fn is_sound(r: Record, store: &[u8]) -> bool
     meter_record::is_within(r)
 }
 
-// Whether bytes are a frame for this meter: its own address, or 0.
+// Whether bytes are a frame for the meter with an address of its own: that one, or 0.
 pub fn is_heard(own: u8, frame: &[u8]) -> bool
-    ensures { λ a. ⌜ a ≡ heard r (now (frame .entry)) ⌝ }
+    ensures { λ a. ⌜ a ≡ heardAt own (now (frame .entry)) ⌝ }
 {
     let address = words::byte_at(frame, 0);
     if frame::is_sealed(frame) {

@@ -4,25 +4,20 @@
 // them. What was written reads back as it was. Bytes of another length, or with a level, a season, a choice of date or a power that
 // there is not, are no record. Whether a record that is read keeps its ranges, `meter_record` says.
 mod level;
-mod part;
 mod power;
 mod record;
 mod time;
+mod within;
 
-pub use part::active_in;
-pub use part::address_in;
-pub use part::clock_in;
-pub use part::is_kept;
-pub use part::mask_in;
-pub use part::minutes_in;
-pub use part::reactive_in;
-pub use part::telemetry_in;
-pub use part::time_in;
-pub use power::PhasesRead;
 pub use record::RECORD_BYTES;
 pub use record::RecordRead;
 pub use record::put_record;
 pub use record::record_of;
 pub use time::SeasonRead;
-pub use time::TimeRead;
 pub use time::season_of;
+pub use within::address_in;
+pub use within::clock_in;
+pub use within::is_kept;
+pub use within::mask_in;
+pub use within::minutes_in;
+pub use within::telemetry_in;
