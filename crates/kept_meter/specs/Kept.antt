@@ -24,7 +24,7 @@ use Rattle.meter.specs.Reading.{isRead, dataOf, dataSize}
 use Rattle.meter.specs.Reply as reply
 use Rattle.meter.specs.Reply.{isSound, heardAt, heard, headOf, answerOf}
 use Rattle.meter.specs.declared.reply.Answered.{Answered}
-use Rattle.kept_meter.specs.declared.answer.Told.{Told}
+use Rattle.kept_meter.specs.declared.reply.Told.{Told}
 
 -- what is told, and what the record's bytes, the store and the output then hold
 pub record Outcome : Type 0 where
@@ -63,7 +63,7 @@ IsRecord bs r = recordOf bs ≡ Read r
 -- a whole read's bytes, which a record within its ranges hears and does
 unfoldable pub doneRead : List ℕ → List ℕ → Bool
 doneRead bs f =
-    withinIn (recordOf bs) && heardAt (byteAt bs 0) f && askable (subjectOf (requestIn f) (slotsOf (byteAt bs 78)))
+    withinIn (recordOf bs) && (heardAt (byteAt bs 0) f && askable (subjectOf (requestIn f) (slotsOf (byteAt bs 78))))
 
 pub record IsRead (f : List ℕ) : Type 0 where
   pub long : length f ≡ 8

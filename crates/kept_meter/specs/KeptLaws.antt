@@ -86,7 +86,9 @@ read-done r f w h =
 
 held-of : (bs s f : List ℕ) → length s ≡ storeBytes → IsRead f → doneRead bs f ≡ true → (x : RecordRead) → recordOf bs ≡ x → Held x s f
 unfolding doneRead isSound heard
-held-of bs s f n w h Unreadable e = absurd (subst T (sym h) (let z = simp e at h in subst T z tt))
+held-of bs s f n w h Unreadable e =
+    let two = both (withinIn (recordOf bs)) (heardAt (byteAt bs 0) f && askable (subjectOf (requestIn f) (slotsOf (byteAt bs 78)))) h in
+    absurd (subst T (sym (ap withinIn (sym e) ∙ two .0)) tt)
 held-of bs s f n w h (Read r) e =
     let parts = parts-of bs r e in
     let two = both (withinIn (recordOf bs)) (heardAt (byteAt bs 0) f && askable (subjectOf (requestIn f) (slotsOf (byteAt bs 78)))) h in
@@ -99,6 +101,7 @@ held-of bs s f n w h (Read r) e =
 
 pub shown-of : (bs s f : List ℕ) (n : ℕ) → 64 ≤ n → length s ≡ storeBytes → length f ≡ 8 → byteAt f 1 ≡ 3 → doneRead bs f ≡ true
     → Shown (recordOf bs) s f n
+unfolding functionOf
 shown-of bs s f n room long size three h =
     let w : IsRead f = record { long = size; reads = ap functionOf three } in
     record { roomy = room; whole = w; held = held-of bs s f long w h (recordOf bs) refl }
@@ -124,3 +127,8 @@ shown-answer (Read r) bs s f out n after h reply =
     let reads = h .whole .reads in
     let whole = answer-done r s f out (h .roomy) (h .held) ∙ sym (filled-whole Done r s f out (h .roomy)) in
     rw (b .size, b .bytes, whole) (simp (reads, read-store s f reads))
+
+-- figures that were written are those of the parameter
+pub shown-by : (p c : Parameter) (r : Record) (s : List ℕ) (q : Request) (out : List ℕ) {after bs : List ℕ} → after ≡ written out 0 bs → p ≡ c
+    → bs ≡ figuresOf c r s q → after ≡ written out 0 (figuresOf p r s q)
+shown-by p c r s q out e k b = e ∙ ap (written out 0) (b ∙ sym (ap (λ (x : Parameter). figuresOf x r s q) k))

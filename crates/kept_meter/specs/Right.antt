@@ -45,3 +45,17 @@ ask-power q = go (eqb (q .offset) 0) refl (eqb (q .tariff) 0) refl (eqb (q .deta
     go true e true f true g d h = simp (e, f, eqb-true (q .detail) 0 g)
     go true e true f false g true h = simp (e, f, g, h)
     go true e true f false g false h = simp (e, f, g, h)
+
+-- ---- three tests in turn
+
+pub last-decides : (a b c : Bool) → a ≡ true → b ≡ true → a && (b && c) ≡ c
+last-decides a b c p q = rw (p, q)
+
+pub second-fails : (a b c : Bool) → a ≡ true → b ≡ false → a && (b && c) ≡ false
+second-fails a b c p q = rw (p, q)
+
+pub first-fails : (a b : Bool) → a ≡ false → a && b ≡ false
+first-fails a b p = rw p
+
+pub third-decides : (a b c : Bool) → a ≡ true → b ≡ true → a && b && c ≡ c
+third-decides a b c p q = rw (p, q)

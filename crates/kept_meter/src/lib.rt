@@ -2,9 +2,10 @@
 //
 // A read that is done leaves the record's bytes and the store as they are, and shows what stands in them without making a record of the
 // bytes first. Every other frame goes through the record, whose bytes are written anew where its command is done.
-mod answer;
+
+mod reply;
 mod right;
 mod shown;
 
-pub use answer::Told;
-pub use answer::answer;
+pub use reply::Told;
+pub use reply::answer;
