@@ -16,6 +16,7 @@ pub use power::Phases;
 pub use power::Power;
 pub use power::Powers;
 pub use power::PowersAnswer;
+pub use power::bits_of;
 pub use power::power_of;
 pub use power::powers_of;
 pub use power::put_power;

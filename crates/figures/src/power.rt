@@ -75,7 +75,7 @@ pub fn powers_of(bytes: &[u8]) -> PowersAnswer
 }
 
 // The bits of a float; of what is no number, those of a quiet one, since Rattle leaves them open.
-fn bits_of(x: f32) -> u32
+pub fn bits_of(x: f32) -> u32
     ensures { λ r. ⌜ r ≡ bitsOf x ⌝ }
 {
     if x != x { NO_NUMBER } else { f32::to_bits(x) }

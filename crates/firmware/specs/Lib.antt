@@ -1,2 +1,6 @@
 pub mod Told
 pub mod Bits
+pub mod LogTold
+pub mod WireTold
+pub mod WireLaws
+pub mod LogLaws

@@ -9,12 +9,21 @@ ghost use Rattle.firmware.specs.Told.{lengthAfter, readOutcome, readTold
 use logfile::ReadAnswer;
 
 mod bench_meter;
+mod log_calls;
+mod wire_calls;
 
 pub use bench_meter::metlazuel_meter_answer;
 pub use bench_meter::metlazuel_meter_make;
 pub use bench_meter::metlazuel_meter_powers;
 pub use bench_meter::metlazuel_meter_second;
 pub use bench_meter::metlazuel_meter_slice;
+pub use log_calls::metlazuel_ask;
+pub use log_calls::metlazuel_lapse;
+pub use log_calls::metlazuel_log_fresh;
+pub use log_calls::metlazuel_take;
+pub use log_calls::metlazuel_write_file;
+pub use wire_calls::metlazuel_decode;
+pub use wire_calls::metlazuel_request;
 
 // uint16_t metlazuel_crc16(const uint8_t *bytes, size_t n)
 #[no_mangle]

@@ -1,10 +1,65 @@
-//! The archive's functions as benchmarks/metlazuel.h declares them, with slices around them.
+//! The archive's functions as include/metlazuel.h declares them, with slices around them.
 
 mod c {
     extern "C" {
         pub fn metlazuel_crc16(bytes: *const u8, n: usize) -> u16;
         pub fn metlazuel_read_file(file: *const u8, n: usize, out: *mut u8, room: usize, length: *mut usize) -> u8;
         pub fn metlazuel_day_report(log: *const u8, n: usize, day: u8, row: *mut u32, room: usize) -> u8;
+        pub fn metlazuel_write_file(log: *const u8, n: usize, out: *mut u8, room: usize, length: *mut usize) -> u8;
+        pub fn metlazuel_log_fresh(
+            log: *mut u8,
+            room: usize,
+            year: u8,
+            month: u8,
+            day: u8,
+            days: u8,
+            minutes: u8,
+            ke: u16,
+            length: *mut usize,
+        ) -> u8;
+        pub fn metlazuel_ask(
+            log: *const u8,
+            n: usize,
+            ask: *mut u8,
+            size: usize,
+            address: u8,
+            day: u8,
+            slot: u8,
+            out: *mut u8,
+            room: usize,
+        ) -> u8;
+        pub fn metlazuel_lapse(ask: *mut u8, size: usize) -> u8;
+        pub fn metlazuel_take(
+            log: *mut u8,
+            n: usize,
+            ask: *mut u8,
+            size: usize,
+            reply: *const u8,
+            bytes: usize,
+            result: *mut u8,
+        ) -> u8;
+        pub fn metlazuel_request(
+            address: u8,
+            parameter: u8,
+            offset: u8,
+            tariff: u8,
+            detail: u8,
+            out: *mut u8,
+            room: usize,
+        ) -> u8;
+        pub fn metlazuel_decode(
+            address: u8,
+            parameter: u8,
+            offset: u8,
+            tariff: u8,
+            detail: u8,
+            reply: *const u8,
+            bytes: usize,
+            figures: *mut u32,
+            room: usize,
+            count: *mut usize,
+            result: *mut u8,
+        ) -> u8;
         pub fn metlazuel_meter_make(
             kept: *mut u8,
             n: usize,
@@ -52,19 +107,23 @@ mod c {
 
 use crate::settings::Settings;
 use metlazuel_check::model::calendar::Moment;
+use metlazuel_check::model::log::{Ask, Header};
+use metlazuel_check::model::reader::Request;
 
-/// Bytes on both sides of what is lent, which must stay as they are.
-const GUARD: [u8; 16] = [0xC3; 16];
+/// Numbers on both sides of what is lent, which must stay as they are.
+const GUARD: u8 = 0xC3;
+const GUARDS: usize = 16;
 /// No number of document 01: a byte outside of what was lent was written.
 const WRITTEN_PAST: u8 = 255;
 
 /// A call that is lent a copy between guards.
-fn guarded(lent: &mut [u8], call: impl FnOnce(&mut [u8]) -> u8) -> u8 {
-    let mut copy = [&GUARD[..], lent, &GUARD].concat();
-    let within = GUARD.len()..GUARD.len() + lent.len();
+fn guarded<T: Copy + PartialEq + From<u8>>(lent: &mut [T], call: impl FnOnce(&mut [T]) -> u8) -> u8 {
+    let guard = [T::from(GUARD); GUARDS];
+    let mut copy = [&guard[..], lent, &guard].concat();
+    let within = GUARDS..GUARDS + lent.len();
     let number = call(&mut copy[within.clone()]);
     lent.copy_from_slice(&copy[within]);
-    if copy.starts_with(&GUARD) && copy.ends_with(&GUARD) {
+    if copy.starts_with(&guard) && copy.ends_with(&guard) {
         number
     } else {
         WRITTEN_PAST
@@ -84,7 +143,59 @@ pub fn read_file(file: &[u8], out: &mut [u8], length: &mut usize) -> u8 {
 }
 
 pub fn day_report(log: &[u8], day: u8, row: &mut [u32]) -> u8 {
-    unsafe { c::metlazuel_day_report(log.as_ptr(), log.len(), day, row.as_mut_ptr(), row.len()) }
+    guarded(row, |row| unsafe { c::metlazuel_day_report(log.as_ptr(), log.len(), day, row.as_mut_ptr(), row.len()) })
+}
+
+pub fn write_file(log: &[u8], out: &mut [u8], length: &mut usize) -> u8 {
+    guarded(out, |out| unsafe { c::metlazuel_write_file(log.as_ptr(), log.len(), out.as_mut_ptr(), out.len(), length) })
+}
+
+pub fn fresh(log: &mut [u8], header: &Header, length: &mut usize) -> u8 {
+    let Header { year, month, day, days, minutes, ke } = *header;
+    guarded(log, |log| unsafe {
+        c::metlazuel_log_fresh(log.as_mut_ptr(), log.len(), year, month, day, days, minutes, ke, length)
+    })
+}
+
+pub fn ask(log: &[u8], kept: &mut [u8], ask: Ask, out: &mut [u8]) -> u8 {
+    let Ask { address, day, slot } = ask;
+    guarded(kept, |kept| {
+        guarded(out, |out| unsafe {
+            let (n, size, room) = (log.len(), kept.len(), out.len());
+            let (log, kept, out) = (log.as_ptr(), kept.as_mut_ptr(), out.as_mut_ptr());
+            c::metlazuel_ask(log, n, kept, size, address, day, slot, out, room)
+        })
+    })
+}
+
+pub fn lapse(kept: &mut [u8]) -> u8 {
+    guarded(kept, |kept| unsafe { c::metlazuel_lapse(kept.as_mut_ptr(), kept.len()) })
+}
+
+pub fn take(log: &mut [u8], kept: &mut [u8], reply: &[u8], result: &mut u8) -> u8 {
+    guarded(log, |log| {
+        guarded(kept, |kept| unsafe {
+            let (n, size, bytes) = (log.len(), kept.len(), reply.len());
+            let (log, kept, reply) = (log.as_mut_ptr(), kept.as_mut_ptr(), reply.as_ptr());
+            c::metlazuel_take(log, n, kept, size, reply, bytes, result)
+        })
+    })
+}
+
+pub fn request(request: &Request, out: &mut [u8]) -> u8 {
+    let Request { address, parameter, offset, tariff, detail } = *request;
+    guarded(out, |out| unsafe {
+        c::metlazuel_request(address, parameter, offset, tariff, detail, out.as_mut_ptr(), out.len())
+    })
+}
+
+pub fn decode(request: &Request, reply: &[u8], figures: &mut [u32], count: &mut usize, result: &mut u8) -> u8 {
+    let Request { address, parameter, offset, tariff, detail } = *request;
+    guarded(figures, |figures| unsafe {
+        let (bytes, room) = (reply.len(), figures.len());
+        let (reply, figures) = (reply.as_ptr(), figures.as_mut_ptr());
+        c::metlazuel_decode(address, parameter, offset, tariff, detail, reply, bytes, figures, room, count, result)
+    })
 }
 
 pub fn make(kept: &mut [u8], settings: &Settings) -> u8 {

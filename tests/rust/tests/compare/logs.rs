@@ -48,12 +48,12 @@ fn reports() {
     group.end(&[0, 1, 22, 28]);
 }
 
-fn start(bytes: &[u8]) -> &[u8] {
+pub fn start(bytes: &[u8]) -> &[u8] {
     &bytes[..bytes.len().min(64)]
 }
 
 /// The number, the length and the whole output; 1 comes last here.
-fn read_both(file: &[u8], room: usize) -> Answer {
+pub fn read_both(file: &[u8], room: usize) -> Answer {
     let outcome = read_file(file).and_then(|image| fitting(image, room));
     let (mut out, mut length) = (vec![0xA5; room], 0xA5A5);
     if let Ok(image) = &outcome {
@@ -68,7 +68,7 @@ fn read_both(file: &[u8], room: usize) -> Answer {
     Ok(library_number)
 }
 
-fn fitting(image: Vec<u8>, room: usize) -> Result<Vec<u8>, Refusal> {
+pub fn fitting(image: Vec<u8>, room: usize) -> Result<Vec<u8>, Refusal> {
     if room < image.len() {
         Err(Refusal::OutputTooShort)
     } else {
@@ -122,7 +122,7 @@ fn any_file(random: &mut Random) -> Vec<u8> {
     }
 }
 
-fn any_log(random: &mut Random) -> Vec<u8> {
+pub fn any_log(random: &mut Random) -> Vec<u8> {
     let mut log = any_image(random);
     match random.below(8) {
         0 => damaged(random, log),
@@ -141,7 +141,7 @@ fn faulty_cell(random: &mut Random, mut file: Vec<u8>) -> Vec<u8> {
     sealed(with_faulty_cell(random, file))
 }
 
-fn with_faulty_cell(random: &mut Random, mut image: Vec<u8>) -> Vec<u8> {
+pub fn with_faulty_cell(random: &mut Random, mut image: Vec<u8>) -> Vec<u8> {
     let cells = (image.len() - HEADER_BYTES) / CELL_BYTES;
     if cells > 0 {
         let at = HEADER_BYTES + CELL_BYTES * random.below(cells);
@@ -160,7 +160,7 @@ fn any_counts(random: &mut Random) -> [u8; 8] {
 }
 
 /// An image, most often with a header in its ranges.
-fn any_image(random: &mut Random) -> Vec<u8> {
+pub fn any_image(random: &mut Random) -> Vec<u8> {
     let mut header = right_header(random);
     if random.one_in(6) {
         spoil(random, &mut header);
@@ -176,7 +176,7 @@ fn any_image(random: &mut Random) -> Vec<u8> {
     image
 }
 
-fn right_header(random: &mut Random) -> Header {
+pub fn right_header(random: &mut Random) -> Header {
     let days = match random.below(200) {
         0 => 62,
         1 => random.within(1, 62),
@@ -190,7 +190,7 @@ fn right_header(random: &mut Random) -> Header {
 }
 
 /// A field near its bounds or past them.
-fn spoil(random: &mut Random, header: &mut Header) {
+pub fn spoil(random: &mut Random, header: &mut Header) {
     match random.below(6) {
         0 => header.year = random.pick(&[0, 99, 100, 255]),
         1 => header.month = random.pick(&[0, 1, 2, 12, 13]),

@@ -1,6 +1,7 @@
 //! The proved library's archive, held against the model call by call over cases from a seeded generator.
 //! Run with `cargo test --release --features library`; see README.md.
 
+mod asks;
 mod century;
 mod crc;
 mod damage;
@@ -15,3 +16,4 @@ mod settings;
 mod sweep;
 mod times;
 mod twin;
+mod wire;

@@ -125,7 +125,7 @@ fn change(parameter: u8, ke: u16) -> Vec<u8> {
 }
 
 /// Each byte with each value, under the old CRC and under a right one.
-fn byte_changes(frame: &[u8]) -> impl Iterator<Item = Vec<u8>> + '_ {
+pub fn byte_changes(frame: &[u8]) -> impl Iterator<Item = Vec<u8>> + '_ {
     (0..frame.len()).flat_map(move |at| all_bytes().flat_map(move |byte| both_crcs(with_byte(frame, at, byte))))
 }
 
@@ -141,6 +141,6 @@ fn both_crcs(frame: Vec<u8>) -> [Vec<u8>; 2] {
     [frame, right]
 }
 
-fn length_changes(frame: &[u8]) -> impl Iterator<Item = Vec<u8>> + '_ {
+pub fn length_changes(frame: &[u8]) -> impl Iterator<Item = Vec<u8>> + '_ {
     (0..LONGEST_MESSAGE + 4).flat_map(move |length| both_crcs(front(frame, length)))
 }

@@ -1,0 +1,51 @@
+use Rattle.ask_bytes.specs.Ask.{askBytes}
+use borrow.Author.Needs.{needs}
+use Rattle.ask_bytes.proofs.put_ask.Statement.{statement}
+use Rattle.ask_bytes.proofs.put_ask.Tie as tie
+
+enum-told : tie.Need-enum-told
+enum-told c = search needs
+
+slice-aggregate-put-bytes : tie.Need-slice-aggregate-put-bytes
+slice-aggregate-put-bytes c = search needs
+
+put-bytes-requires : tie.Need-put-bytes-requires
+put-bytes-requires c κs = search needs
+
+enum-known-held : tie.Need-enum-known-held
+enum-known-held c = search needs
+
+slice-aggregate-put-bytes-2 : tie.Need-slice-aggregate-put-bytes-2
+slice-aggregate-put-bytes-2 c = search needs
+
+put-bytes-requires-2 : tie.Need-put-bytes-requires-2
+put-bytes-requires-2 c κs = search needs
+
+same-length : tie.Need-same-length
+same-length c = search needs
+
+returns : tie.Need-returns
+unfolding askBytes
+returns c = rw (c .before .before .before .before .before .enum-told .given .1) (c .before .before .put-bytes .ensures)
+
+same-length-2 : tie.Need-same-length-2
+same-length-2 c = search needs
+
+returns-2 : tie.Need-returns-2
+unfolding askBytes
+returns-2 c = rw (c .before .before .before .before .before .before .held .given .1) (c .before .before .put-bytes2 .ensures)
+
+pub put-ask-spec : {M : Type 1} → statement M
+put-ask-spec =
+    tie.close
+    (tie.spec
+    enum-told
+    slice-aggregate-put-bytes
+    put-bytes-requires
+    enum-known-held
+    slice-aggregate-put-bytes-2
+    put-bytes-requires-2
+    same-length
+    returns
+    same-length-2
+    returns-2)

@@ -1,0 +1,20 @@
+use Rattle.figure_row.specs.Row.{sliceRow}
+use borrow.Author.Needs.{needs}
+use Rattle.figure_row.proofs.put_slice.Statement.{statement}
+use Rattle.figure_row.proofs.put_slice.Tie as tie
+
+slice-aggregate-put-run : tie.Need-slice-aggregate-put-run
+slice-aggregate-put-run c = search needs
+
+put-run-requires : tie.Need-put-run-requires
+put-run-requires c κs = search needs
+
+same-length : tie.Need-same-length
+same-length c = search needs
+
+returns : tie.Need-returns
+unfolding sliceRow
+returns c = c .before .before .put-run .ensures
+
+pub put-slice-spec : {M : Type 1} → statement M
+put-slice-spec = tie.close (tie.spec slice-aggregate-put-run put-run-requires same-length returns)

@@ -1,0 +1,135 @@
+// A day in small: a bench meter with one slice, a log that asks it for the first three half hours, the day's report, the log's file, and
+// the meter's clock and powers read without a log. What it prints stands in example.out; `include/check` builds, runs and compares it, as C
+// and as C++.
+#include <stdio.h>
+#include <stdlib.h>
+#include <string.h>
+#include "metlazuel.h"
+
+enum { METER = 1, ACTIVE_POWER = 8, CLOCK = 32 };
+
+static uint8_t record[METLAZUEL_RECORD_BYTES], store[METLAZUEL_STORE_BYTES];
+static uint8_t image[METLAZUEL_LOG_BYTES], file[METLAZUEL_FILE_BYTES], back[METLAZUEL_LOG_BYTES];
+
+// Stops at an answer that is not the one to come.
+static void expect(const char *call, uint8_t answer, uint8_t wanted)
+{
+    if (answer != wanted) {
+        printf("%s answered %u\n", call, answer);
+        exit(1);
+    }
+}
+
+// The wire: a frame to the meter, and its reply.
+static size_t exchange(const uint8_t *frame, uint8_t *reply)
+{
+    size_t length;
+    expect("meter_answer",
+           metlazuel_meter_answer(record, sizeof record, store, sizeof store, frame, METLAZUEL_REQUEST_BYTES, reply,
+                                  METLAZUEL_FRAME_BYTES, &length),
+           METLAZUEL_DONE);
+    return length;
+}
+
+static uint32_t bits_of(float power)
+{
+    uint32_t bits;
+    memcpy(&bits, &power, sizeof bits);
+    return bits;
+}
+
+static float power_of(uint32_t bits)
+{
+    float power;
+    memcpy(&power, &bits, sizeof power);
+    return power;
+}
+
+// 17 May 2024, one in the morning. The meter counted from midnight to half past.
+static void make_meter(void)
+{
+    expect("meter_make", metlazuel_meter_make(record, sizeof record, METER, 30, 2000, 100, 0, 24, 5, 17, 0, 59, 59, 1), METLAZUEL_DONE);
+    expect("meter_second", metlazuel_meter_second(record, sizeof record), METLAZUEL_DONE);
+    expect("meter_slice", metlazuel_meter_slice(record, sizeof record, store, sizeof store, 5, 17, 0, 12, 0, 3, 0), METLAZUEL_DONE);
+    expect("meter_powers",
+           metlazuel_meter_powers(record, sizeof record, ACTIVE_POWER, bits_of(230.5f), bits_of(-1.25f), bits_of(0.0f)), METLAZUEL_DONE);
+}
+
+// Asks for the first three slots of the day; the reply to the third is lost.
+static void fill(size_t n)
+{
+    uint8_t ask[METLAZUEL_ASK_BYTES] = {0}, frame[METLAZUEL_REQUEST_BYTES], reply[METLAZUEL_FRAME_BYTES], result;
+    for (uint8_t slot = 0; slot < 3; slot++) {
+        expect("ask", metlazuel_ask(image, n, ask, sizeof ask, METER, 0, slot, frame, sizeof frame), METLAZUEL_DONE);
+        size_t length = exchange(frame, reply);
+        if (slot == 2)
+            expect("lapse", metlazuel_lapse(ask, sizeof ask), METLAZUEL_DONE);
+        else
+            expect("take", metlazuel_take(image, n, ask, sizeof ask, reply, length, &result), METLAZUEL_DONE);
+    }
+    expect("take", metlazuel_take(image, n, ask, sizeof ask, reply, sizeof reply, &result), METLAZUEL_NO_ASK_OPEN);
+}
+
+static void report(size_t n)
+{
+    uint32_t row[METLAZUEL_ROW];
+    expect("day_report", metlazuel_day_report(image, n, 0, row, METLAZUEL_ROW), METLAZUEL_DONE);
+    printf("date gap empty measured E+ E- R+ R-\n2024-05-17");
+    for (int i = 0; i < METLAZUEL_ROW; i++)
+        printf(" %u", (unsigned)row[i]);
+    printf("\n");
+}
+
+// The file, and the log read back from it.
+static void save(size_t n)
+{
+    size_t length, again;
+    expect("write_file", metlazuel_write_file(image, n, file, sizeof file, &length), METLAZUEL_DONE);
+    expect("read_file", metlazuel_read_file(file, length, back, sizeof back, &again), METLAZUEL_DONE);
+    printf("file of %u bytes, CRC %04X, read back %s\n", (unsigned)length, metlazuel_crc16(file, n),
+           again == n && memcmp(back, image, n) == 0 ? "the same" : "another");
+}
+
+// A parameter without further fields, read and decoded; a reply with a damaged byte is not taken for one.
+static size_t read_figures(uint8_t parameter, uint32_t *figures)
+{
+    uint8_t frame[METLAZUEL_REQUEST_BYTES], reply[METLAZUEL_FRAME_BYTES], result;
+    size_t count;
+    expect("request", metlazuel_request(METER, parameter, 0, 0, 0, frame, sizeof frame), METLAZUEL_DONE);
+    size_t length = exchange(frame, reply);
+    expect("decode", metlazuel_decode(METER, parameter, 0, 0, 0, reply, length, figures, METLAZUEL_FIGURES, &count, &result),
+           METLAZUEL_DONE);
+    reply[length - 3] ^= 1;
+    expect("decode", metlazuel_decode(METER, parameter, 0, 0, 0, reply, length, figures, METLAZUEL_FIGURES, &count, &result),
+           METLAZUEL_MALFORMED);
+    return count;
+}
+
+static void show_clock(void)
+{
+    uint32_t f[METLAZUEL_FIGURES];
+    size_t count = read_figures(CLOCK, f);
+    printf("clock, %u figures: 20%02u-%02u-%02u %02u:%02u:%02u\n", (unsigned)count, (unsigned)f[0], (unsigned)f[1], (unsigned)f[2],
+           (unsigned)f[3], (unsigned)f[4], (unsigned)f[5]);
+}
+
+static void show_powers(void)
+{
+    uint32_t f[METLAZUEL_FIGURES];
+    size_t count = read_figures(ACTIVE_POWER, f);
+    printf("powers, %u figures: total %g, A %g, B %g, C %g\n", (unsigned)count, power_of(f[0]), power_of(f[1]), power_of(f[2]),
+           power_of(f[3]));
+}
+
+int main(void)
+{
+    size_t n;
+    make_meter();
+    expect("log_fresh", metlazuel_log_fresh(image, sizeof image, 24, 5, 17, 1, 30, 100, &n), METLAZUEL_DONE);
+    fill(n);
+    report(n);
+    save(n);
+    show_clock();
+    show_powers();
+    return 0;
+}

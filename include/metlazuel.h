@@ -1,0 +1,154 @@
+// The functions of target/staticlib/libfirmware.a (crates/firmware), as C and C++ see them; example.c uses them all.
+//
+// A slice is a pointer and its length. What a caller owes is what C always asks: memory as long as it says, and no lent memory that
+// overlaps another argument. Everything else is refused by a number: each call but the CRC answers with one of enum metlazuel_answer.
+// A call that is refused changes nothing but what its comment names, and output past what was written stays as it was.
+#ifndef METLAZUEL_H
+#define METLAZUEL_H
+
+#include <stddef.h>
+#include <stdint.h>
+
+#ifdef __cplusplus
+extern "C" {
+#endif
+
+// The answers: the numbers of document 01's refusal table.
+enum metlazuel_answer {
+    METLAZUEL_DONE = 0,
+    METLAZUEL_TOO_SHORT = 1,          // a lent output that is too short
+    METLAZUEL_SILENT = 2,             // meter: a frame with a wrong length, CRC or address, which it passes over
+    METLAZUEL_UNKNOWN_FUNCTION = 10,  // meter; 10 to 15 come with a refusal frame
+    METLAZUEL_UNKNOWN_PARAMETER = 11, // meter
+    METLAZUEL_NOT_OPEN = 12,          // meter: a parameter that is not open to the function
+    METLAZUEL_WRONG_LENGTH = 13,      // meter: a length that is wrong for the command
+    METLAZUEL_NO_ACCESS = 14,         // meter: a level too low, or a wrong password
+    METLAZUEL_WRONG_ARGUMENT = 15,    // meter
+    METLAZUEL_NO_ASK_OPEN = 20,
+    METLAZUEL_ASK_ALREADY_OPEN = 21,
+    METLAZUEL_NOT_IN_LOG = 22,        // an interval or a day that the log does not have
+    METLAZUEL_MALFORMED = 23,         // a reply that is not well formed
+    METLAZUEL_METER_REFUSED = 24,     // a well-formed reply whose result is not 0
+    METLAZUEL_OTHER_COUNTS = 25,      // a reply with other counts than those measured
+    METLAZUEL_NOT_FINITE = 26,        // a power reply with an infinity or no number
+    METLAZUEL_OUT_OF_RANGE = 27,      // a bench setting, a new log's header, or a request
+    METLAZUEL_UNSOUND = 28,           // lent bytes that are no log, no ask or no meter's record
+    METLAZUEL_FILE_MARK = 30,         // a file that is no log's, or of fewer than 5 bytes
+    METLAZUEL_FILE_VERSION = 31,
+    METLAZUEL_FILE_HEADER = 32,
+    METLAZUEL_FILE_LENGTH = 33,
+    METLAZUEL_FILE_CRC = 34,
+    METLAZUEL_FILE_CELL = 35
+};
+
+// Lengths. The first three are exact; an output may be longer than what goes into it.
+enum {
+    METLAZUEL_ASK_BYTES = 4,       // the open ask
+    METLAZUEL_RECORD_BYTES = 81,   // a bench meter's record
+    METLAZUEL_STORE_BYTES = 32736, // its store of slices
+    METLAZUEL_REQUEST_BYTES = 8,   // a read request
+    METLAZUEL_FRAME_BYTES = 64,    // the longest frame; a reply's output has at least so many
+    METLAZUEL_HEADER_BYTES = 14,   // a log's image: its header,
+    METLAZUEL_CELL_BYTES = 9,      //   and each of its cells
+    METLAZUEL_LOG_BYTES = 53582,   // the longest log's image: 62 days of 96 slots
+    METLAZUEL_FILE_BYTES = 53584,  // and its file
+    METLAZUEL_ROW = 7,             // a day's report, in 32-bit numbers
+    METLAZUEL_FIGURES = 24         // the most figures of a reply, in 32-bit numbers
+};
+
+// The Modbus CRC-16.
+uint16_t metlazuel_crc16(const uint8_t *bytes, size_t n);
+
+// ---- the log
+//
+// A log is its image: bytes that metlazuel_log_fresh or metlazuel_read_file put at the front of a lent buffer, with their number in
+// *length; a refusal leaves both. The other calls are lent exactly these bytes.
+
+// A fresh log, all gaps, that starts on a date (the year counts from 2000) and has 1 to 62 days of slots of 15 or 30 minutes, and ke
+// milliwatt-hours a count. OUT_OF_RANGE, TOO_SHORT, else DONE.
+uint8_t metlazuel_log_fresh(uint8_t *log, size_t room, uint8_t year, uint8_t month, uint8_t day, uint8_t days, uint8_t minutes,
+                            uint16_t ke, size_t *length);
+
+// The open ask is METLAZUEL_ASK_BYTES: 0 and three bytes that nobody looks at where none is open (so four zero bytes to begin with), or
+// 1, address, day and slot. Bytes of another length, or with another first byte, are UNSOUND. A call that is refused leaves them as they
+// are, but for the two refusals of metlazuel_take that close the ask; an ask that is closed is left as four zeros.
+
+// Opens an ask to a meter for a slot of a day, both counted from 0, and puts its request to the front of out: METLAZUEL_REQUEST_BYTES.
+// TOO_SHORT, UNSOUND (log or ask), ASK_ALREADY_OPEN, NOT_IN_LOG, else DONE.
+uint8_t metlazuel_ask(const uint8_t *log, size_t n, uint8_t *ask, size_t size, uint8_t address, uint8_t day, uint8_t slot,
+                      uint8_t *out, size_t room);
+
+// No reply came: closes the ask, if one is open. UNSOUND, else DONE.
+uint8_t metlazuel_lapse(uint8_t *ask, size_t size);
+
+// Takes a reply for the open ask into the log. UNSOUND (log or ask), NO_ASK_OPEN, NOT_IN_LOG, MALFORMED (the ask stays open),
+// METER_REFUSED (the ask is closed, and the meter's result stored through result, which every other answer leaves), UNSOUND (the
+// interval's cell), OTHER_COUNTS (the ask is closed, the cell stays), else DONE (the ask is closed).
+uint8_t metlazuel_take(uint8_t *log, size_t n, uint8_t *ask, size_t size, const uint8_t *reply, size_t bytes, uint8_t *result);
+
+// A day's report, the days counted from 0: the number of gaps, empty and measured cells, then the sums of E+, E-, R+ and R-, to the front
+// of a row of at least METLAZUEL_ROW numbers. TOO_SHORT, UNSOUND (log), NOT_IN_LOG, UNSOUND (a cell of the day), else DONE.
+uint8_t metlazuel_day_report(const uint8_t *log, size_t n, uint8_t day, uint32_t *row, size_t room);
+
+// A log, written as a file to the front of out, its length to *length. UNSOUND (header, length), TOO_SHORT, UNSOUND (a cell), else DONE.
+uint8_t metlazuel_write_file(const uint8_t *log, size_t n, uint8_t *out, size_t room, size_t *length);
+
+// A file, read as a log to the front of out, the image's length to *length. FILE_MARK to FILE_CELL, TOO_SHORT, else DONE.
+uint8_t metlazuel_read_file(const uint8_t *file, size_t n, uint8_t *out, size_t room, size_t *length);
+
+// ---- read requests and their replies, without a log
+//
+// The parameters: 8 active and 9 reactive power (detail 0 for the total and A, B, C, 1 to 3 for one phase), 21 address, 24 telemetry,
+// 27 and 28 season dates, 32 clock, 35 display mask, 36 slice and 40 six slices (month, day and number in place of offset, tariff and
+// detail). Fields that a parameter does not use are 0.
+
+// Puts a read request to the front of out: METLAZUEL_REQUEST_BYTES. TOO_SHORT, OUT_OF_RANGE (a request that no meter would answer with
+// result 0), else DONE.
+uint8_t metlazuel_request(uint8_t address, uint8_t parameter, uint8_t offset, uint8_t tariff, uint8_t detail, uint8_t *out,
+                          size_t room);
+
+// Decodes the reply to a read request. Its figures go to the front of a row of 32-bit numbers, and how many they are to *count:
+//   address               1
+//   telemetry             3   K, Ke, reserve
+//   season dates, clock   6   year from 2000, month, day, hour, minute, second
+//   display mask          3   parameters, tariffs, directions
+//   powers                4   total, A, B, C, each as the bits of its 32-bit float
+//   one phase's power     1   likewise
+//   slice                 4   E+, E-, R+, R-
+//   six slices           24   six such rows
+// TOO_SHORT (a row for fewer figures than a reply to this request has), OUT_OF_RANGE (a request that no meter would answer with result
+// 0), MALFORMED, METER_REFUSED (the meter's result is stored through result, which every other answer leaves), NOT_FINITE, else DONE. A
+// refusal leaves figures and *count.
+uint8_t metlazuel_decode(uint8_t address, uint8_t parameter, uint8_t offset, uint8_t tariff, uint8_t detail, const uint8_t *reply,
+                         size_t bytes, uint32_t *figures, size_t room, size_t *count, uint8_t *result);
+
+// ---- the bench meter
+//
+// Its record is METLAZUEL_RECORD_BYTES that _make fills and that every other call is lent, no more and no fewer; its store is
+// METLAZUEL_STORE_BYTES, at first all zero. A refused call leaves record and store as they were. Bytes that are no record, or one outside
+// its ranges, are UNSOUND.
+
+// A meter from the factory. The year counts from 2000; season 0 is winter and 1 summer. TOO_SHORT, OUT_OF_RANGE, else DONE.
+uint8_t metlazuel_meter_make(uint8_t *kept, size_t n, uint8_t address, uint8_t minutes, uint32_t k, uint16_t ke, uint16_t reserve,
+                             uint8_t year, uint8_t month, uint8_t day, uint8_t hour, uint8_t minute, uint8_t second, uint8_t season);
+
+// Answers a frame. The reply goes to the front of out, which has at least METLAZUEL_FRAME_BYTES, and its length, 0 for silence, to *length.
+// TOO_SHORT, UNSOUND, SILENT, UNKNOWN_FUNCTION to WRONG_ARGUMENT, else DONE.
+uint8_t metlazuel_meter_answer(uint8_t *kept, size_t n, uint8_t *store, size_t size, const uint8_t *frame, size_t bytes, uint8_t *out,
+                               size_t room, size_t *length);
+
+// A second passes. UNSOUND, else DONE.
+uint8_t metlazuel_meter_second(uint8_t *kept, size_t n);
+
+// Puts a slice into the store: E+, E-, R+ and R- of an interval. UNSOUND, OUT_OF_RANGE, else DONE.
+uint8_t metlazuel_meter_slice(uint8_t *kept, size_t n, uint8_t *store, size_t size, uint8_t month, uint8_t day, uint8_t number,
+                              uint16_t eplus, uint16_t eminus, uint16_t rplus, uint16_t rminus);
+
+// Sets the active powers (parameter 8) or the reactive ones (9), each as the bits of a 32-bit float. UNSOUND, OUT_OF_RANGE, else DONE.
+uint8_t metlazuel_meter_powers(uint8_t *kept, size_t n, uint8_t parameter, uint32_t a, uint32_t b, uint32_t c);
+
+#ifdef __cplusplus
+}
+#endif
+
+#endif

@@ -1,0 +1,307 @@
+//! Histories: asks, lapses and replies with any bytes, over logs that are fresh or read from a file; now and then other bytes stand in the
+//! place of the log or of the open ask.
+
+use crate::damage::{change_byte, damaged, damaged_and_sealed};
+use crate::library;
+use crate::logs::{any_image, any_log, fitting, right_header, spoil, start, with_faulty_cell};
+use crate::random::Random;
+use crate::run::{same, same_bytes, Answer, Group, Same};
+use crate::twin::number;
+use metlazuel_check::model::crc::sealed;
+use metlazuel_check::model::log::{self, read_file, Ask, Cell};
+use metlazuel_check::model::refusal::Refusal;
+use metlazuel_check::model::{count_bytes, reader::READ};
+
+const FRESH: u64 = 200_000;
+const FILES: u64 = 60_000;
+const HISTORIES: u64 = 50_000;
+const CALLS_OF_A_HISTORY: usize = 40;
+const ASK_BYTES: usize = 4;
+const REQUEST_BYTES: usize = 8;
+const HEADER_BYTES: usize = 14;
+const SLICE: u8 = 36;
+/// What is lent before a call.
+const LENT: u8 = 0xA5;
+
+#[test]
+fn fresh_logs() {
+    let mut group = Group::new("fresh logs");
+    for case in 0..FRESH {
+        let random = &mut Random::of(group.seed, case);
+        let mut header = right_header(random);
+        if random.one_in(3) {
+            spoil(random, &mut header);
+        }
+        let outcome = log::fresh(header);
+        let room = room(random, outcome.as_ref().map_or(14, Vec::len));
+        let outcome = outcome.and_then(|image| fitting(image, room));
+        let answer = same_output(&outcome, room, |out, length| library::fresh(out, &header, length));
+        group.call(case, answer, || format!("{header:?} into {room}"));
+    }
+    group.end(&[0, 1, 27]);
+}
+
+/// A file to write is tested 28 (header, length), 1, 28 (all cells).
+#[test]
+fn files_written() {
+    let mut group = Group::new("files written");
+    for case in 0..FILES {
+        let random = &mut Random::of(group.seed, case);
+        let log = any_log(random);
+        let room = room(random, log.len() + 2);
+        let short = log::header(&log).is_ok() && room < log.len() + 2;
+        let outcome = if short { Err(Refusal::OutputTooShort) } else { log::write_file(&log) };
+        let answer = same_output(&outcome, room, |out, length| library::write_file(&log, out, length));
+        group.call(case, answer, || format!("{} bytes into {room}, from {:?}", log.len(), start(&log)));
+    }
+    group.end(&[0, 1, 28]);
+}
+
+/// The number, the length and the whole output; a refusal leaves length and output.
+fn same_output(
+    outcome: &Result<Vec<u8>, Refusal>,
+    room: usize,
+    call: impl FnOnce(&mut [u8], &mut usize) -> u8,
+) -> Answer {
+    let (mut out, mut length) = (vec![LENT; room], usize::MAX);
+    if let Ok(bytes) = outcome {
+        out[..bytes.len()].copy_from_slice(bytes);
+        length = bytes.len();
+    }
+    let (mut library_out, mut library_length) = (vec![LENT; room], usize::MAX);
+    let library_number = call(&mut library_out, &mut library_length);
+    same("number", number(outcome), library_number)?;
+    same("length", length, library_length)?;
+    same_bytes("output", &out, &library_out)?;
+    Ok(library_number)
+}
+
+/// As many as are wanted, or fewer, or more.
+fn room(random: &mut Random, wanted: usize) -> usize {
+    match random.below(8) {
+        0 => random.below(wanted + 1),
+        1 => wanted.saturating_sub(1),
+        2 => wanted + random.below(20),
+        _ => wanted,
+    }
+}
+
+#[derive(Debug)]
+enum Call {
+    /// An ask, and the room of its output.
+    Ask(Ask, usize),
+    Lapse,
+    Reply(Vec<u8>),
+}
+
+/// A log and the bytes of its open ask, as the model has them and as the library has them.
+#[derive(Clone)]
+struct Logs {
+    image: Vec<u8>,
+    ask: Vec<u8>,
+    library_image: Vec<u8>,
+    library_ask: Vec<u8>,
+}
+
+#[test]
+fn histories() {
+    let mut group = Group::new("histories of asks, lapses and replies");
+    for case in 0..HISTORIES {
+        let random = &mut Random::of(group.seed, case);
+        let mut logs = begun(random);
+        for _ in 0..CALLS_OF_A_HISTORY {
+            let call = any_call(random, &logs);
+            if random.one_in(16) {
+                let mut other = logs.with_other_bytes(random);
+                compare(&mut group, case, &mut other, &call);
+            } else {
+                compare(&mut group, case, &mut logs, &call);
+            }
+        }
+    }
+    group.end(&[0, 1, 20, 21, 22, 23, 24, 25, 28]);
+}
+
+fn compare(group: &mut Group, case: u64, logs: &mut Logs, call: &Call) {
+    let before = logs.ask.clone();
+    let answer = logs.call(call);
+    group.call(case, answer, || format!("{call:?} with the ask {before:?} and the log {:?}", start(&logs.image)));
+}
+
+/// A fresh log, or one that the library read from a file.
+fn begun(random: &mut Random) -> Logs {
+    let (image, library_image) = if random.one_in(2) { fresh(random) } else { read(random) };
+    Logs { image, ask: vec![0; ASK_BYTES], library_image, library_ask: vec![0; ASK_BYTES] }
+}
+
+fn fresh(random: &mut Random) -> (Vec<u8>, Vec<u8>) {
+    let header = right_header(random);
+    let image = log::fresh(header).expect("a header in its ranges");
+    let mut library_image = vec![LENT; image.len()];
+    library::fresh(&mut library_image, &header, &mut 0);
+    (image, library_image)
+}
+
+fn read(random: &mut Random) -> (Vec<u8>, Vec<u8>) {
+    loop {
+        let file = sealed(any_image(random));
+        if let Ok(image) = read_file(&file) {
+            let mut library_image = vec![LENT; image.len()];
+            library::read_file(&file, &mut library_image, &mut 0);
+            return (image, library_image);
+        }
+    }
+}
+
+/// The open ask that four bytes stand for; nothing where they are none.
+fn open_of(kept: &[u8]) -> Option<Option<Ask>> {
+    match *kept {
+        [0, _, _, _] => Some(None),
+        [1, address, day, slot] => Some(Some(Ask { address, day, slot })),
+        _ => None,
+    }
+}
+
+fn bytes_of(open: Option<Ask>) -> Vec<u8> {
+    match open {
+        None => vec![0; ASK_BYTES],
+        Some(Ask { address, day, slot }) => vec![1, address, day, slot],
+    }
+}
+
+impl Logs {
+    fn call(&mut self, call: &Call) -> Answer {
+        match call {
+            Call::Ask(ask, room) => self.ask(*ask, *room),
+            Call::Lapse => self.lapse(),
+            Call::Reply(reply) => self.take(reply),
+        }
+    }
+
+    fn ask(&mut self, ask: Ask, room: usize) -> Answer {
+        let outcome = self.model_ask(ask, room);
+        let mut out = vec![LENT; room];
+        if let Ok(frame) = &outcome {
+            out[..frame.len()].copy_from_slice(frame);
+            self.ask = bytes_of(Some(ask));
+        }
+        let mut library_out = vec![LENT; room];
+        let library_number = library::ask(&self.library_image, &mut self.library_ask, ask, &mut library_out);
+        same("number", number(&outcome), library_number)?;
+        same_bytes("output", &out, &library_out)?;
+        self.same_logs()?;
+        Ok(library_number)
+    }
+
+    /// 1, and then bytes that are no ask: 28.
+    fn model_ask(&self, ask: Ask, room: usize) -> Result<Vec<u8>, Refusal> {
+        if room < REQUEST_BYTES {
+            return Err(Refusal::OutputTooShort);
+        }
+        let mut open = open_of(&self.ask).ok_or(Refusal::Unsound)?;
+        log::ask(&self.image, &mut open, ask)
+    }
+
+    fn lapse(&mut self) -> Answer {
+        let outcome = open_of(&self.ask).ok_or(Refusal::Unsound);
+        if let Ok(mut open) = outcome {
+            log::lapse(&mut open);
+            self.ask = bytes_of(open);
+        }
+        let library_number = library::lapse(&mut self.library_ask);
+        same("number", number(&outcome), library_number)?;
+        self.same_logs()?;
+        Ok(library_number)
+    }
+
+    fn take(&mut self, reply: &[u8]) -> Answer {
+        let outcome = self.model_take(reply);
+        let result = match outcome {
+            Err(Refusal::MeterRefused(result)) => result,
+            _ => LENT,
+        };
+        let mut library_result = LENT;
+        let library_number = library::take(&mut self.library_image, &mut self.library_ask, reply, &mut library_result);
+        same("number", number(&outcome), library_number)?;
+        same("result", result, library_result)?;
+        self.same_logs()?;
+        Ok(library_number)
+    }
+
+    /// The ask's bytes change only where the reply closes it.
+    fn model_take(&mut self, reply: &[u8]) -> Result<(), Refusal> {
+        let before = open_of(&self.ask).ok_or(Refusal::Unsound)?;
+        let mut open = before;
+        let outcome = log::take(&mut self.image, &mut open, reply);
+        if open != before {
+            self.ask = bytes_of(open);
+        }
+        outcome
+    }
+
+    /// The whole log and the whole ask.
+    fn same_logs(&self) -> Same {
+        same_bytes("ask", &self.ask, &self.library_ask)?;
+        same_bytes("log", &self.image, &self.library_image)
+    }
+
+    /// The same for both, with a fault in the log or in the ask.
+    fn with_other_bytes(&self, random: &mut Random) -> Logs {
+        let (mut image, mut ask) = (self.image.clone(), self.ask.clone());
+        match random.below(5) {
+            0 => image = damaged(random, image),
+            1 => change_byte(random, &mut image[..HEADER_BYTES]),
+            2 => image = with_faulty_cell(random, image),
+            3 => ask = damaged(random, ask),
+            _ => ask = vec![random.within(0, 2), random.byte(), random.within(0, 63), random.within(0, 96)],
+        }
+        Logs { image: image.clone(), ask: ask.clone(), library_image: image, library_ask: ask }
+    }
+}
+
+fn any_call(random: &mut Random, logs: &Logs) -> Call {
+    match random.below(16) {
+        0..=6 => Call::Ask(any_ask(random, &logs.image), room(random, REQUEST_BYTES)),
+        7 => Call::Lapse,
+        _ => Call::Reply(any_reply(random, logs)),
+    }
+}
+
+/// One of a few intervals most often, so that replies meet; else one near the log's end or outside.
+fn any_ask(random: &mut Random, image: &[u8]) -> Ask {
+    let (days, slots) = (image[8], if image[9] == 15 { 96 } else { 48 });
+    let (day, slot) = match random.below(8) {
+        0 => (random.pick(&[days - 1, days, 255]), random.pick(&[0, slots - 1, slots, 255])),
+        1 => (random.within(0, days - 1), random.within(0, slots - 1)),
+        _ => (0, random.within(0, 1)),
+    };
+    Ask { address: random.pick(&[0, 1, 7, 255]), day, slot }
+}
+
+/// Right for the open ask most often.
+fn any_reply(random: &mut Random, logs: &Logs) -> Vec<u8> {
+    let open = open_of(&logs.ask).flatten().unwrap_or(Ask { address: 1, day: 0, slot: 0 });
+    let address = if random.one_in(16) { random.byte() } else { open.address };
+    let right = sealed([&[address, READ, SLICE, 0][..], &count_bytes(counts(random, logs, open))].concat());
+    match random.below(12) {
+        0 => sealed(vec![address, 0x80 + READ, SLICE, random.byte()]),
+        1 => damaged(random, right),
+        2 => damaged_and_sealed(random, &right),
+        3 => {
+            let length = random.below(20);
+            random.bytes(length)
+        }
+        _ => right,
+    }
+}
+
+/// None, those of the interval's cell, a few, or any.
+fn counts(random: &mut Random, logs: &Logs, open: Ask) -> [u16; 4] {
+    let held = log::cell(&logs.image, open.day, open.slot);
+    match (random.below(4), held) {
+        (0, _) => [0; 4],
+        (1, Ok(Cell::Measured(counts))) => counts,
+        (2, _) => std::array::from_fn(|_| random.below(2) as u16),
+        _ => std::array::from_fn(|_| random.word()),
+    }
+}
