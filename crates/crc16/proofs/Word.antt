@@ -9,8 +9,8 @@ use lib.Bits.{bitXor, xor-comm, xor-lt}
 use lib.Count.{ones, onesIn}
 use Rattle.decide.specs.Test.{everyBelow}
 use Rattle.crc16.specs.Crc.{times, bitStep, polynomial}
-use Rattle.crc16.specs.Linear.{Linear, linear-id, linear-compose, linear-times, linear-xor, linear-shl, linear-shr, linear-low, linear-bit, linear-parityIn, onesIn-low, linear-bitStep, linear-agree-test, xor-assoc}
-use Rattle.crc16.specs.Word.{register, linear-register, times-add, times-same, up, byX64, belowX30, belowX15}
+use Rattle.crc16.specs.Linear.{Linear, linear-id, linear-compose, linear-times, linear-xor, linear-shl, linear-shr, linear-low, linear-bit, linear-parityIn, onesIn-low, linear-bitStep, linear-agree-test, xor-assoc, xor-exchange}
+use Rattle.crc16.specs.Word.{register, linear-register, times-add, times-same, up, byX64, byX128, belowX30, belowX15}
 
 -- ---- the computed test
 
@@ -96,37 +96,91 @@ pub more-word : (a w : ℕ) → a < 2 ^ 64 → w < 2 ^ 64 → register (bitXor (
 unfolding everyBelow times
 more-word = more 64 linear-outWord linear-id refl refl
 
--- ---- 128 bits more: those of a fall out, and m stands for the two words that come in
+-- ---- 128 bits more, of two words: what falls out of the first comes into the second, and what falls out of the second into the first
 
-abbrev outPair : ℕ → ℕ
-outPair a =
-    bitXor (bitXor (bitXor (a / 2 ^ 23) (a / 2 ^ 16)) (a / 2 ^ 9)) (byX64 (bitXor (bitXor (up 41 a) (up 48 a)) (up 55 a)))
+abbrev out : ℕ → ℕ
+out a = bitXor (bitXor (up 41 a) (up 48 a)) (up 55 a)
 
-linear-outPair : Linear outPair
-linear-outPair =
-    linear-xor (linear-xor (linear-xor (linear-shr 23) (linear-shr 16)) (linear-shr 9))
-    (linear-compose linear-byX64 (linear-xor (linear-xor (linear-up 41) (linear-up 48)) (linear-up 55)))
+linear-out : Linear out
+linear-out = linear-xor (linear-xor (linear-up 41) (linear-up 48)) (linear-up 55)
 
-out-pair : (a : ℕ) → a < 2 ^ 64 → register (outPair a) ≡ register (register (register a))
+linear-byX128 : Linear byX128
+linear-byX128 = linear-xor (linear-xor (linear-shr 23) (linear-shr 16)) (linear-shr 9)
+
+-- one word's part in both words after it, as a first word's and as a second's
+module _ {f g : ℕ → ℕ} (lf : Linear f) (lg : Linear g) where
+  part : (n : ℕ) → everyBelow (λ k. eqb (times 64 quick (bitXor (times 64 quick (f (2 ^ k))) (g (2 ^ k)))) (times n quick (2 ^ k))) 64 ≡ true
+      → (a : ℕ) → a < 2 ^ 64 → register (bitXor (register (f a)) (g a)) ≡ times n bitStep a
+  unfolding register
+  part n t a h =
+      ap (λ (x : ℕ). times 64 bitStep (bitXor x (g a))) (quick-steps 64 (f a))
+      ∙ tested 64 n (linear-xor (linear-compose (linear-times 64 linear-quick) lf) lg) linear-id 64 t a h
+
+part-first : (a : ℕ) → a < 2 ^ 64
+    → register (bitXor (register (byX128 a)) (byX128 (out a))) ≡ register (register (register (register a)))
 unfolding everyBelow times register
-out-pair a h =
-    tested 64 192 linear-outPair linear-id 64 refl a h ∙ times-add 128 64 bitStep a ∙ times-add 64 64 bitStep (register a)
+part-first a h =
+    part linear-byX128 (linear-compose linear-byX128 linear-out) 256 refl a h
+    ∙ times-add 192 64 bitStep a
+    ∙ times-add 128 64 bitStep (register a)
+    ∙ times-add 64 64 bitStep (register (register a))
 
-pub more-pair : (a m first second : ℕ) → a < 2 ^ 64 → register m ≡ register (bitXor (register first) second)
-    → register (bitXor (outPair a) m) ≡ register (bitXor (register (bitXor (register a) first)) second)
-more-pair a m first second h e =
-    linear-register .apart (outPair a) m
-    ∙ ap₂ bitXor (out-pair a h) e
-    ∙ sym (linear-register .apart (register (register a)) (bitXor (register first) second))
-    ∙ ap register
-    (sym (xor-assoc (register (register a)) (register first) second)
-    ∙ ap (λ (x : ℕ). bitXor x second) (sym (linear-register .apart (register a) first)))
+part-second : (a : ℕ) → a < 2 ^ 64 → register (bitXor (register (out a)) (byX128 a)) ≡ register (register (register a))
+unfolding everyBelow times register
+part-second a h =
+    part linear-out linear-byX128 192 refl a h ∙ times-add 128 64 bitStep a ∙ times-add 64 64 bitStep (register a)
+
+-- three shifts of two words at once are those of each apart
+pub shifts-apart : (a b c x y z : ℕ)
+    → bitXor (bitXor (bitXor a x) (bitXor b y)) (bitXor c z) ≡ bitXor (bitXor (bitXor a b) c) (bitXor (bitXor x y) z)
+shifts-apart a b c x y z =
+    ap (λ (m : ℕ). bitXor m (bitXor c z)) (xor-exchange a x b y) ∙ xor-exchange (bitXor a b) (bitXor x y) c z
+
+apart-2 : (a b : ℕ) → register (register (bitXor a b)) ≡ bitXor (register (register a)) (register (register b))
+apart-2 a b = ap register (linear-register .apart a b) ∙ linear-register .apart (register a) (register b)
+
+pub more-pair : (f s first second : ℕ) → f < 2 ^ 64 → s < 2 ^ 64
+    → register (bitXor (register (bitXor (bitXor (byX128 f) (out s)) first)) (bitXor (byX128 (bitXor (out f) s)) second))
+    ≡ register (bitXor (register (bitXor (register (bitXor (register f) s)) first)) second)
+more-pair f s first second hf hs =
+    let came = bitXor (register first) second in
+    let firsts : register (bitXor (bitXor (byX128 f) (out s)) first)
+    ≡ bitXor (bitXor (register (byX128 f)) (register (out s))) (register first) =
+    linear-register .apart (bitXor (byX128 f) (out s)) first
+    ∙ ap (λ (x : ℕ). bitXor x (register first)) (linear-register .apart (byX128 f) (out s)) in
+    let sorted : register
+    (bitXor
+    (bitXor (bitXor (register (byX128 f)) (register (out s))) (register first))
+    (bitXor (bitXor (byX128 (out f)) (byX128 s)) second))
+    ≡ bitXor
+    (bitXor (register (bitXor (register (byX128 f)) (byX128 (out f)))) (register (bitXor (register (out s)) (byX128 s))))
+    (register came) =
+    ap register
+    (xor-exchange (bitXor (register (byX128 f)) (register (out s))) (register first) (bitXor (byX128 (out f)) (byX128 s)) second
+    ∙ ap (λ (x : ℕ). bitXor x came) (xor-exchange (register (byX128 f)) (register (out s)) (byX128 (out f)) (byX128 s)))
+    ∙ linear-register .apart
+    (bitXor (bitXor (register (byX128 f)) (byX128 (out f))) (bitXor (register (out s)) (byX128 s)))
+    came
+    ∙ ap (λ (x : ℕ). bitXor x (register came))
+    (linear-register .apart (bitXor (register (byX128 f)) (byX128 (out f))) (bitXor (register (out s)) (byX128 s))) in
+    let before : register (register (register (bitXor (register f) s)))
+    ≡ bitXor (register (register (register (register f)))) (register (register (register s))) =
+    ap register (apart-2 (register f) s) ∙ linear-register .apart (register (register (register f))) (register (register s)) in
+    let after : register (bitXor (register (bitXor (register (bitXor (register f) s)) first)) second)
+    ≡ bitXor (register (register (register (bitXor (register f) s)))) (register came) =
+    ap (λ (x : ℕ). register (bitXor x second)) (linear-register .apart (register (bitXor (register f) s)) first)
+    ∙ ap register (xor-assoc (register (register (bitXor (register f) s))) (register first) second)
+    ∙ linear-register .apart (register (register (bitXor (register f) s))) came in
+    ap₂ (λ (x y : ℕ). register (bitXor x (bitXor y second))) firsts (linear-byX128 .apart (out f) s)
+    ∙ sorted
+    ∙ ap₂ (λ (x y : ℕ). bitXor (bitXor x y) (register came)) (part-first f hf) (part-second s hs)
+    ∙ sym (after ∙ ap (λ (x : ℕ). bitXor x (register came)) before)
 
 -- ---- the register itself
 
 -- a times x ^ 16, which is x ^ 2 + x, modulo Q
 abbrev pub belowQ : ℕ → ℕ
-belowQ a = belowX15 (belowX15 (bitXor (belowX30 (belowX30 a) / 2) (belowX30 (belowX30 a) / 2 ^ 2)))
+belowQ a = belowX15 (belowX15 (bitXor (belowX30 a / 2) (belowX30 a / 2 ^ 2)))
 
 up-lt : (k a : ℕ) → up k a < 2 ^ 64
 up-lt k a = mod-lt (a * 2 ^ k) (pow-pos 64)
@@ -141,10 +195,10 @@ linear-belowQ : Linear belowQ
 linear-belowQ =
     linear-compose linear-belowX15
     (linear-compose linear-belowX15
-    (linear-compose (linear-xor (linear-shr 1) (linear-shr 2)) (linear-compose linear-belowX30 linear-belowX30)))
+    (linear-compose (linear-xor (linear-shr 1) (linear-shr 2)) linear-belowX30))
 
 below-lt : (a : ℕ) → belowQ a < 2 ^ 64
-below-lt a = belowX15-lt (belowX15 (bitXor (belowX30 (belowX30 a) / 2) (belowX30 (belowX30 a) / 2 ^ 2)))
+below-lt a = belowX15-lt (belowX15 (bitXor (belowX30 a / 2) (belowX30 a / 2 ^ 2)))
 
 settle-looks : (a : ℕ) → a < 2 ^ 64 → bitXor (belowQ a / 2 ^ 48) (onesIn 64 (bitXor a (belowQ a)) % 2 * 0xC001) ≡ register a
 unfolding everyBelow times register onesIn

@@ -1,3 +1,4 @@
 pub mod Crc
 pub mod Linear
 pub mod Word
+pub mod Short

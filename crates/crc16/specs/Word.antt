@@ -19,6 +19,10 @@ use Rattle.crc16.specs.Linear.{Linear, linear-times, linear-bitStep, xor
 unfoldable pub register : ℕ → ℕ
 register a = times 64 bitStep a
 
+-- The register that two words stand for, one behind the other.
+abbrev pub pairRegister : ℕ → ℕ → ℕ
+pairRegister first second = register (bitXor (register first) second)
+
 -- ---- ways to compute. As a polynomial, bit i of 64 is x ^ (63 - i), and a shift is a product with x modulo (x + 1) Q, where Q is
 -- x ^ 15 + x + 1.
 
@@ -29,6 +33,10 @@ up k a = a * 2 ^ k % 2 ^ 64
 -- z times x ^ 64, which is x ^ 19 + x ^ 8 + x ^ 5, where nothing falls out
 abbrev pub byX64 : ℕ → ℕ
 byX64 z = bitXor (bitXor (z / 2 ^ 19) (z / 2 ^ 8)) (z / 2 ^ 5)
+
+-- and x ^ 128 is x ^ 23 + x ^ 16 + x ^ 9
+abbrev pub byX128 : ℕ → ℕ
+byX128 z = bitXor (bitXor (z / 2 ^ 23) (z / 2 ^ 16)) (z / 2 ^ 9)
 
 -- modulo Q, x ^ 30 is x ^ 2 + 1
 abbrev pub belowX30 : ℕ → ℕ

@@ -7,12 +7,15 @@
 ghost use mathlib.Core.Path.{_≡_};
 ghost use Prim.Native.Nat.{_≤_};
 ghost use lib.ListN.{length, drop};
-ghost use Rattle.words.specs.Number.{bytesOf};
+ghost use Rattle.words.specs.Number.{number, bytesOf};
 ghost use Rattle.crc16.specs.Crc.{byteStep, crcFrom, crcOf};
-ghost use Rattle.crc16.specs.Word.{register, byX64, belowX30, belowX15};
+ghost use Rattle.crc16.specs.Word.{register, pairRegister, byX64, byX128, belowX30, belowX15};
 
 // Stands for the register's start, FFFF hex.
 const START: u64 = 0x0F14;
+
+// The register's start itself.
+const FIRST: u64 = 0xFFFF;
 
 // Q as a register, whose bit i is x^(15 - i).
 const Q: u32 = 0xC001;
@@ -45,13 +48,31 @@ fn word_more(a: u64, word: u64) -> u64
     by_x64(a ^ (a << 45) ^ (a << 56) ^ (a << 59)) ^ word
 }
 
-// Sixteen bytes more: x^128 is x^23 + x^16 + x^9 in the same way, and what falls out goes by x^64. The two words do not wait for a.
-fn pair_more(a: u64, first: u64, second: u64) -> u64
-    ensures { λ r. ⌜ register r ≡ crcFrom (crcFrom (register a) (bytesOf 8 first)) (bytesOf 8 second) ⌝ }
+// Sixteen bytes as the first and the second of two words.
+struct Pair {
+    first: u64,
+    second: u64,
+}
+
+// z x^128, which is x^23 + x^16 + x^9 in the same way, as far as nothing falls out.
+fn by_x128(z: u64) -> u64
+    ensures { λ r. ⌜ r ≡ byX128 z ⌝ }
 {
-    let kept = (a >> 23) ^ (a >> 16) ^ (a >> 9);
-    let out = (a << 41) ^ (a << 48) ^ (a << 55);
-    kept ^ by_x64(out) ^ word_more(first, second)
+    (z >> 23) ^ (z >> 16) ^ (z >> 9)
+}
+
+// Sixteen bytes more: the two words go by x^128 as one number of 128 bits, and what falls out of the first comes into the second.
+fn pair_more(p: Pair, first: u64, second: u64) -> Pair
+    ensures { λ r. ⌜ pairRegister (r .first) (r .second) ≡ crcFrom (crcFrom (pairRegister (p .first) (p .second)) (bytesOf 8 first)) (bytesOf 8 second) ⌝ }
+{
+    let out = (p.first << 41) ^ (p.first << 48) ^ (p.first << 55);
+    let a = (p.first >> 23) ^ (p.second << 41);
+    let b = (p.first >> 16) ^ (p.second << 48);
+    let c = (p.first >> 9) ^ (p.second << 55);
+    Pair {
+        first: a ^ b ^ c ^ first,
+        second: by_x128(out ^ p.second) ^ second,
+    }
 }
 
 // Modulo Q, x^30 is x^2 + 1.
@@ -75,7 +96,7 @@ fn below_x15(a: u64) -> u64
 fn settled(a: u64) -> u16
     ensures { λ r. ⌜ r ≡ register a ⌝ }
 {
-    let b = below_x30(below_x30(a));
+    let b = below_x30(a);
     let c = below_x15(below_x15((b >> 1) ^ (b >> 2)));
     (((c >> 48) as u32) ^ (u64::count_ones(a ^ c) % 2 * Q)) as u16
 }
@@ -115,15 +136,68 @@ fn by_word(a: u64, bytes: &[u8], at: usize) -> u16
     by_half(word_more(a, words::u64_at(bytes, at)), bytes, at + 8)
 }
 
-// The CRC of a frame's bytes before it; its low byte travels first.
+// Sixteen bytes at a time behind the first eight, and then the rest.
+fn by_pairs(bytes: &[u8]) -> u16
+    requires { ⌜ 8 ≤ length (now bytes) ⌝ }
+    ensures { λ r. ⌜ r ≡ crcOf (now (bytes .entry)) ⌝ }
+{
+    let mut p = Pair {
+        first: START,
+        second: words::u64_at(bytes, 0),
+    };
+    let mut i = 8;
+    while 16 <= bytes.len() - i {
+        p = pair_more(p, words::u64_at(bytes, i), words::u64_at(bytes, i + 8));
+        i += 16;
+    }
+    by_word(word_more(p.first, p.second), bytes, i)
+}
+
+// The first n bytes of a word, after the register's start: it is xored into the first two of them, and zeros before them would leave a
+// register of 0 as it is.
+fn raised(word: u64, n: usize) -> u64
+    requires { ⌜ (2 ≤ n) × (n ≤ 8) ⌝ }
+    ensures { λ r. ⌜ register r ≡ crcOf (bytesOf n word) ⌝ }
+{
+    (word ^ FIRST) << (64 - 8 * n)
+}
+
+// Four to eight bytes as a number: the first four, and above them those of the last four that are not among the first.
+fn few(bytes: &[u8]) -> u64
+    requires { ⌜ (4 ≤ length (now bytes)) × (length (now bytes) ≤ 8) ⌝ }
+    ensures { λ r. ⌜ r ≡ number (now (bytes .entry)) ⌝ }
+{
+    let n = bytes.len();
+    let low = words::u32_at(bytes, 0);
+    let last = words::u32_at(bytes, n - 4);
+    ((last as u64) >> (64 - 8 * n) << 32) + (low as u64)
+}
+
+// Ten to fifteen bytes: those before the last eight, and the last eight.
+fn two_words(bytes: &[u8]) -> u64
+    requires { ⌜ (10 ≤ length (now bytes)) × (length (now bytes) ≤ 16) ⌝ }
+    ensures { λ r. ⌜ register r ≡ crcOf (now (bytes .entry)) ⌝ }
+{
+    let n = bytes.len() - 8;
+    word_more(raised(words::u64_at(bytes, 0), n), words::u64_at(bytes, n))
+}
+
+// The CRC of a frame's bytes before it; its low byte travels first. Frames are short, so those of four to eight bytes and of ten to
+// fifteen go by one word or two, without a loop.
 pub fn crc16(bytes: &[u8]) -> u16
     ensures { λ r. ⌜ r ≡ crcOf (now (bytes .entry)) ⌝ }
 {
-    let mut a = START;
-    let mut i = 0;
-    while 16 <= bytes.len() - i {
-        a = pair_more(a, words::u64_at(bytes, i), words::u64_at(bytes, i + 8));
-        i += 16;
+    let n = bytes.len();
+    if n < 4 {
+        return by_bytes(START, bytes, 0);
     }
-    by_word(a, bytes, i)
+    if n <= 8 {
+        return settled(raised(few(bytes), n));
+    }
+    if n < 16 {
+        if 10 <= n {
+            return settled(two_words(bytes));
+        }
+    }
+    by_pairs(bytes)
 }

@@ -15,7 +15,6 @@ use Rattle.figures.specs.declared.power.Phases.{Phases}
 use Rattle.figures.specs.declared.telemetry.Telemetry.{Telemetry}
 use Rattle.slots.specs.declared.key.Key.{Key}
 use Rattle.command.specs.Verdict as verdict
-use Rattle.command.specs.Verdict.{isDone}
 use Rattle.meter_record.specs.Record.{made, secondOf, setPowers, numberOf}
 use Rattle.meter_record.specs.declared.record.RecordAnswer.{RecordAnswer}
 use Rattle.meter_record.specs.declared.record.RecordAnswer.the-variants as answer
@@ -25,11 +24,9 @@ use Rattle.record_bytes.specs.declared.record.RecordRead.{RecordRead}
 use Rattle.record_bytes.specs.declared.record.RecordRead.the-variants.{Read, Unreadable}
 use Rattle.record_bytes.specs.declared.time.SeasonRead.{SeasonRead}
 use Rattle.record_bytes.specs.declared.time.SeasonRead.the-variants as season
+use Rattle.kept_meter.specs.Kept as kept
 use Rattle.meter.specs.Bench as bench
 use Rattle.meter.specs.Bench.{slicePut}
-use Rattle.meter.specs.Reply as reply
-use Rattle.meter.specs.Reply.{answerOf}
-use Rattle.meter.specs.declared.reply.Answered.{Answered}
 
 -- the lent length: the image's, and untouched by a refusal
 unfoldable pub lengthAfter : ReadAnswer → ℕ → ℕ
@@ -144,19 +141,6 @@ pub record AnswerOutcome : Type 0 where
 abbrev pub answerOutcome : ℕ → ℕ → List ℕ → List ℕ → List ℕ → AnswerOutcome
 answerOutcome n l bs s out = record { number = n; size = l; bytes = bs; store = s; out = out }
 
--- the record's bytes after an answer: those of the record after a command that is done, else as they were
-unfoldable pub replyBytes : Answered → List ℕ → List ℕ
-replyBytes a bs = cond (isDone (a .verdict)) (written bs 0 (recordBytes (a .after))) bs
-
 -- the number of an answer, the reply's length, the record's bytes, the store and the output
-abbrev pub answeredTold : reply.Outcome → List ℕ → AnswerOutcome
-answeredTold o bs =
-    answerOutcome (verdict.numberOf (o .answer .verdict)) (o .answer .length) (replyBytes (o .answer) bs) (o .store) (o .out)
-
--- "28 stands right after 1"
-unfoldable pub unreadNumber : ℕ → ℕ
-unreadNumber room = cond (ltb room 64) 1 28
-
-unfoldable pub answerTold : RecordRead → List ℕ → List ℕ → List ℕ → List ℕ → AnswerOutcome
-answerTold (Read r) bs s f out = answeredTold (answerOf r s f out) bs
-answerTold Unreadable bs s f out = answerOutcome (unreadNumber (length out)) 0 bs s out
+abbrev pub answerTold : kept.Outcome → AnswerOutcome
+answerTold o = answerOutcome (verdict.numberOf (o .told .verdict)) (o .told .length) (o .bytes) (o .store) (o .out)

@@ -5,7 +5,6 @@ use calendar::Date;
 use calendar::DateTime;
 use figures::Phases;
 use figures::Telemetry;
-use meter::Answered;
 use meter_record::RecordAnswer;
 use record_bytes::RECORD_BYTES;
 use record_bytes::RecordRead;
@@ -16,11 +15,10 @@ ghost use Prim.Native.Nat.{_*_};
 ghost use mathlib.Core.List.{[], _∷_};
 ghost use Rattle.record_bytes.specs.Record.{recordOf};
 ghost use Rattle.meter.specs.Bench.{outcome};
+ghost use Rattle.kept_meter.specs.Kept.{answerKept};
 ghost use Rattle.firmware.specs.Bits.{floatFrom};
-ghost use Rattle.firmware.specs.Told.{telemetryFrom, clockFrom, phasesFrom, madeIn, secondIn, powersIn, sliceIn, bytesAfter, keptOutcome, keptTold, makeTold, sliceOutcome, sliceTold, unreadNumber, replyBytes, answerOutcome, answerTold};
+ghost use Rattle.firmware.specs.Told.{telemetryFrom, clockFrom, phasesFrom, madeIn, secondIn, powersIn, sliceIn, bytesAfter, keptOutcome, keptTold, makeTold, sliceOutcome, sliceTold, answerOutcome, answerTold};
 
-// A reply's output holds at least the longest frame.
-const LONGEST: usize = 64;
 // The bits of a float, without its sign, from which on it is an infinity or no number.
 const INFINITY: u32 = 0x7F80_0000;
 
@@ -201,27 +199,6 @@ pub extern "C" fn metlazuel_meter_slice(
     keep(kept, answer)
 }
 
-// What bytes that are no record get: 1 stands before 28.
-fn unread_number(room: usize) -> u8
-    ensures { λ n. ⌜ n ≡ unreadNumber room ⌝ }
-{
-    if room < LONGEST {
-        return refusal::TOO_SHORT;
-    }
-    refusal::UNSOUND
-}
-
-// The record after a command that is done.
-fn put_reply(kept: &mut [u8], answer: Answered)
-    ensures { λ _. ⌜ now (kept .exit) ≡ replyBytes answer (now (kept .entry)) ⌝ }
-{
-    let verdict = answer.verdict;
-    let after = answer.after;
-    if command::is_done(verdict) {
-        record_bytes::put_record(kept, after);
-    }
-}
-
 // uint8_t metlazuel_meter_answer(uint8_t *kept, size_t n, uint8_t *store, size_t size, const uint8_t *frame, size_t bytes, uint8_t *out,
 //     size_t room, size_t *length)
 //
@@ -234,15 +211,10 @@ pub extern "C" fn metlazuel_meter_answer(
     out: &mut [u8],
     length: &mut usize,
 ) -> u8
-    ensures { λ n. ⌜ answerOutcome n (now (length .exit)) (now (kept .exit)) (now (store .exit)) (now (out .exit)) ≡ answerTold (recordOf (now (kept .entry))) (now (kept .entry)) (now (store .entry)) (now (frame .entry)) (now (out .entry)) ⌝ }
+    ensures { λ n. ⌜ answerOutcome n (now (length .exit)) (now (kept .exit)) (now (store .exit)) (now (out .exit)) ≡ answerTold (answerKept (recordOf (now (kept .entry))) (now (kept .entry)) (now (store .entry)) (now (frame .entry)) (now (out .entry))) ⌝ }
 {
-    let RecordRead::Read(r) = record_bytes::record_of(kept) else {
-        *length = 0;
-        return unread_number(out.len());
-    };
-    let answer = meter::answer(r, store, frame, out);
-    put_reply(kept, answer);
-    *length = answer.length;
-    let verdict = answer.verdict;
+    let told = kept_meter::answer(kept, store, frame, out);
+    *length = told.length;
+    let verdict = told.verdict;
     verdict.number()
 }

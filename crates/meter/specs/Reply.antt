@@ -34,8 +34,11 @@ unfoldable pub isSound : Record → List ℕ → Bool
 isSound r s = eqb (length s) storeBytes && isWithin r
 
 -- "A command with its own address or address 0 is answered"; 2 is for "length, CRC or address wrong"
+abbrev pub heardAt : ℕ → List ℕ → Bool
+heardAt own f = isSealed f && (eqb (byteAt f 0) 0 || eqb (byteAt f 0) own)
+
 unfoldable pub heard : Record → List ℕ → Bool
-heard r f = isSealed f && (eqb (byteAt f 0) 0 || eqb (byteAt f 0) (r .address))
+heard r f = heardAt (r .address) f
 
 -- "If the result isn't 0, the function's top bit is set"
 unfoldable pub functionFor : Verdict → ℕ → ℕ

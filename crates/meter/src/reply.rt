@@ -10,7 +10,7 @@ ghost use Prim.Native.Nat.{_≤_, _+_};
 ghost use lib.ListN.{length};
 ghost use Rattle.words.specs.Place.{written};
 ghost use Rattle.frame.specs.Sealing.{sealed};
-ghost use Rattle.meter.specs.Reply.{outcome, isSound, heard, functionFor, headOf, replied, filled, answerOf};
+ghost use Rattle.meter.specs.Reply.{outcome, isSound, heardAt, functionFor, headOf, replied, filled, answerOf};
 ghost use Rattle.command.specs.Judgement.{verdictOf};
 ghost use Rattle.meter.specs.Reading.{dataOf};
 
@@ -36,16 +36,16 @@ pub fn is_sound(r: Record, store: &[u8]) -> bool
     meter_record::is_within(r)
 }
 
-// Whether bytes are a frame for this meter: its own address, or 0.
-fn is_heard(r: Record, frame: &[u8]) -> bool
-    ensures { λ a. ⌜ a ≡ heard r (now (frame .entry)) ⌝ }
+// Whether bytes are a frame for the meter with an address of its own: that one, or 0.
+pub fn is_heard(own: u8, frame: &[u8]) -> bool
+    ensures { λ a. ⌜ a ≡ heardAt own (now (frame .entry)) ⌝ }
 {
     let address = words::byte_at(frame, 0);
     if frame::is_sealed(frame) {
         if address == 0 {
             return true;
         }
-        return address == r.address;
+        return address == own;
     }
     false
 }
@@ -64,7 +64,7 @@ fn function_for(v: Verdict, function: u8) -> u8
 }
 
 // The four bytes before the data: the command's address, function and parameter, and the result.
-fn put_head(out: &mut [u8], v: Verdict, frame: &[u8])
+pub fn put_head(out: &mut [u8], v: Verdict, frame: &[u8])
     ensures { λ _. ⌜ now (out .exit) ≡ written (now (out .entry)) 0 (headOf v (now (frame .entry))) ⌝ }
 {
     let head = [
@@ -88,7 +88,7 @@ pub fn answer(r: Record, store: &mut [u8], frame: &[u8], out: &mut [u8]) -> Answ
         };
     }
     if is_sound(r, store) {
-        if is_heard(r, frame) {
+        if is_heard(r.address, frame) {
             return replied(r, store, frame, out);
         }
         return Answered {

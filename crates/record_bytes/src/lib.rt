@@ -7,6 +7,7 @@ mod level;
 mod power;
 mod record;
 mod time;
+mod within;
 
 pub use record::RECORD_BYTES;
 pub use record::RecordRead;
@@ -14,3 +15,9 @@ pub use record::put_record;
 pub use record::record_of;
 pub use time::SeasonRead;
 pub use time::season_of;
+pub use within::address_in;
+pub use within::clock_in;
+pub use within::is_kept;
+pub use within::mask_in;
+pub use within::minutes_in;
+pub use within::telemetry_in;

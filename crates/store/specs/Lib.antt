@@ -1,3 +1,4 @@
 pub mod Store
 pub mod FindLaws
+pub mod FourLaws
 pub mod StoreLaws

@@ -1,82 +1,61 @@
--- `crc16::crc16` meets its contract. The loop's invariant: what a stands for goes on over the bytes not yet passed to the CRC of them all.
--- The measure is what is left of the length.
-use mathlib.Core.Path.{_≡_, refl, _∙_}
-use Prim.Native.Nat.{_+_, _-_, _≤_}
-use native.Mathlib.Omega.{arith}
-use lib.ListN.{length, drop}
-use Rattle.words.specs.Number.{bytesOf}
-use Rattle.words.specs.Place.{numberAt}
+-- `crc16::crc16` meets its contract, each length by its own way.
+use Rattle.crc16.specs.Word.{register}
 use Rattle.crc16.specs.Crc.{crcOf, crcFrom, times, bitStep}
-use Rattle.crc16.specs.Word.{register, crcFrom-number}
+use Rattle.words.specs.Number.{number, bytesOf, bytesOf-number}
+use lib.ListN.{length}
+use mathlib.Core.Path.{_∙_, sym, ap, refl}
+use borrow.Author.Needs.{needs}
 use Rattle.crc16.proofs.crc16.Statement.{statement}
 use Rattle.crc16.proofs.crc16.Tie as tie
 
-abbrev Inv-loop : tie.InvT-loop
-Inv-loop bytes a₀ i₀ a i = (i ≤ length bytes) × (crcFrom (register a) (drop i bytes) ≡ crcOf bytes)
+by-bytes-requires : tie.Need-by-bytes-requires
+by-bytes-requires c κs = search needs
 
-abbrev μ-loop : tie.MeasureT-loop
-μ-loop bytes a₀ i₀ a i = length bytes - i
-
-loop-holds : tie.Need-loop-holds Inv-loop μ-loop
+returns : tie.Need-returns
 unfolding crcOf register times bitStep
-loop-holds c = (omega arith, refl)
+returns c = c .by-bytes .ensures
 
-sub-loop : tie.Need-sub-loop Inv-loop μ-loop
-sub-loop c = omega arith
+few-requires : tie.Need-few-requires
+few-requires c κs = search needs
 
-u64-at-requires : tie.Need-u64-at-requires Inv-loop μ-loop
-u64-at-requires c κs = tt
+raised-requires : tie.Need-raised-requires
+raised-requires c κs = search needs
 
-add-u64-at : tie.Need-add-u64-at Inv-loop μ-loop
-add-u64-at c = omega arith
+settled-requires : tie.Need-settled-requires
+settled-requires c κs = search needs
 
-u64-at-requires-2 : tie.Need-u64-at-requires-2 Inv-loop μ-loop
-u64-at-requires-2 c κs = tt
+returns-2 : tie.Need-returns-2
+returns-2 c = let s = c .before .before .before .before .before .before .args .bytes .now in
+    let known = c .before .before .before .before .before .shared-slice-known .given in
+    c .settled .ensures ∙ c .before .raised .ensures ∙ (rw (c .before .before .few .ensures) (ap crcOf (bytesOf-number s (λ i. known i .fits))))
 
-pair-more-requires : tie.Need-pair-more-requires Inv-loop μ-loop
-pair-more-requires c κs = tt
+two-words-requires : tie.Need-two-words-requires
+two-words-requires c κs = search needs
 
-add-i : tie.Need-add-i Inv-loop μ-loop
-add-i c = omega arith
+settled-requires-2 : tie.Need-settled-requires-2
+settled-requires-2 c κs = search needs
 
-loop-less : tie.Need-loop-less Inv-loop μ-loop
-loop-less c = omega arith
+returns-3 : tie.Need-returns-3
+returns-3 c = c .settled2 .ensures ∙ c .before .two-words .ensures
 
-loop-again : tie.Need-loop-again Inv-loop μ-loop
-loop-again c =
-    let top = c .before .before .before .before in
-    let bytes = top .before .before .args .bytes .now in
-    let known = top .before .shared-slice-known .given in
-    let i = top .loop .i in
-    let r = register (top .loop .a) in
-    let first = crcFrom-number 8 i r bytes (λ k. known k .fits) (omega arith) in
-    let second = crcFrom-number 8 (i + 8) (crcFrom r (bytesOf 8 (numberAt bytes i 8))) bytes (λ k. known k .fits) (omega arith) in
-    let both : i + 16 ≡ i + 8 + 8 = omega arith in (
-      omega arith,
-      rw (c .pair-more .ensures, c .before .u64-at2 .ensures, c .before .before .u64-at .ensures, both)
-          (second ∙ first ∙ top .loop .inv .1),
-    )
+by-pairs-requires : tie.Need-by-pairs-requires
+by-pairs-requires c κs = search needs
 
-by-word-requires : tie.Need-by-word-requires Inv-loop μ-loop
-by-word-requires c κs = omega arith
-
-returns : tie.Need-returns Inv-loop μ-loop
-returns c = c .by-word .ensures ∙ c .before .before .loop .inv .1
+returns-4 : tie.Need-returns-4
+returns-4 c = search needs
 
 pub crc16-spec : {M : Type 1} → statement M
 crc16-spec =
     tie.close
     (tie.spec
-    Inv-loop
-    μ-loop
-    loop-holds
-    sub-loop
-    u64-at-requires
-    add-u64-at
-    u64-at-requires-2
-    pair-more-requires
-    add-i
-    loop-less
-    loop-again
-    by-word-requires
-    returns)
+    by-bytes-requires
+    returns
+    few-requires
+    raised-requires
+    settled-requires
+    returns-2
+    two-words-requires
+    settled-requires-2
+    returns-3
+    by-pairs-requires
+    returns-4)

@@ -11,9 +11,6 @@ use Rattle.crc16.proofs.settled.Tie as tie
 below-x30-requires : tie.Need-below-x30-requires
 below-x30-requires c κs = search needs
 
-below-x30-requires-2 : tie.Need-below-x30-requires-2
-below-x30-requires-2 c κs = search needs
-
 below-x15-requires : tie.Need-below-x15-requires
 below-x15-requires c κs = search needs
 
@@ -28,14 +25,14 @@ mul-result c = search needs
 
 cast-result-2 : tie.Need-cast-result-2
 cast-result-2 c =
-    let a = c .before .before .before .before .args .a in
+    let a = c .before .before .before .args .a in
     let low = c .below-x152 .result in
     record { fits = xor-lt 16 (low / 2 ^ 48) (ones (bitXor a low) % 2 * 0xC001) (omega arith) (omega arith) }
 
 returns : tie.Need-returns
 returns c =
-    let first = c .before .before .before in
-    rw (c .below-x152 .ensures, c .before .below-x15 .ensures, c .before .before .below-x302 .ensures, first .below-x30 .ensures)
+    let first = c .before .before in
+    rw (c .below-x152 .ensures, c .before .below-x15 .ensures, first .below-x30 .ensures)
     (settle (first .before .args .a) (search needs))
 
 pub settled-spec : {M : Type 1} → statement M
@@ -43,7 +40,6 @@ settled-spec =
     tie.close
     (tie.spec
     below-x30-requires
-    below-x30-requires-2
     below-x15-requires
     below-x15-requires-2
     cast-result

@@ -1,4 +1,4 @@
-use Rattle.meter.specs.Reply.{answerOf}
+use Rattle.meter.specs.Reply.{answerOf, heard}
 use borrow.Author.Tests.{lt-ltb, le-ltb}
 use mathlib.Core.Path.{sym, _∙_}
 use borrow.Author.Needs.{needs}
@@ -25,14 +25,14 @@ same-length-2 : tie.Need-same-length-2
 same-length-2 c = search needs
 
 returns-2 : tie.Need-returns-2
-unfolding answerOf
+unfolding answerOf heard
 returns-2 c = simp (le-ltb _ _ (c .before .before .before .before .before .before .before .before .before .before .before .before .if1 .left), sym (c .before .before .before .before .before .before .before .before .before .before .is-sound .ensures) ∙ c .before .before .before .before .before .before .before .before .before .if2 .taken, sym (c .before .before .before .before .before .before .before .before .is-heard .ensures) ∙ c .before .before .before .before .before .before .before .if3 .taken) (c .before .before .before .before .replied .ensures)
 
 same-length-3 : tie.Need-same-length-3
 same-length-3 c = search needs
 
 returns-3 : tie.Need-returns-3
-unfolding answerOf
+unfolding answerOf heard
 returns-3 c = simp (le-ltb _ _ (c .before .before .before .before .before .if1 .left), sym (c .before .before .before .is-sound .ensures) ∙ c .before .before .if2 .taken, sym (c .before .is-heard .ensures) ∙ c .if3 .left)
 
 same-length-4 : tie.Need-same-length-4

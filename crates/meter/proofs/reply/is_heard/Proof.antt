@@ -1,4 +1,3 @@
-use Rattle.meter.specs.Reply.{heard}
 use borrow.Author.Tests.{eq-eqb, ne-eqb}
 use mathlib.Core.Path.{sym, _∙_}
 use borrow.Author.Needs.{needs}
@@ -12,15 +11,12 @@ is-sealed-requires : tie.Need-is-sealed-requires
 is-sealed-requires c κs = search needs
 
 returns : tie.Need-returns
-unfolding heard
 returns c = simp (sym (c .before .before .is-sealed .ensures) ∙ c .before .if1 .taken, sym (c .before .before .before .byte-at .ensures), eq-eqb _ _ (c .if2 .taken))
 
 returns-2 : tie.Need-returns-2
-unfolding heard
-returns-2 c = simp (sym (c .before .before .before .is-sealed .ensures) ∙ c .before .before .if1 .taken, sym (c .before .before .before .before .byte-at .ensures), ne-eqb _ _ (c .before .if2 .left))
+returns-2 c = simp (sym (c .before .before .is-sealed .ensures) ∙ c .before .if1 .taken, sym (c .before .before .before .byte-at .ensures), ne-eqb _ _ (c .if2 .left))
 
 returns-3 : tie.Need-returns-3
-unfolding heard
 returns-3 c = simp (sym (c .before .is-sealed .ensures) ∙ c .if1 .left)
 
 pub is-heard-spec : {M : Type 1} → statement M

@@ -1,0 +1,52 @@
+-- `crc16::few` meets its contract: the first four bytes, and above them the rest of the last four.
+use Rattle.crc16.specs.Short.{few-number}
+use borrow.Author.Needs.{needs}
+use Rattle.crc16.proofs.few.Statement.{statement}
+use Rattle.crc16.proofs.few.Tie as tie
+
+u32-at-requires : tie.Need-u32-at-requires
+u32-at-requires c κs = search needs
+
+sub-u32-at : tie.Need-sub-u32-at
+sub-u32-at c = search needs
+
+u32-at-requires-2 : tie.Need-u32-at-requires-2
+u32-at-requires-2 c κs = search needs
+
+cast-result : tie.Need-cast-result
+cast-result c = search needs
+
+mul-result : tie.Need-mul-result
+mul-result c = search needs
+
+sub-result : tie.Need-sub-result
+sub-result c = search needs
+
+shr-result : tie.Need-shr-result
+shr-result c = search needs
+
+cast-result-2 : tie.Need-cast-result-2
+cast-result-2 c = search needs
+
+add-result : tie.Need-add-result
+add-result c = search needs
+
+returns : tie.Need-returns
+returns c = let start = c .before .before .before .args in
+    let known = c .before .before .shared-slice-known .given in
+    rw (c .u32-at2 .ensures, c .before .u32-at .ensures) (few-number (start .bytes .now) (λ i. known i .fits) (c .before .before .before .pre .0) (c .before .before .before .pre .1))
+
+pub few-spec : {M : Type 1} → statement M
+few-spec =
+    tie.close
+    (tie.spec
+    u32-at-requires
+    sub-u32-at
+    u32-at-requires-2
+    cast-result
+    mul-result
+    sub-result
+    shr-result
+    cast-result-2
+    add-result
+    returns)
