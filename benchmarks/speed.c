@@ -1,357 +1,14 @@
-// The proved functions beside the same work in plain C: both must answer the same on good and damaged input, then both are timed.
+// The proved functions beside the same work in plain C (plain.c): both must answer the same on good and damaged input; then both are timed,
+// and the stack is measured that each call reaches down to. With the word `count`, each call is made once, for a tool that counts.
 #include <stdio.h>
 #include <stdlib.h>
 #include <string.h>
 #include <time.h>
+#include <ucontext.h>
 #include "metlazuel.h"
-
-#define NOINLINE __attribute__((noinline))
+#include "plain.h"
 
 enum { DAYS = 62, SLOTS = 96, IMAGE = 14 + 9 * DAYS * SLOTS, FULL = IMAGE + 2 };
-
-// ---- CRC-16 in plain C
-
-static uint8_t table_hi[256], table_lo[256];
-static uint16_t table[256];
-
-// The tables of source document 002, Appendix D. They are made here and not copied: the copy that we have of its first table has only
-// 240 of the 256 numbers.
-static void make_tables(void)
-{
-    for (unsigned i = 0; i < 256; i++) {
-        unsigned r = i;
-        for (int k = 0; k < 8; k++)
-            r = r & 1 ? (r >> 1) ^ 0xA001 : r >> 1;
-        table[i] = (uint16_t)r;
-        table_hi[i] = (uint8_t)r;
-        table_lo[i] = (uint8_t)(r >> 8);
-    }
-}
-
-// The function of Appendix D, whose high byte is the one that travels first.
-static NOINLINE uint16_t c_crc_appendix(const uint8_t *p, size_t n)
-{
-    uint8_t hi = 0xFF, lo = 0xFF;
-    while (n--) {
-        unsigned i = hi ^ *p++;
-        hi = lo ^ table_hi[i];
-        lo = table_lo[i];
-    }
-    return (uint16_t)(lo << 8 | hi);
-}
-
-// One table of 16-bit numbers.
-static NOINLINE uint16_t c_crc_words(const uint8_t *p, size_t n)
-{
-    uint16_t r = 0xFFFF;
-    while (n--)
-        r = (uint16_t)(r >> 8 ^ table[(r ^ *p++) & 0xFF]);
-    return r;
-}
-
-// No table: what the crate crc16 computes, in C.
-static uint64_t by_x64(uint64_t z)
-{
-    return z >> 19 ^ z >> 8 ^ z >> 5;
-}
-
-static uint64_t word_more(uint64_t a, uint64_t word)
-{
-    return by_x64(a ^ a << 45 ^ a << 56 ^ a << 59) ^ word;
-}
-
-static uint16_t settled(uint64_t a)
-{
-    uint64_t b = a, c;
-    for (int k = 0; k < 2; k++)
-        b = b >> 34 << 34 ^ b << 30 ^ b << 30 >> 2;
-    c = b >> 1 ^ b >> 2;
-    for (int k = 0; k < 2; k++)
-        c = c >> 49 << 49 ^ c << 15 ^ c << 15 >> 1;
-    return (uint16_t)(c >> 48 ^ (__builtin_parityll(a ^ c) ? 0xC001u : 0));
-}
-
-static NOINLINE uint16_t c_crc_fold(const uint8_t *p, size_t n)
-{
-    uint64_t a = 0x0F14, first, second;
-    uint32_t half;
-    for (; n >= 16; p += 16, n -= 16) {
-        memcpy(&first, p, 8);
-        memcpy(&second, p + 8, 8);
-        a = a >> 23 ^ a >> 16 ^ a >> 9 ^ by_x64(a << 41 ^ a << 48 ^ a << 55) ^ word_more(first, second);
-    }
-    if (n >= 8) {
-        memcpy(&first, p, 8);
-        a = word_more(a, first);
-        p += 8, n -= 8;
-    }
-    if (n >= 4) {
-        memcpy(&half, p, 4);
-        a = a >> 32 ^ by_x64(a << 32) ^ (uint64_t)half << 32;
-        p += 4, n -= 4;
-    }
-    for (; n != 0; p++, n--)
-        a = a >> 8 ^ by_x64(a << 56) ^ (uint64_t)*p << 56;
-    return settled(a);
-}
-
-// ---- a log's file and day report in plain C
-
-struct header {
-    unsigned days, slots;
-};
-
-static unsigned u16(const uint8_t *p)
-{
-    return p[0] | (unsigned)p[1] << 8;
-}
-
-static int date_right(unsigned year, unsigned month, unsigned day)
-{
-    static const uint8_t length[13] = {0, 31, 28, 31, 30, 31, 30, 31, 31, 30, 31, 30, 31};
-    if (year > 99 || month < 1 || month > 12)
-        return 0;
-    return day >= 1 && day <= length[month] + (unsigned)(month == 2 && year % 4 == 0);
-}
-
-// The fields of 14 bytes, tested.
-static int header_right(const uint8_t *f, struct header *h)
-{
-    static const uint16_t before[13] = {0, 0, 31, 59, 90, 120, 151, 181, 212, 243, 273, 304, 334};
-    unsigned year = f[5], month = f[6], day = f[7], leap = year % 4 == 0;
-    if (u16(f + 12) != 0 || f[8] == 0 || f[8] > 62 || u16(f + 10) == 0 || (f[9] != 15 && f[9] != 30))
-        return 0;
-    if (!date_right(year, month, day))
-        return 0;
-    unsigned number = 365 * year + (year + 3) / 4 + before[month] + (month > 2 && leap) + day - 1;
-    if (number + f[8] - 1 >= 36525)
-        return 0;
-    h->days = f[8];
-    h->slots = f[9] == 15 ? 96 : 48;
-    return 1;
-}
-
-static int cell_good(const uint8_t *p)
-{
-    int none = (p[1] | p[2] | p[3] | p[4] | p[5] | p[6] | p[7] | p[8]) == 0;
-    return none ? p[0] < 2 : p[0] == 2;
-}
-
-static NOINLINE uint8_t c_read_file(const uint8_t *f, size_t n, uint8_t *out, size_t room, size_t *length)
-{
-    struct header h;
-    if (n < 5 || f[0] != 'G' || f[1] != 'E' || f[2] != 'L')
-        return 30;
-    if (u16(f + 3) != 1)
-        return 31;
-    if (n < 14 || !header_right(f, &h))
-        return 32;
-    size_t cells = h.days * h.slots, image = 14 + 9 * cells;
-    if (n != image + 2)
-        return 33;
-    if (c_crc_appendix(f, image) != u16(f + image))
-        return 34;
-    for (size_t i = 0; i < cells; i++)
-        if (!cell_good(f + 14 + 9 * i))
-            return 35;
-    if (room < image)
-        return 1;
-    memcpy(out, f, image);
-    *length = image;
-    return 0;
-}
-
-static NOINLINE uint8_t c_day_report(const uint8_t *log, size_t n, uint8_t day, uint32_t *row, size_t room)
-{
-    struct header h;
-    uint32_t t[7] = {0};
-    if (room < 7)
-        return 1;
-    if (n < 14 || log[0] != 'G' || log[1] != 'E' || log[2] != 'L' || u16(log + 3) != 1 || !header_right(log, &h))
-        return 28;
-    if (n != 14 + 9 * (size_t)(h.days * h.slots))
-        return 28;
-    if (day >= h.days)
-        return 22;
-    const uint8_t *p = log + 14 + 9 * (size_t)(day * h.slots);
-    for (unsigned i = 0; i < h.slots; i++, p += 9) {
-        if (!cell_good(p))
-            return 28;
-        t[p[0]]++;
-        t[3] += u16(p + 1);
-        t[4] += u16(p + 3);
-        t[5] += u16(p + 5);
-        t[6] += u16(p + 7);
-    }
-    memcpy(row, t, sizeof t);
-    return 0;
-}
-
-// ---- a bench meter in plain C: its record in a struct, and the reads of the clock (parameter 32) and of slices (36)
-
-enum { PLACES = 2976 };
-
-struct date_time {
-    uint8_t second, minute, hour, day, month, year;
-};
-
-struct switch_date {
-    uint8_t by_hand;
-    struct date_time at;
-};
-
-struct meter {
-    uint8_t address, level, left;
-    uint8_t main[8], auxiliary[8];
-    struct date_time clock;
-    uint8_t season;
-    struct switch_date summer, winter;
-    uint32_t k;
-    uint16_t ke, reserve;
-    uint32_t parameters;
-    uint8_t tariffs, directions;
-    float active[3], reactive[3];
-    uint8_t minutes;
-    uint16_t next;
-};
-
-struct place {
-    uint8_t month, day, number;
-    uint16_t count[4];
-};
-
-static int time_right(const struct date_time *t)
-{
-    return t->hour < 24 && t->minute < 60 && t->second < 60 && date_right(t->year, t->month, t->day);
-}
-
-static int switch_right(const struct switch_date *s)
-{
-    const struct date_time *t = &s->at;
-    if (!s->by_hand)
-        return 1;
-    if (t->year == 0 && t->month == 1 && t->day == 1 && t->hour == 0)
-        return 0;
-    return time_right(t) && !(t->year == 99 && t->month == 12 && t->day == 31 && t->hour == 23);
-}
-
-static int powers_right(const float *p)
-{
-    for (int i = 0; i < 3; i++)
-        if (!(p[i] >= -1000000.0f && p[i] <= 1000000.0f))
-            return 0;
-    return 1;
-}
-
-static int meter_right(const struct meter *m)
-{
-    uint64_t pulses = (uint64_t)m->k * m->ke;
-    if (m->address == 0 || (m->level == 0 ? m->left != 0 : m->left < 1 || m->left > 240))
-        return 0;
-    if (!time_right(&m->clock) || !switch_right(&m->summer) || !switch_right(&m->winter))
-        return 0;
-    if (pulses < 40000 || pulses > 5000000 || (m->minutes != 15 && m->minutes != 30) || m->next >= PLACES)
-        return 0;
-    return powers_right(m->active) && powers_right(m->reactive);
-}
-
-// The counts of a slice, or zeros. The number differs most often, so it is compared first, as ours does.
-static void c_slice(const struct place *store, const uint8_t *key, uint8_t *out)
-{
-    memset(out, 0, 8);
-    for (const struct place *p = store; p < store + PLACES; p++)
-        if (p->number == key[2] && p->day == key[1] && p->month == key[0]) {
-            for (int i = 0; i < 4; i++) {
-                out[2 * i] = (uint8_t)p->count[i];
-                out[2 * i + 1] = (uint8_t)(p->count[i] >> 8);
-            }
-            return;
-        }
-}
-
-// The number, and behind the head of a read that is done its data, whose length goes to size.
-static uint8_t c_read(const struct meter *m, const struct place *store, const uint8_t *f, size_t n, uint8_t *data, size_t *size)
-{
-    if (f[1] != 3)
-        return 10;
-    if (n == 4 || (f[2] != 32 && f[2] != 36))
-        return 11;
-    if (n != 8)
-        return 13;
-    if (f[2] == 32) {
-        const struct date_time *t = &m->clock;
-        if (f[3] != 0 || f[4] != 0 || f[5] != 0)
-            return 15;
-        data[0] = t->second, data[1] = t->minute, data[2] = t->hour;
-        data[3] = t->day, data[4] = t->month, data[5] = t->year;
-        *size = 6;
-        return 0;
-    }
-    if (f[3] < 1 || f[3] > 12 || f[4] < 1 || f[4] > 31 || f[5] >= (m->minutes == 15 ? 96 : 48))
-        return 15;
-    c_slice(store, f + 3, data);
-    *size = 8;
-    return 0;
-}
-
-static NOINLINE uint8_t c_answer(const struct meter *m, const struct place *store, const uint8_t *f, size_t n, uint8_t *out, size_t room,
-                                 size_t *length)
-{
-    size_t size = 0;
-    *length = 0;
-    if (room < 64)
-        return 1;
-    if (!meter_right(m))
-        return 28;
-    if (n < 4 || n > 64 || c_crc_appendix(f, n - 2) != u16(f + n - 2) || (f[0] != 0 && f[0] != m->address))
-        return 2;
-    uint8_t number = c_read(m, store, f, n, out + 4, &size);
-    out[0] = f[0];
-    out[1] = number == 0 ? f[1] : f[1] | 0x80;
-    out[2] = number == 10 || n == 4 ? 0 : f[2];
-    out[3] = number == 0 ? 0 : number == 10 ? 1 : number == 11 ? 2 : 3;
-    unsigned crc = c_crc_appendix(out, 4 + size);
-    out[4 + size] = (uint8_t)crc;
-    out[5 + size] = (uint8_t)(crc >> 8);
-    *length = 6 + size;
-    return number;
-}
-
-static uint32_t u32(const uint8_t *p)
-{
-    return u16(p) | (uint32_t)u16(p + 2) << 16;
-}
-
-static void load_time(struct date_time *t, const uint8_t *p)
-{
-    t->second = p[0], t->minute = p[1], t->hour = p[2];
-    t->day = p[3], t->month = p[4], t->year = p[5];
-}
-
-// The struct of a record's 81 bytes; 0 where they are none.
-static int c_load(struct meter *m, const uint8_t *p)
-{
-    if (p[1] > 2 || p[25] > 1 || p[26] > 1 || p[33] > 1)
-        return 0;
-    m->address = p[0], m->level = p[1], m->left = p[2];
-    memcpy(m->main, p + 3, 8);
-    memcpy(m->auxiliary, p + 11, 8);
-    load_time(&m->clock, p + 19);
-    m->season = p[25];
-    m->summer.by_hand = p[26];
-    load_time(&m->summer.at, p + 27);
-    m->winter.by_hand = p[33];
-    load_time(&m->winter.at, p + 34);
-    m->k = u32(p + 40), m->ke = (uint16_t)u16(p + 44), m->reserve = (uint16_t)u16(p + 46);
-    m->parameters = u32(p + 48), m->tariffs = p[52], m->directions = p[53];
-    for (int i = 0; i < 3; i++) {
-        uint32_t a = u32(p + 54 + 4 * i), r = u32(p + 66 + 4 * i);
-        memcpy(&m->active[i], &a, 4);
-        memcpy(&m->reactive[i], &r, 4);
-    }
-    m->minutes = p[78], m->next = (uint16_t)u16(p + 79);
-    return 1;
-}
 
 // ---- the input
 
@@ -477,7 +134,7 @@ static void same_answer(const uint8_t *f, size_t n, size_t room)
         y = c_answer(&m, places, f, n, b, room, &c);
     else
         y = room < 64 ? 1 : 28, c = 0;
-    if (x != y || ours != c || memcmp(a, b, sizeof b) != 0)
+    if (x != y || ours != c || memcmp(a, b, sizeof b) != 0 || memcmp(record, kept, sizeof kept) != 0)
         differ("answer");
     compared++;
     refused += x != 0;
@@ -554,6 +211,85 @@ static void compare_bench(void)
     expect(metlazuel_meter_slice(r, sizeof r, store, sizeof store, 5, 1, 48, 1, 2, 3, 4) == 27);
     expect(metlazuel_meter_slice(r, sizeof r, store, sizeof store - 1, 5, 1, 47, 1, 2, 3, 4) == 28);
     expect(metlazuel_meter_second(r, sizeof r - 1) == 28 && memcmp(r, before, sizeof r) == 0);
+}
+
+static void same_write(size_t n, size_t room)
+{
+    size_t ours = 7, c = 7;
+    memset(ours_out, 0xEE, sizeof ours_out);
+    memset(c_out, 0xEE, sizeof c_out);
+    uint8_t a = metlazuel_write_file(file, n, ours_out, room, &ours), b = c_write_file(file, n, c_out, room, &c);
+    if (a != b || ours != c || memcmp(ours_out, c_out, sizeof c_out) != 0)
+        differ("write");
+    compared++;
+    refused += a != 0;
+}
+
+// A reply to an open ask, into two copies of the file's image.
+static void same_take(const uint8_t *open, size_t size, const uint8_t *reply, size_t bytes)
+{
+    uint8_t a[5], b[5], ours = 7, c = 7;
+    memcpy(a, open, sizeof a);
+    memcpy(b, open, sizeof b);
+    memcpy(ours_out, file, IMAGE);
+    memcpy(c_out, file, IMAGE);
+    uint8_t x = metlazuel_take(ours_out, IMAGE, a, size, reply, bytes, &ours), y = c_take(c_out, IMAGE, b, size, reply, bytes, &c);
+    if (x != y || ours != c || memcmp(a, b, sizeof a) != 0 || memcmp(ours_out, c_out, IMAGE) != 0)
+        differ("take");
+    compared++;
+    refused += x != 0;
+}
+
+static void compare_log(void)
+{
+    uint8_t ask[5] = {1, 1, 30, 7, 0x55}, r[64] = {1, 3, 36, 0};
+    for (size_t room = FULL - 2; room <= FULL; room++)
+        same_write(IMAGE, room);
+    for (size_t n = 0; n < 20; n++)
+        same_write(IMAGE - n, FULL);
+    for (size_t i = 0; i < 14; i++) {
+        uint8_t was = file[i];
+        for (unsigned v = 0; v < 256; v++) {
+            file[i] = (uint8_t)v;
+            same_write(IMAGE, FULL);
+        }
+        file[i] = was;
+    }
+    // Each value of each byte of the ask and of the reply, for cells of each kind, with the counts that are there, others and none.
+    for (unsigned slot = 0; slot < 24; slot++)
+        for (int counts = 0; counts < 3; counts++) {
+            ask[3] = (uint8_t)slot;
+            memset(r + 4, counts == 1 ? 3 : 0, 8);
+            if (counts == 2)
+                memcpy(r + 4, file + 14 + 9 * (30 * SLOTS + slot) + 1, 8);
+            seal_frame(r, 14);
+            for (size_t size = 3; size < 6; size++)
+                same_take(ask, size, r, 14);
+            for (size_t i = 0; i < 4; i++) {
+                uint8_t was = ask[i];
+                for (unsigned v = 0; v < 256; v += 3) {
+                    ask[i] = (uint8_t)v;
+                    same_take(ask, 4, r, 14);
+                }
+                ask[i] = was;
+            }
+        }
+    for (size_t i = 0; i < 14; i++)
+        for (unsigned v = 0; v < 256; v++) {
+            uint8_t d[64];
+            memcpy(d, r, sizeof d);
+            d[i] = (uint8_t)v;
+            same_take(ask, 4, d, 14);
+            seal_frame(d, 14);
+            same_take(ask, 4, d, 14);
+            seal_frame(d, 6);
+            same_take(ask, 4, d, 6);
+            d[1] = 131;
+            seal_frame(d, 6);
+            same_take(ask, 4, d, 6);
+        }
+    for (size_t n = 0; n < 64; n++)
+        same_take(ask, 4, r, n);
 }
 
 static void compare(void)
@@ -636,6 +372,8 @@ static void appendix_short(void) { sink += c_crc_appendix(file, 14); }
 static void fold_short(void) { sink += c_crc_fold(file, 14); }
 static void ours_read(void) { sink += metlazuel_read_file(file, FULL, ours_out, FULL, &length); }
 static void plain_read(void) { sink += c_read_file(file, FULL, c_out, FULL, &length); }
+static void ours_write(void) { sink += metlazuel_write_file(file, IMAGE, ours_out, FULL, &length); }
+static void plain_write(void) { sink += c_write_file(file, IMAGE, c_out, FULL, &length); }
 static void ours_report(void) { sink += metlazuel_day_report(file, IMAGE, 30, row, 7); }
 static void plain_report(void) { sink += c_day_report(file, IMAGE, 30, row, 7); }
 
@@ -654,6 +392,53 @@ static void ours_last(void) { ours_answer(last_frame); }
 static void plain_last(void) { plain_answer(last_frame); }
 static void ours_absent(void) { ours_answer(absent_frame); }
 static void plain_absent(void) { plain_answer(absent_frame); }
+
+// The reply to an ask for the last slot of the log, which is measured with the same counts.
+static uint8_t taken[14] = {1, 3, 36, 0}, result;
+
+static void make_reply(void)
+{
+    memcpy(taken + 4, file + IMAGE - 8, 8);
+    seal_frame(taken, 14);
+}
+
+static void ours_take(void)
+{
+    uint8_t ask[4] = {1, 1, DAYS - 1, SLOTS - 1};
+    sink += metlazuel_take(file, IMAGE, ask, 4, taken, 14, &result);
+}
+
+static void plain_take(void)
+{
+    uint8_t ask[4] = {1, 1, DAYS - 1, SLOTS - 1};
+    sink += c_take(file, IMAGE, ask, 4, taken, 14, &result);
+}
+
+struct row {
+    const char *what;
+    void (*ours)(void), (*c)(void);
+    const char *ours_name, *c_name;
+    int calls;
+};
+
+#define ROW(what, ours, c, calls) {what, ours, c, #ours, #c, calls}
+
+static const struct row rows[] = {
+    ROW("CRC of 53,582 bytes, C by 002's two tables", ours_crc, appendix_crc, 20),
+    ROW("CRC of 53,582 bytes, C by one 16-bit table", ours_crc, words_crc, 20),
+    ROW("CRC of 53,582 bytes, C by the same fold", ours_crc, fold_crc, 20),
+    ROW("CRC of 14 bytes, C by 002's two tables", ours_short, appendix_short, 5000),
+    ROW("CRC of 14 bytes, C by the same fold", ours_short, fold_short, 5000),
+    ROW("file of 62 days of 15 minutes read", ours_read, plain_read, 20),
+    ROW("file of 62 days of 15 minutes written", ours_write, plain_write, 20),
+    ROW("report of a day of 96 slots", ours_report, plain_report, 5000),
+    ROW("reply to an ask taken into the log", ours_take, plain_take, 5000),
+    ROW("meter: the clock read", ours_clock, plain_clock, 5000),
+    ROW("meter: a slice in the last of 2,976 places", ours_last, plain_last, 200),
+    ROW("meter: a slice absent from a full store", ours_absent, plain_absent, 200),
+};
+
+enum { ROWS = sizeof rows / sizeof rows[0] };
 
 static double once(void (*f)(void), int calls)
 {
@@ -681,42 +466,80 @@ static struct best best_of(void (*ours)(void), void (*c)(void), int calls)
     return best;
 }
 
-static void time_both(const char *what, void (*ours)(void), void (*c)(void), int calls)
+static void print_times(void)
 {
-    struct best best = best_of(ours, c, calls);
-    printf("%-46s %10.3f %10.3f %8.2f\n", what, best.ours, best.c, best.ours / best.c);
+    printf("%-46s %10s %10s %8s %12s\n", "microseconds a call, best of 100", "ours", "C -O2", "ours/C", "ours a second");
+    for (int k = 0; k < ROWS; k++) {
+        struct best best = best_of(rows[k].ours, rows[k].c, rows[k].calls);
+        printf("%-46s %10.3f %10.3f %8.2f %12.0f\n", rows[k].what, best.ours, best.c, best.ours / best.c, 1e6 / best.ours);
+    }
 }
 
-// Frames in a second, so the ratio is turned round: it is that of the times again.
-static void rate_both(const char *what, void (*ours)(void), void (*c)(void), int calls)
+// ---- the stack: a call is made on painted memory, and the deepest byte sought that it changed
+
+enum { PAINT = 0xA5, PAINTED = 1 << 16 };
+
+static uint8_t painted[PAINTED];
+static ucontext_t here, there;
+static void (*entered)(void);
+
+static void nothing(void) {}
+static void enter(void) { entered(); }
+
+static size_t reached(void (*f)(void))
 {
-    struct best best = best_of(ours, c, calls);
-    printf("%-46s %10.0f %10.0f %8.2f\n", what, 1e6 / best.ours, 1e6 / best.c, best.ours / best.c);
+    size_t i = 0;
+    memset(painted, PAINT, sizeof painted);
+    getcontext(&there);
+    there.uc_stack.ss_sp = painted;
+    there.uc_stack.ss_size = sizeof painted;
+    there.uc_link = &here;
+    entered = f;
+    makecontext(&there, enter, 0);
+    swapcontext(&here, &there);
+    while (painted[i] == PAINT)
+        i++;
+    return sizeof painted - i;
 }
 
-int main(void)
+static void print_stack(void)
+{
+    size_t none = reached(nothing);
+    printf("\n%-46s %10s %10s\n", "bytes of stack that a call reaches down to", "ours", "C -O2");
+    for (int k = 0; k < ROWS; k++)
+        printf("%-46s %10zu %10zu\n", rows[k].what, reached(rows[k].ours) - none, reached(rows[k].c) - none);
+}
+
+// Each call once; which rows they belong to goes to the output.
+static void count(void)
+{
+    for (int k = 0; k < ROWS; k++) {
+        if (k == 0 || rows[k].ours != rows[k - 1].ours)
+            rows[k].ours();
+        rows[k].c();
+        printf("%s %s %s\n", rows[k].ours_name, rows[k].c_name, rows[k].what);
+    }
+}
+
+int main(int words, char **word)
 {
     make_tables();
     make_file();
     make_meter();
+    make_reply();
     seal_frame(clock_frame, 8);
     seal_frame(last_frame, 8);
     seal_frame(absent_frame, 8);
+    if (words == 2 && strcmp(word[1], "count") == 0) {
+        count();
+        return 0;
+    }
     compare();
+    compare_log();
     compare_bench();
     compare_meter();
     printf("compared: %lu calls answered alike, %lu of them refusals\n\n", compared, refused);
-    printf("%-46s %10s %10s %8s\n", "microseconds a call, best of 100", "ours", "C -O2", "ours/C");
-    time_both("CRC of 53,582 bytes, C by 002's two tables", ours_crc, appendix_crc, 20);
-    time_both("CRC of 53,582 bytes, C by one 16-bit table", ours_crc, words_crc, 20);
-    time_both("CRC of 53,582 bytes, C by the same fold", ours_crc, fold_crc, 20);
-    time_both("CRC of 14 bytes, C by 002's two tables", ours_short, appendix_short, 5000);
-    time_both("CRC of 14 bytes, C by the same fold", ours_short, fold_short, 5000);
-    time_both("file of 62 days of 15 minutes read", ours_read, plain_read, 20);
-    time_both("report of a day of 96 slots", ours_report, plain_report, 5000);
-    printf("\n%-46s %10s %10s %8s\n", "frames answered a second, best of 100", "ours", "C -O2", "C/ours");
-    rate_both("the clock", ours_clock, plain_clock, 5000);
-    rate_both("a slice in the last of 2,976 places", ours_last, plain_last, 200);
-    rate_both("a slice that is absent from a full store", ours_absent, plain_absent, 200);
+    print_times();
+    print_stack();
     return 0;
 }

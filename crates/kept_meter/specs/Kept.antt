@@ -1,6 +1,6 @@
 -- The meter's answer where its record is lent bytes. Source: document 01, "The bench meter's record" and "Refusal numbers".
 use mathlib.Core.Path.{_≡_}
-use mathlib.Core.Bool.{Bool, true, false, cond, _&&_}
+use mathlib.Core.Bool.{true, cond}
 use mathlib.Core.List.{List}
 use Prim.Native.Nat.{ℕ, _+_, _≤_}
 use lib.Dec.{ltb}
@@ -12,17 +12,15 @@ use Rattle.slots.specs.Day.{slotsOf}
 use Rattle.request.specs.Subject.{subjectOf, askable}
 use Rattle.meter_record.specs.declared.record.Record.{Record}
 use Rattle.record_bytes.specs.Record.{recordBytes, recordOf}
-use Rattle.record_bytes.specs.Within.{withinIn}
 use Rattle.record_bytes.specs.declared.record.RecordRead.{RecordRead}
 use Rattle.record_bytes.specs.declared.record.RecordRead.the-variants.{Read, Unreadable}
-use Rattle.command.specs.Judgement.{verdictOf}
 use Rattle.command.specs.Parts.{functionIn, requestIn}
 use Rattle.command.specs.Verdict.{isDone}
 use Rattle.command.specs.declared.verdict.Verdict.{Verdict}
 use Rattle.command.specs.declared.verdict.Verdict.the-variants.{Done, TooShort, Unsound}
 use Rattle.meter.specs.Reading.{isRead, dataOf, dataSize}
 use Rattle.meter.specs.Reply as reply
-use Rattle.meter.specs.Reply.{isSound, heardAt, heard, headOf, answerOf}
+use Rattle.meter.specs.Reply.{isSound, headOf, answerOf}
 use Rattle.meter.specs.declared.reply.Answered.{Answered}
 use Rattle.kept_meter.specs.declared.reply.Told.{Told}
 
@@ -55,29 +53,29 @@ unfoldable pub answerKept : RecordRead → List ℕ → List ℕ → List ℕ �
 answerKept (Read r) bs s f out = keptFrom (answerOf r s f out) f bs
 answerKept Unreadable bs s f out = outcome (record { verdict = unreadVerdict (length out); length = 0 }) bs s out
 
--- ---- a read that is done
+-- ---- a frame that a meter hears, and a read that is done
 
 abbrev pub IsRecord : List ℕ → Record → Type 0
 IsRecord bs r = recordOf bs ≡ Read r
 
--- a whole read's bytes, which a record within its ranges hears and does
-unfoldable pub doneRead : List ℕ → List ℕ → Bool
-doneRead bs f =
-    withinIn (recordOf bs) && (heardAt (byteAt bs 0) f && askable (subjectOf (requestIn f) (slotsOf (byteAt bs 78))))
+abbrev pub SoundIn : RecordRead → List ℕ → Type 0
+SoundIn (Read r) s = isSound r s ≡ true
+SoundIn Unreadable s = ⊥
 
+-- what was read and the store are a meter's, and the output has room for a reply
+pub record Meter (x : RecordRead) (s : List ℕ) (room : ℕ) : Type 0 where
+  pub roomy : 64 ≤ room
+  pub sound : SoundIn x s
+
+-- a whole read
 pub record IsRead (f : List ℕ) : Type 0 where
   pub long : length f ≡ 8
   pub reads : functionIn f ≡ function.Read
 
-abbrev pub Held : RecordRead → List ℕ → List ℕ → Type 0
-Held (Read r) s f = (isSound r s ≡ true) × (heard r f ≡ true) × (verdictOf r f ≡ Done)
-Held Unreadable s f = ⊥
-
--- the meter does the read, and the output has room for the reply
-pub record Shown (x : RecordRead) (s f : List ℕ) (room : ℕ) : Type 0 where
-  pub roomy : 64 ≤ room
+-- a whole read that a meter with these bytes does
+pub record DoneRead (bs f : List ℕ) : Type 0 where
   pub whole : IsRead f
-  pub held : Held x s f
+  pub right : askable (subjectOf (requestIn f) (slotsOf (byteAt bs 78))) ≡ true
 
 -- the reply to it, from the head on, and its length
 pub record ShownBytes (r : Record) (s f out : List ℕ) (n : ℕ) (after : List ℕ) : Type 0 where

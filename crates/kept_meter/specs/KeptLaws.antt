@@ -1,4 +1,4 @@
--- What follows for a read that is done: the meter's answer is its reply, and record and store stay as they were.
+-- What follows where the meter does not hear a frame, or does a read: record and store stay as they were, and its reply is the answer.
 use mathlib.Core.Path.{_≡_, refl, sym, ap, ap₂, subst, _∙_}
 use mathlib.Core.Bool.{Bool, true, false, cond, _&&_}
 use mathlib.Core.List.{List}
@@ -7,7 +7,6 @@ use native.Mathlib.Omega.{arith}
 use lib.Dec.{T, eqb, leb, ltb}
 use lib.ListN.{length}
 use borrow.Author.Tests.{eq-eqb, le-ltb, lt-leb}
-use Rattle.decide.specs.Test.{both}
 use Rattle.words.specs.Place.{byteAt, written}
 use Rattle.frame.specs.Code.{functionOf, parameterOf}
 use Rattle.frame.specs.declared.code.Function.{Function}
@@ -28,13 +27,13 @@ use Rattle.command.specs.Judgement.{readable, passed, checked, readVerdict, ver
 use Rattle.command.specs.Parts.{functionIn, parameterByte, parameterIn, known, requestIn}
 use Rattle.command.specs.Verdict.{isDone}
 use Rattle.command.specs.declared.verdict.Verdict.{Verdict}
-use Rattle.command.specs.declared.verdict.Verdict.the-variants.{Done}
+use Rattle.command.specs.declared.verdict.Verdict.the-variants.{Done, Silent}
 use Rattle.meter.specs.Effect.{clearsBy, clears, storeAfter}
 use Rattle.meter.specs.Reading.{figuresOf, sizeOf, isRead, dataOf, dataSize}
 use Rattle.meter.specs.Reply as reply
 use Rattle.meter.specs.Reply.{isSound, heardAt, heard, headOf, done, filled, replied, answerOf}
 use Rattle.meter.specs.ReplyLaws.{filled-whole}
-use Rattle.kept_meter.specs.Kept.{Outcome, outcome, bytesAfter, keptFrom, answerKept, IsRecord, doneRead, IsRead, Held, Shown, ShownBytes}
+use Rattle.kept_meter.specs.Kept.{outcome, bytesAfter, answerKept, SoundIn, Meter, IsRead, DoneRead, ShownBytes}
 
 -- ---- the parts of a read
 
@@ -82,29 +81,19 @@ read-done r f w h =
     let p : readable (parameterIn f) ≡ true = ap readable (read-parameter f w) ∙ o .opens in
     simp (w .reads, k, p, eq-eqb (length f) 8 (w .long), h)
 
--- ---- what the test says
+-- ---- what the tests say
 
-held-of : (bs s f : List ℕ) → length s ≡ storeBytes → IsRead f → doneRead bs f ≡ true → (x : RecordRead) → recordOf bs ≡ x → Held x s f
-unfolding doneRead isSound heard
-held-of bs s f n w h Unreadable e =
-    let two = both (withinIn (recordOf bs)) (heardAt (byteAt bs 0) f && askable (subjectOf (requestIn f) (slotsOf (byteAt bs 78)))) h in
-    absurd (subst T (sym (ap withinIn (sym e) ∙ two .0)) tt)
-held-of bs s f n w h (Read r) e =
-    let parts = parts-of bs r e in
-    let two = both (withinIn (recordOf bs)) (heardAt (byteAt bs 0) f && askable (subjectOf (requestIn f) (slotsOf (byteAt bs 78)))) h in
-    let more = both (heardAt (byteAt bs 0) f) (askable (subjectOf (requestIn f) (slotsOf (byteAt bs 78)))) (two .1) in
-    let within : isWithin r ≡ true = ap withinIn (sym e) ∙ two .0 in (
-      simp (eq-eqb (length s) storeBytes n, within),
-      ap (λ (a : ℕ). heardAt a f) (parts .address) ∙ more .0,
-      read-done r f w (ap (λ (m : ℕ). askable (subjectOf (requestIn f) (slotsOf m))) (parts .minutes) ∙ more .1),
-    )
+sound-of : (s : List ℕ) → length s ≡ storeBytes → (x : RecordRead) → withinIn x ≡ true → SoundIn x s
+unfolding isSound
+sound-of s n (Read r) w = simp (eq-eqb (length s) storeBytes n, w)
+sound-of s n Unreadable w = subst T (sym w) tt
 
-pub shown-of : (bs s f : List ℕ) (n : ℕ) → 64 ≤ n → length s ≡ storeBytes → length f ≡ 8 → byteAt f 1 ≡ 3 → doneRead bs f ≡ true
-    → Shown (recordOf bs) s f n
+pub meter-of : (x : RecordRead) (s : List ℕ) (n : ℕ) → 64 ≤ n → length s ≡ storeBytes → withinIn x ≡ true → Meter x s n
+meter-of x s n room long w = record { roomy = room; sound = sound-of s long x w }
+
+pub read-of : (f : List ℕ) → length f ≡ 8 → byteAt f 1 ≡ 3 → IsRead f
 unfolding functionOf
-shown-of bs s f n room long size three h =
-    let w : IsRead f = record { long = size; reads = ap functionOf three } in
-    record { roomy = room; whole = w; held = held-of bs s f long w h (recordOf bs) refl }
+read-of f long three = record { long = long; reads = ap functionOf three }
 
 -- ---- the answer
 
@@ -117,16 +106,27 @@ answer-done : (r : Record) (s f out : List ℕ) → 64 ≤ length out → (isSou
 unfolding answerOf replied
 answer-done r s f out room h = simp (le-ltb (length out) 64 room, h .0, h .1, h .2)
 
-pub shown-answer : (x : RecordRead) (bs s f out : List ℕ) (n : ℕ) (after : List ℕ) → Shown x s f (length out)
-    → ((r : Record) → x ≡ Read r → ShownBytes r s f out n after)
+pub shown-answer : (x : RecordRead) (bs s f out : List ℕ) (n : ℕ) (after : List ℕ) → recordOf bs ≡ x → Meter x s (length out)
+    → heardAt (byteAt bs 0) f ≡ true → DoneRead bs f → ((r : Record) → recordOf bs ≡ Read r → ShownBytes r s f out n after)
     → outcome (record { verdict = Done; length = n }) bs s after ≡ answerKept x bs s f out
-unfolding answerKept bytesAfter
-shown-answer Unreadable bs s f out n after h reply = absurd (h .held)
-shown-answer (Read r) bs s f out n after h reply =
-    let b = reply r refl in
-    let reads = h .whole .reads in
-    let whole = answer-done r s f out (h .roomy) (h .held) ∙ sym (filled-whole Done r s f out (h .roomy)) in
+unfolding answerKept bytesAfter heard
+shown-answer Unreadable bs s f out n after e m h d reply = absurd (m .sound)
+shown-answer (Read r) bs s f out n after e m h d reply =
+    let parts = parts-of bs r e in
+    let b = reply r e in
+    let reads = d .whole .reads in
+    let known : heardAt (r .address) f ≡ true = ap (λ (a : ℕ). heardAt a f) (parts .address) ∙ h in
+    let verdict = read-done r f (d .whole) (ap (λ (k : ℕ). askable (subjectOf (requestIn f) (slotsOf k))) (parts .minutes) ∙ d .right) in
+    let whole = answer-done r s f out (m .roomy) (m .sound, known, verdict) ∙ sym (filled-whole Done r s f out (m .roomy)) in
     rw (b .size, b .bytes, whole) (simp (reads, read-store s f reads))
+
+pub silent-answer : (x : RecordRead) (bs s f out : List ℕ) → recordOf bs ≡ x → Meter x s (length out) → heardAt (byteAt bs 0) f ≡ false
+    → outcome (record { verdict = Silent; length = 0 }) bs s out ≡ answerKept x bs s f out
+unfolding answerKept bytesAfter answerOf heard
+silent-answer Unreadable bs s f out e m h = absurd (m .sound)
+silent-answer (Read r) bs s f out e m h =
+    let unknown : heard r f ≡ false = ap (λ (a : ℕ). heardAt a f) (parts-of bs r e .address) ∙ h in
+    simp (le-ltb (length out) 64 (m .roomy), m .sound, unknown)
 
 -- figures that were written are those of the parameter
 pub shown-by : (p c : Parameter) (r : Record) (s : List ℕ) (q : Request) (out : List ℕ) {after bs : List ℕ} → after ≡ written out 0 bs → p ≡ c

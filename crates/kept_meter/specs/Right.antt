@@ -48,14 +48,5 @@ ask-power q = go (eqb (q .offset) 0) refl (eqb (q .tariff) 0) refl (eqb (q .deta
 
 -- ---- three tests in turn
 
-pub last-decides : (a b c : Bool) → a ≡ true → b ≡ true → a && (b && c) ≡ c
-last-decides a b c p q = rw (p, q)
-
-pub second-fails : (a b c : Bool) → a ≡ true → b ≡ false → a && (b && c) ≡ false
-second-fails a b c p q = rw (p, q)
-
-pub first-fails : (a b : Bool) → a ≡ false → a && b ≡ false
-first-fails a b p = rw p
-
 pub third-decides : (a b c : Bool) → a ≡ true → b ≡ true → a && b && c ≡ c
 third-decides a b c p q = rw (p, q)

@@ -12,7 +12,7 @@ ghost use mathlib.Core.Bool.{true};
 ghost use Prim.Native.Nat.{_≤_};
 ghost use lib.ListN.{length};
 ghost use Rattle.record_bytes.specs.Record.{recordOf};
-ghost use Rattle.kept_meter.specs.Kept.{IsRecord, Shown, ShownBytes, IsRead, outcome, bytesAfter, unreadVerdict, answerKept, doneRead};
+ghost use Rattle.kept_meter.specs.Kept.{IsRecord, Meter, DoneRead, ShownBytes, IsRead, outcome, bytesAfter, unreadVerdict, answerKept};
 
 pub struct Told {
     pub verdict: Verdict,
@@ -31,18 +31,27 @@ const BARE_BYTES: usize = 6;
 pub fn answer(kept: &mut [u8], store: &mut [u8], frame: &[u8], out: &mut [u8]) -> Told
     ensures { λ t. ⌜ outcome t (now (kept .exit)) (now (store .exit)) (now (out .exit)) ≡ answerKept (recordOf (now (kept .entry))) (now (kept .entry)) (now (store .entry)) (now (frame .entry)) (now (out .entry)) ⌝ }
 {
-    if is_shown(kept, store, frame, out.len()) {
+    if is_meter(kept, store, out.len()) {
+        if meter::is_heard(record_bytes::address_in(kept), frame) {
+            if is_done_read(kept, frame) {
+                return Told {
+                    verdict: Verdict::Done,
+                    length: show(kept, store, frame, out),
+                };
+            }
+            return obey(kept, store, frame, out);
+        }
         return Told {
-            verdict: Verdict::Done,
-            length: show(kept, store, frame, out),
+            verdict: Verdict::Silent,
+            length: 0,
         };
     }
     obey(kept, store, frame, out)
 }
 
-// Whether a frame is a read that is done.
-fn is_shown(kept: &[u8], store: &[u8], frame: &[u8], room: usize) -> bool
-    ensures { λ r. ⌜ (r ≡ true → Shown (recordOf (now (kept .entry))) (now (store .entry)) (now (frame .entry)) room) ⌝ }
+// Whether the bytes and the store are a meter's, and the output has room for a reply.
+fn is_meter(kept: &[u8], store: &[u8], room: usize) -> bool
+    ensures { λ r. ⌜ (r ≡ true → Meter (recordOf (now (kept .entry))) (now (store .entry)) room) ⌝ }
 {
     if room < LONGEST {
         return false;
@@ -50,26 +59,21 @@ fn is_shown(kept: &[u8], store: &[u8], frame: &[u8], room: usize) -> bool
     if store.len() != store::STORE_BYTES {
         return false;
     }
+    record_bytes::is_kept(kept)
+}
+
+// Whether a frame that a meter heard is a read that it does.
+fn is_done_read(kept: &[u8], frame: &[u8]) -> bool
+    ensures { λ r. ⌜ (r ≡ true → DoneRead (now (kept .entry)) (now (frame .entry))) ⌝ }
+{
     if frame.len() != READ_BYTES {
         return false;
     }
     if frame[FUNCTION] != code::READ {
         return false;
     }
-    is_done_read(kept, frame)
-}
-
-// The same of a read's bytes, where record and store are a meter's.
-fn is_done_read(kept: &[u8], frame: &[u8]) -> bool
-    ensures { λ r. ⌜ r ≡ doneRead (now (kept .entry)) (now (frame .entry)) ⌝ }
-{
-    if record_bytes::is_kept(kept) {
-        if meter::is_heard(record_bytes::address_in(kept), frame) {
-            let slots = slots::slots_of(record_bytes::minutes_in(kept));
-            return is_right(command::request_in(frame), slots);
-        }
-    }
-    false
+    let slots = slots::slots_of(record_bytes::minutes_in(kept));
+    is_right(command::request_in(frame), slots)
 }
 
 // The reply to a read that is done, and how long it is.
