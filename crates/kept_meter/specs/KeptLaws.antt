@@ -20,7 +20,7 @@ use Rattle.request.specs.declared.request.Request.{Request}
 use Rattle.meter_record.specs.Ranges.{isWithin}
 use Rattle.meter_record.specs.declared.record.Record.{Record}
 use Rattle.record_bytes.specs.Record.{recordOf}
-use Rattle.record_bytes.specs.Within.{withinIn, parts-of}
+use Rattle.record_view.specs.Within.{withinIn, parts-of}
 use Rattle.record_bytes.specs.declared.record.RecordRead.{RecordRead}
 use Rattle.record_bytes.specs.declared.record.RecordRead.the-variants.{Read, Unreadable}
 use Rattle.command.specs.Judgement.{readable, passed, checked, readVerdict, verdictBy, verdictOf}

@@ -32,7 +32,7 @@ pub fn answer(kept: &mut [u8], store: &mut [u8], frame: &[u8], out: &mut [u8]) -
     ensures { λ t. ⌜ outcome t (now (kept .exit)) (now (store .exit)) (now (out .exit)) ≡ answerKept (recordOf (now (kept .entry))) (now (kept .entry)) (now (store .entry)) (now (frame .entry)) (now (out .entry)) ⌝ }
 {
     if is_meter(kept, store, out.len()) {
-        if meter::is_heard(record_bytes::address_in(kept), frame) {
+        if meter::is_heard(record_view::address_in(kept), frame) {
             if is_done_read(kept, frame) {
                 return Told {
                     verdict: Verdict::Done,
@@ -59,7 +59,7 @@ fn is_meter(kept: &[u8], store: &[u8], room: usize) -> bool
     if store.len() != store::STORE_BYTES {
         return false;
     }
-    record_bytes::is_kept(kept)
+    record_view::is_kept(kept)
 }
 
 // Whether a frame that a meter heard is a read that it does.
@@ -72,7 +72,7 @@ fn is_done_read(kept: &[u8], frame: &[u8]) -> bool
     if frame[FUNCTION] != code::READ {
         return false;
     }
-    let slots = slots::slots_of(record_bytes::minutes_in(kept));
+    let slots = slots::slots_of(record_view::minutes_in(kept));
     is_right(command::request_in(frame), slots)
 }
 

@@ -23,10 +23,10 @@ fn put_shown(out: &mut [u8], p: Parameter, kept: &[u8], store: &[u8], q: Request
     ensures { λ _. ⌜ ((r : _) → IsRecord (now (kept .entry)) r → now (out .exit) ≡ written (now (out .entry)) 0 (figuresOf p r (now (store .entry)) q)) ⌝ }
 {
     match p {
-        Parameter::Address => words::put_byte(out, 0, record_bytes::address_in(kept)),
-        Parameter::Telemetry => figures::put_telemetry(out, record_bytes::telemetry_in(kept)),
-        Parameter::Clock => figures::put_date_time(out, record_bytes::clock_in(kept)),
-        Parameter::DisplayMask => figures::put_display_mask(out, record_bytes::mask_in(kept)),
+        Parameter::Address => words::put_byte(out, 0, record_view::address_in(kept)),
+        Parameter::Telemetry => figures::put_telemetry(out, record_view::telemetry_in(kept)),
+        Parameter::Clock => figures::put_date_time(out, record_view::clock_in(kept)),
+        Parameter::DisplayMask => figures::put_display_mask(out, record_view::mask_in(kept)),
         Parameter::Slice => store::put_row(out, 0, store::slice_of(store, request::key_of(q))),
         Parameter::SixSlices => meter::put_six(out, store::six_of(store, request::key_of(q))),
         Parameter::ActivePower => put_recorded(out, p, kept, store, q),

@@ -4,5 +4,3 @@ pub mod Power
 pub mod Time
 pub mod Record
 pub mod RecordLaws
-pub mod Within
-pub mod PowerBits

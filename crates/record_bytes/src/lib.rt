@@ -3,11 +3,10 @@
 // Each thing of the record has its place and its width; numbers of several bytes stand lowest byte first, figures as the wire has
 // them. What was written reads back as it was. Bytes of another length, or with a level, a season, a choice of date or a power that
 // there is not, are no record. Whether a record that is read keeps its ranges, `meter_record` says.
-mod level;
+pub mod level;
 mod power;
-mod record;
-mod time;
-mod within;
+pub mod record;
+pub mod time;
 
 pub use record::RECORD_BYTES;
 pub use record::RecordRead;
@@ -15,9 +14,3 @@ pub use record::put_record;
 pub use record::record_of;
 pub use time::SeasonRead;
 pub use time::season_of;
-pub use within::address_in;
-pub use within::clock_in;
-pub use within::is_kept;
-pub use within::mask_in;
-pub use within::minutes_in;
-pub use within::telemetry_in;
