@@ -29,6 +29,9 @@ pub struct Twin {
     library_store: Vec<u8>,
 }
 
+/// The function of a read, which changes nothing of the record and so leaves its bytes as they are.
+const READ: u8 = 3;
+
 /// The number of an outcome.
 pub fn number<T>(outcome: &Result<T, Refusal>) -> u8 {
     match outcome {
@@ -93,7 +96,9 @@ impl Twin {
     fn frame(&mut self, frame: &[u8], out: &[u8]) -> Answer {
         let (mut ours, mut theirs) = (out.to_vec(), out.to_vec());
         let (outcome, length) = self.model_answer(frame, &mut ours);
-        self.renew(&outcome);
+        if frame.get(1) != Some(&READ) {
+            self.renew(&outcome);
+        }
         let mut library_length = usize::MAX;
         let library_number =
             library::answer(&mut self.library_kept, &mut self.library_store, frame, &mut theirs, &mut library_length);
