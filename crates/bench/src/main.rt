@@ -1,5 +1,6 @@
 // The console: a line of standard input is a call, and its answer a line of standard output.
 mod files;
+mod help;
 mod verb;
 
 use console_io::Rest;
@@ -9,7 +10,18 @@ use logger::OpenAsk;
 use meter_record::Record;
 use meter_record::RecordAnswer;
 
+// The program's own name.
+const ITS_WORDS: usize = 1;
+
 fn main() {
+    if ITS_WORDS < os::arg_count() {
+        help::say();
+        return;
+    }
+    begin();
+}
+
+fn begin() {
     // The longest image, the meter's 2,976 places for slices, all unused, the longest line, and a block of the input.
     let mut image = [0u8; 53582];
     let mut store = [0u8; 32736];

@@ -37,7 +37,7 @@ use Rattle.command.specs.Parts.{functionIn, parameterByte, requestIn}
 use Rattle.command.specs.Verdict.{numberOf, resultOf, isDone}
 use Rattle.command.specs.declared.verdict.Verdict.{Verdict}
 use Rattle.command.specs.declared.verdict.Verdict.the-variants.{Done, TooShort, Unsound, Silent, UnknownFunction, UnknownParameter, NotOpen, WrongLength, NoAccess, WrongArgument}
-use Rattle.meter.specs.Reading.{figuresOf, sixBytes, dataOf}
+use Rattle.meter_reading.specs.Reading.{figuresOf, sixBytes, dataOf}
 use Rattle.meter.specs.Reply.{Outcome, isSound, heard, functionFor, headOf, done, refused, replied, answerOf}
 use Rattle.meter.specs.ReplyLaws.{length-figures, size-small, length-head}
 use Rattle.reader.specs.Form as form

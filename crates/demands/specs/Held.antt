@@ -28,7 +28,7 @@ use Rattle.meter_record.specs.PowerLaws.{BoundsPhases, powers-bounds, bounds-fi
 use Rattle.meter_record.specs.RangeLaws.{Within}
 use Rattle.meter_record.specs.Widths.{FitsRecord}
 use Rattle.meter_record.specs.declared.record.Record.{Record}
-use Rattle.meter.specs.Reading.{phase, powerData, summerShown, winterShown, figuresOf, powerSize, sizeOf}
+use Rattle.meter_reading.specs.Reading.{phase, powerData, summerShown, winterShown, figuresOf, powerSize, sizeOf}
 use Rattle.reader.specs.Reply.{countsOf, figuresOf as figuresIn}
 use Rattle.reader.specs.declared.reply.Decoded.{Decoded}
 use Rattle.reader.specs.declared.reply.Decoded.the-variants as decoded

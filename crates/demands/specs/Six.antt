@@ -7,7 +7,7 @@ use Rattle.words.specs.Number.{Bytes}
 use Rattle.words.specs.Place.{numberAt, numberAt-behind}
 use Rattle.slots.specs.declared.key.Key.{Key}
 use Rattle.store.specs.Store.{sliceOf, later, sixOf, rowBytes}
-use Rattle.meter.specs.Reading.{sixBytes}
+use Rattle.meter_reading.specs.Reading.{sixBytes}
 use Rattle.meter.specs.ReplyLaws.{length-row}
 use Rattle.reader.specs.Reply.{countsOf}
 use Rattle.reader.specs.declared.reply.Slice.{Slice as FourCounts}

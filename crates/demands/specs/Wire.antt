@@ -36,7 +36,7 @@ use Rattle.store.specs.StoreLaws.{RowFits}
 use Rattle.meter_record.specs.RangeLaws.{Within}
 use Rattle.meter_record.specs.Widths.{FitsRecord}
 use Rattle.meter_record.specs.declared.record.Record.{Record}
-use Rattle.meter.specs.Reading.{phase, powerData, sixBytes, figuresOf}
+use Rattle.meter_reading.specs.Reading.{phase, powerData, sixBytes, figuresOf}
 use Rattle.reader.specs.Form.{lengthFor, functionFor, headOf, formOf}
 use Rattle.reader.specs.declared.form.Form.the-variants.{WellFormed}
 

@@ -18,7 +18,7 @@ use Rattle.command.specs.Parts.{functionIn, requestIn}
 use Rattle.command.specs.Verdict.{isDone}
 use Rattle.command.specs.declared.verdict.Verdict.{Verdict}
 use Rattle.command.specs.declared.verdict.Verdict.the-variants.{Done, TooShort, Unsound}
-use Rattle.meter.specs.Reading.{isRead, dataOf, dataSize}
+use Rattle.meter_reading.specs.Reading.{isRead, dataOf, dataSize}
 use Rattle.meter.specs.Reply as reply
 use Rattle.meter.specs.Reply.{isSound, headOf, answerOf}
 use Rattle.meter.specs.declared.reply.Answered.{Answered}

@@ -29,7 +29,7 @@ use Rattle.command.specs.Verdict.{isDone}
 use Rattle.command.specs.declared.verdict.Verdict.{Verdict}
 use Rattle.command.specs.declared.verdict.Verdict.the-variants.{Done, Silent}
 use Rattle.meter.specs.Effect.{clearsBy, clears, storeAfter}
-use Rattle.meter.specs.Reading.{figuresOf, sizeOf, isRead, dataOf, dataSize}
+use Rattle.meter_reading.specs.Reading.{figuresOf, sizeOf, isRead, dataOf, dataSize}
 use Rattle.meter.specs.Reply as reply
 use Rattle.meter.specs.Reply.{isSound, heardAt, heard, headOf, done, filled, replied, answerOf}
 use Rattle.meter.specs.ReplyLaws.{filled-whole}

@@ -83,7 +83,7 @@ fn show(kept: &[u8], store: &[u8], frame: &[u8], out: &mut [u8]) -> usize
 {
     let q = command::request_in(frame);
     let p = code::parameter_of(q.parameter);
-    let size = meter::figure_bytes(p, q.detail);
+    let size = meter_reading::figure_bytes(p, q.detail);
     meter::put_head(out, Verdict::Done, frame);
     fill(out, p, kept, store, q);
     frame::seal(out, DATA + size);
@@ -107,7 +107,7 @@ fn put_after(kept: &mut [u8], frame: &[u8], answer: Answered)
     let verdict = answer.verdict;
     let after = answer.after;
     if command::is_done(verdict) {
-        if meter::is_read(frame) {
+        if meter_reading::is_read(frame) {
             return;
         }
         record_bytes::put_record(kept, after);

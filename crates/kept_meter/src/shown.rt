@@ -7,7 +7,7 @@ ghost use mathlib.Core.Path.{_≡_};
 ghost use Prim.Native.Nat.{_≤_};
 ghost use lib.ListN.{length};
 ghost use Rattle.words.specs.Place.{written};
-ghost use Rattle.meter.specs.Reading.{figuresOf};
+ghost use Rattle.meter_reading.specs.Reading.{figuresOf};
 ghost use Rattle.record_bytes.specs.Record.{recordOf};
 ghost use Rattle.kept_meter.specs.Kept.{IsRecord};
 
@@ -28,7 +28,10 @@ fn put_shown(out: &mut [u8], p: Parameter, kept: &[u8], store: &[u8], q: Request
         Parameter::Clock => figures::put_date_time(out, record_view::clock_in(kept)),
         Parameter::DisplayMask => figures::put_display_mask(out, record_view::mask_in(kept)),
         Parameter::Slice => store::put_row(out, 0, store::slice_of(store, request::key_of(q))),
-        Parameter::SixSlices => meter::put_six(out, store::six_of(store, request::key_of(q))),
+        Parameter::SixSlices => meter_reading::put_six(
+            out,
+            store::six_of(store, request::key_of(q)),
+        ),
         Parameter::ActivePower => put_recorded(out, p, kept, store, q),
         Parameter::ReactivePower => put_recorded(out, p, kept, store, q),
         Parameter::SummerDate => put_recorded(out, p, kept, store, q),
@@ -43,7 +46,7 @@ fn put_recorded(out: &mut [u8], p: Parameter, kept: &[u8], store: &[u8], q: Requ
     ensures { λ _. ⌜ ((r : _) → IsRecord (now (kept .entry)) r → now (out .exit) ≡ written (now (out .entry)) 0 (figuresOf p r (now (store .entry)) q)) ⌝ }
 {
     match record_bytes::record_of(kept) {
-        RecordRead::Read(r) => meter::put_figures(out, p, r, store, q),
+        RecordRead::Read(r) => meter_reading::put_figures(out, p, r, store, q),
         RecordRead::Unreadable => {}
     }
 }

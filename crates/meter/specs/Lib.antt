@@ -1,5 +1,4 @@
 pub mod Effect
-pub mod Reading
 pub mod Reply
 pub mod Bench
 pub mod ReplyLaws

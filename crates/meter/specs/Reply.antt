@@ -14,7 +14,7 @@ use Rattle.meter_record.specs.declared.record.Record.{Record}
 use Rattle.command.specs.Parts.{parameterByte}
 use Rattle.meter.specs.Effect.{afterOf, storeAfter}
 use Rattle.command.specs.Judgement.{verdictOf}
-use Rattle.meter.specs.Reading.{dataOf, dataSize}
+use Rattle.meter_reading.specs.Reading.{dataOf, dataSize}
 use Rattle.command.specs.Verdict.{isDone, resultOf}
 use Rattle.meter.specs.declared.reply.Answered.{Answered}
 use Rattle.command.specs.declared.verdict.Verdict.{Verdict}

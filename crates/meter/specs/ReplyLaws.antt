@@ -24,7 +24,7 @@ use Rattle.command.specs.Parts.{functionIn, parameterIn, requestIn}
 use Rattle.command.specs.Judgement.{verdictOf}
 use Rattle.command.specs.Verdict.{isDone}
 use Rattle.command.specs.declared.verdict.Verdict.{Verdict}
-use Rattle.meter.specs.Reading.{powerData, sixBytes, figuresOf, powerSize, sizeOf, isRead, dataOf, dataSize}
+use Rattle.meter_reading.specs.Reading.{powerData, sixBytes, figuresOf, powerSize, sizeOf, isRead, dataOf, dataSize}
 use Rattle.meter.specs.Reply.{outcome, isSound, heard, headOf, filled, done, refused, replied, answerOf}
 
 -- ---- the length of the data

@@ -4,14 +4,9 @@
 // store made empty. The reply is put together around them.
 mod bench;
 mod effect;
-mod reading;
 mod reply;
 
 pub use bench::put_slice;
-pub use reading::figure_bytes;
-pub use reading::is_read;
-pub use reading::put_figures;
-pub use reading::put_six;
 pub use reply::Answered;
 pub use reply::answer;
 pub use reply::is_heard;

@@ -1,6 +1,5 @@
 // The answer to a frame.
 use crate::effect;
-use crate::reading;
 use command::DATA;
 use command::Verdict;
 use frame::code;
@@ -12,7 +11,7 @@ ghost use Rattle.words.specs.Place.{written};
 ghost use Rattle.frame.specs.Sealing.{sealed};
 ghost use Rattle.meter.specs.Reply.{outcome, isSound, heardAt, functionFor, headOf, replied, filled, answerOf};
 ghost use Rattle.command.specs.Judgement.{verdictOf};
-ghost use Rattle.meter.specs.Reading.{dataOf};
+ghost use Rattle.meter_reading.specs.Reading.{dataOf};
 
 pub struct Answered {
     pub verdict: Verdict,
@@ -126,7 +125,7 @@ fn fill(out: &mut [u8], r: Record, store: &[u8], frame: &[u8])
     requires { ⌜ 64 ≤ length (now out) ⌝ }
     ensures { λ _. ⌜ now (out .exit) ≡ written (now (out .entry)) 4 (dataOf r (now (store .entry)) (now (frame .entry))) ⌝ }
 {
-    reading::put_data(&mut out[DATA..], r, store, frame);
+    meter_reading::put_data(&mut out[DATA..], r, store, frame);
 }
 
 // The data behind the head, and what the command leaves.
@@ -134,7 +133,7 @@ fn done(v: Verdict, r: Record, store: &mut [u8], frame: &[u8], out: &mut [u8]) -
     requires { ⌜ 64 ≤ length (now out) ⌝ }
     ensures { λ a. ⌜ outcome a (now (store .exit)) (now (out .exit)) ≡ filled v r (now (store .entry)) (now (frame .entry)) (now (out .entry)) ⌝ }
 {
-    let size = reading::data_size(frame);
+    let size = meter_reading::data_size(frame);
     fill(out, r, store, frame);
     frame::seal(out, DATA + size);
     effect::clear_store(store, frame);

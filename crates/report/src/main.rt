@@ -12,7 +12,18 @@ use report_text::TextAnswer;
 // One byte more than the longest file has, so that a longer one shows.
 const FILE_ROOM: usize = 53585;
 
+// The program's own name.
+const ITS_WORDS: usize = 1;
+
 fn main() {
+    if ITS_WORDS < os::arg_count() {
+        say(b"report < LOGFILE: prints the day report of the log's file on its standard input\n");
+        return;
+    }
+    begin();
+}
+
+fn begin() {
     let mut file = [0u8; FILE_ROOM];
     let n = io::read_full(STDIN_FILENO, &mut file);
     let mut image = [0u8; FILE_ROOM];

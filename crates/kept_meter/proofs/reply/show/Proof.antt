@@ -1,6 +1,6 @@
 use Rattle.kept_meter.specs.KeptLaws.{read-data, read-size}
 use Rattle.meter.specs.ReplyLaws.{size-small}
-use Rattle.meter.specs.Reading.{figuresOf, dataOf, dataSize}
+use Rattle.meter_reading.specs.Reading.{figuresOf, dataOf, dataSize}
 use Rattle.command.specs.Parts.{requestIn}
 use Rattle.frame.specs.Sealing.{sealed}
 use Rattle.words.specs.Place.{written}

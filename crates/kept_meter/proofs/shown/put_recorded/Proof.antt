@@ -1,4 +1,4 @@
-use Rattle.meter.specs.Reading.{figuresOf}
+use Rattle.meter_reading.specs.Reading.{figuresOf}
 use Rattle.meter_record.specs.declared.record.Record.{Record}
 use Rattle.words.specs.Place.{written}
 use native.Mathlib.Omega.{arith}

@@ -1,6 +1,6 @@
 use Rattle.kept_meter.specs.KeptLaws.{shown-by}
 use Rattle.record_view.specs.Within.{parts-of}
-use Rattle.meter.specs.Reading.{sixBytes}
+use Rattle.meter_reading.specs.Reading.{sixBytes}
 use Rattle.store.specs.Store.{sliceOf, sixOf, rowBytes}
 use Rattle.frame.specs.declared.code.Parameter.the-variants as parameter
 use Rattle.figures.specs.Telemetry.{telemetryBytes}

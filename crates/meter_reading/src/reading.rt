@@ -8,7 +8,7 @@ use request::Request;
 use second::Time;
 ghost use mathlib.Core.Path.{_≡_};
 ghost use Rattle.words.specs.Place.{written};
-ghost use Rattle.meter.specs.Reading.{phase, powerData, summerShown, winterShown, sixBytes, figuresOf, powerSize, sizeOf, isRead, dataOf, dataSize};
+ghost use Rattle.meter_reading.specs.Reading.{phase, powerData, summerShown, winterShown, sixBytes, figuresOf, powerSize, sizeOf, isRead, dataOf, dataSize};
 ghost use Rattle.command.specs.Parts.{functionIn};
 
 fn phase(p: Phases, detail: u8) -> f32

@@ -1,6 +1,6 @@
 use borrow.Author.Needs.{needs}
-use Rattle.meter.proofs.reading.figure_bytes.Statement.{statement}
-use Rattle.meter.proofs.reading.figure_bytes.Tie as tie
+use Rattle.meter_reading.proofs.reading.figure_bytes.Statement.{statement}
+use Rattle.meter_reading.proofs.reading.figure_bytes.Tie as tie
 
 enum-told : tie.Need-enum-told
 enum-told c = search needs

@@ -1,7 +1,7 @@
-use Rattle.meter.specs.Reading.{powerSize}
+use Rattle.meter_reading.specs.Reading.{powerSize}
 use borrow.Author.Tests.{eq-eqb, ne-eqb}
-use Rattle.meter.proofs.reading.power_bytes.Statement.{statement}
-use Rattle.meter.proofs.reading.power_bytes.Tie as tie
+use Rattle.meter_reading.proofs.reading.power_bytes.Statement.{statement}
+use Rattle.meter_reading.proofs.reading.power_bytes.Tie as tie
 
 returns : tie.Need-returns
 unfolding powerSize

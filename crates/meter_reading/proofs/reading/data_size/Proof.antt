@@ -1,8 +1,8 @@
-use Rattle.meter.specs.Reading.{dataSize}
+use Rattle.meter_reading.specs.Reading.{dataSize}
 use mathlib.Core.Path.{sym, _∙_}
 use borrow.Author.Needs.{needs}
-use Rattle.meter.proofs.reading.data_size.Statement.{statement}
-use Rattle.meter.proofs.reading.data_size.Tie as tie
+use Rattle.meter_reading.proofs.reading.data_size.Statement.{statement}
+use Rattle.meter_reading.proofs.reading.data_size.Tie as tie
 
 is-read-requires : tie.Need-is-read-requires
 is-read-requires c κs = search needs

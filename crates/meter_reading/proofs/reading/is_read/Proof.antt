@@ -1,7 +1,7 @@
 use mathlib.Core.Path.{sym, _∙_}
 use borrow.Author.Needs.{needs}
-use Rattle.meter.proofs.reading.is_read.Statement.{statement}
-use Rattle.meter.proofs.reading.is_read.Tie as tie
+use Rattle.meter_reading.proofs.reading.is_read.Statement.{statement}
+use Rattle.meter_reading.proofs.reading.is_read.Tie as tie
 
 function-in-requires : tie.Need-function-in-requires
 function-in-requires c κs = search needs

@@ -1,11 +1,11 @@
-use Rattle.meter.specs.Reading.{sixBytes}
+use Rattle.meter_reading.specs.Reading.{sixBytes}
 use Rattle.store.specs.Store.{rowBytes}
 use Rattle.words.specs.Place.{onward}
 use Rattle.words.specs.Number.{bytesOf}
 use mathlib.Core.Path.{refl}
 use borrow.Author.Needs.{needs}
-use Rattle.meter.proofs.reading.put_six.Statement.{statement}
-use Rattle.meter.proofs.reading.put_six.Tie as tie
+use Rattle.meter_reading.proofs.reading.put_six.Statement.{statement}
+use Rattle.meter_reading.proofs.reading.put_six.Tie as tie
 
 array-copy-out-put-row : tie.Need-array-copy-out-put-row
 array-copy-out-put-row c = search needs

@@ -1,9 +1,9 @@
-use Rattle.meter.specs.Reading.{powerData}
+use Rattle.meter_reading.specs.Reading.{powerData}
 use mathlib.Core.Path.{_∙_}
 use borrow.Author.Tests.{eq-eqb, ne-eqb}
 use borrow.Author.Needs.{needs}
-use Rattle.meter.proofs.reading.put_power.Statement.{statement}
-use Rattle.meter.proofs.reading.put_power.Tie as tie
+use Rattle.meter_reading.proofs.reading.put_power.Statement.{statement}
+use Rattle.meter_reading.proofs.reading.put_power.Tie as tie
 
 put-powers-requires : tie.Need-put-powers-requires
 put-powers-requires c κs = search needs

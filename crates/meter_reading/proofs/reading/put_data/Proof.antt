@@ -1,9 +1,9 @@
-use Rattle.meter.specs.Reading.{dataOf}
+use Rattle.meter_reading.specs.Reading.{dataOf}
 use Rattle.words.specs.Place.{written}
 use mathlib.Core.Path.{sym, _∙_}
 use borrow.Author.Needs.{needs}
-use Rattle.meter.proofs.reading.put_data.Statement.{statement}
-use Rattle.meter.proofs.reading.put_data.Tie as tie
+use Rattle.meter_reading.proofs.reading.put_data.Statement.{statement}
+use Rattle.meter_reading.proofs.reading.put_data.Tie as tie
 
 is-read-requires : tie.Need-is-read-requires
 is-read-requires c κs = search needs

@@ -1,7 +1,7 @@
-use Rattle.meter.specs.Reading.{phase}
+use Rattle.meter_reading.specs.Reading.{phase}
 use borrow.Author.Tests.{ne-eqb}
-use Rattle.meter.proofs.reading.phase.Statement.{statement}
-use Rattle.meter.proofs.reading.phase.Tie as tie
+use Rattle.meter_reading.proofs.reading.phase.Statement.{statement}
+use Rattle.meter_reading.proofs.reading.phase.Tie as tie
 
 returns : tie.Need-returns
 unfolding phase

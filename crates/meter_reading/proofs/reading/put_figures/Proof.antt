@@ -1,8 +1,8 @@
 use Rattle.words.specs.Place.{written}
 use mathlib.Core.Path.{_∙_}
 use borrow.Author.Needs.{needs}
-use Rattle.meter.proofs.reading.put_figures.Statement.{statement}
-use Rattle.meter.proofs.reading.put_figures.Tie as tie
+use Rattle.meter_reading.proofs.reading.put_figures.Statement.{statement}
+use Rattle.meter_reading.proofs.reading.put_figures.Tie as tie
 
 enum-told : tie.Need-enum-told
 enum-told c = search needs
