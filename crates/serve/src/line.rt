@@ -12,6 +12,12 @@ pub struct Served {
     pub open: bool,
 }
 
+// Longer than any frame, so that one which is too long is seen as that.
+const FRAME_ROOM: usize = 256;
+
+// A reply is no longer than a frame.
+const REPLY_ROOM: usize = 64;
+
 // Until the device is closed, or so many frames were read.
 pub fn serve(fd: i32, count: u64, store: &mut [u8], record: Record) {
     let mut served = Served {
@@ -34,8 +40,7 @@ pub fn serve(fd: i32, count: u64, store: &mut [u8], record: Record) {
 }
 
 fn turn(fd: i32, store: &mut [u8], s: Served) -> Served {
-    // Longer than any frame, so that one which is too long is seen as that.
-    let mut frame = [0u8; 256];
+    let mut frame = [0u8; FRAME_ROOM];
     let got = libc::read(fd, &mut frame);
     if got < 1 {
         return Served { open: false, ..s };
@@ -56,7 +61,7 @@ fn turn(fd: i32, store: &mut [u8], s: Served) -> Served {
 }
 
 fn answer(fd: i32, store: &mut [u8], frame: &[u8], s: Served) -> Served {
-    let mut out = [0u8; 64];
+    let mut out = [0u8; REPLY_ROOM];
     let record = s.record;
     let a = meter::answer(record, store, frame, &mut out);
     let length = a.length;

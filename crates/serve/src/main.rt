@@ -8,6 +8,13 @@ use meter_record::Record;
 use script::Ready;
 use text::NumberAnswer;
 
+// Where the words of `serve DEVICE SCRIPT COUNT` stand.
+const DEVICE: usize = 1;
+
+const SCRIPT: usize = 2;
+
+const COUNT: usize = 3;
+
 // The program's own name, DEVICE and SCRIPT.
 const LEAST_WORDS: usize = 3;
 
@@ -34,7 +41,7 @@ fn main() {
 
 fn counted() {
     let mut word = io::buffer();
-    let n = os::arg(3, &mut word);
+    let n = os::arg(COUNT, &mut word);
     match text::number_of(&word[..n]) {
         NumberAnswer::Number(count) => made(count),
         NumberAnswer::NotANumber => help::say(),
@@ -43,9 +50,9 @@ fn counted() {
 
 // The meter is made first, so that a script that stops leaves the device alone.
 fn made(count: u64) {
-    let mut store = [0u8; 32736];
+    let mut store = [0u8; store::STORE_BYTES];
     let mut path = io::buffer();
-    let n = os::arg(2, &mut path);
+    let n = os::arg(SCRIPT, &mut path);
     match script::made_by(&path[..n], &mut store) {
         Ready::Meter(record) => opened(count, &mut store, record),
         Ready::Stopped => {}
@@ -54,7 +61,7 @@ fn made(count: u64) {
 
 fn opened(count: u64, store: &mut [u8], record: Record) {
     let mut path = io::buffer();
-    let n = os::arg(1, &mut path);
+    let n = os::arg(DEVICE, &mut path);
     let fd = os::open_update(&path[..n]);
     if fd < 0 {
         os::fail(&path[..n]);
