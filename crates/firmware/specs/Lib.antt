@@ -1,4 +1,5 @@
 pub mod Told
+pub mod AnswerTold
 pub mod Bits
 pub mod LogTold
 pub mod WireTold

@@ -14,7 +14,6 @@ use Rattle.calendar.specs.declared.time.DateTime.{DateTime}
 use Rattle.figures.specs.declared.power.Phases.{Phases}
 use Rattle.figures.specs.declared.telemetry.Telemetry.{Telemetry}
 use Rattle.slots.specs.declared.key.Key.{Key}
-use Rattle.command.specs.Verdict as verdict
 use Rattle.meter_record.specs.Record.{made, secondOf, setPowers, numberOf}
 use Rattle.meter_record.specs.declared.record.RecordAnswer.{RecordAnswer}
 use Rattle.meter_record.specs.declared.record.RecordAnswer.the-variants as answer
@@ -24,7 +23,6 @@ use Rattle.record_bytes.specs.declared.record.RecordRead.{RecordRead}
 use Rattle.record_bytes.specs.declared.record.RecordRead.the-variants.{Read, Unreadable}
 use Rattle.record_bytes.specs.declared.time.SeasonRead.{SeasonRead}
 use Rattle.record_bytes.specs.declared.time.SeasonRead.the-variants as season
-use Rattle.kept_meter.specs.Kept as kept
 use Rattle.meter.specs.Bench as bench
 use Rattle.meter.specs.Bench.{slicePut}
 
@@ -128,19 +126,3 @@ sliceOutcome n bs s = record { number = n; bytes = bs; store = s }
 
 abbrev pub sliceTold : bench.Outcome → List ℕ → SliceOutcome
 sliceTold o bs = sliceOutcome (numberOf (o .answer)) (bytesAfter (o .answer) bs) (o .store)
-
--- ---- the meter's answer to a frame
-
-pub record AnswerOutcome : Type 0 where
-  pub number : ℕ
-  pub size : ℕ
-  pub bytes : List ℕ
-  pub store : List ℕ
-  pub out : List ℕ
-
-abbrev pub answerOutcome : ℕ → ℕ → List ℕ → List ℕ → List ℕ → AnswerOutcome
-answerOutcome n l bs s out = record { number = n; size = l; bytes = bs; store = s; out = out }
-
--- the number of an answer, the reply's length, the record's bytes, the store and the output
-abbrev pub answerTold : kept.Outcome → AnswerOutcome
-answerTold o = answerOutcome (verdict.numberOf (o .told .verdict)) (o .told .length) (o .bytes) (o .store) (o .out)

@@ -1,6 +1,6 @@
 // The bench meter for C. Its record is 81 bytes, which `metlazuel_meter_make` fills and the other calls read and renew; its store 32,736,
 // at first all zero. A call that is refused leaves the record's bytes as they were, and bytes that are no record count as one outside its
-// ranges: 28.
+// ranges: 28. Here stand the bench's own calls; `answer_call` has a frame answered.
 use calendar::Date;
 use calendar::DateTime;
 use figures::Phases;
@@ -15,9 +15,8 @@ ghost use Prim.Native.Nat.{_*_};
 ghost use mathlib.Core.List.{[], _∷_};
 ghost use Rattle.record_bytes.specs.Record.{recordOf};
 ghost use Rattle.meter.specs.Bench.{outcome};
-ghost use Rattle.kept_meter.specs.Kept.{answerKept};
 ghost use Rattle.firmware.specs.Bits.{floatFrom};
-ghost use Rattle.firmware.specs.Told.{telemetryFrom, clockFrom, phasesFrom, madeIn, secondIn, powersIn, sliceIn, bytesAfter, keptOutcome, keptTold, makeTold, sliceOutcome, sliceTold, answerOutcome, answerTold};
+ghost use Rattle.firmware.specs.Told.{telemetryFrom, clockFrom, phasesFrom, madeIn, secondIn, powersIn, sliceIn, bytesAfter, keptOutcome, keptTold, makeTold, sliceOutcome, sliceTold};
 
 // The bits of a float, without its sign, from which on it is an infinity or no number.
 const INFINITY: u32 = 0x7F80_0000;
@@ -197,24 +196,4 @@ pub extern "C" fn metlazuel_meter_slice(
     let read = record_bytes::record_of(kept);
     let answer = slice_in(read, store, key, [eplus, eminus, rplus, rminus]);
     keep(kept, answer)
-}
-
-// uint8_t metlazuel_meter_answer(uint8_t *kept, size_t n, uint8_t *store, size_t size, const uint8_t *frame, size_t bytes, uint8_t *out,
-//     size_t room, size_t *length)
-//
-// The reply goes to the front of `out`, and its length to `length`: 0 where the meter is silent.
-#[no_mangle]
-pub extern "C" fn metlazuel_meter_answer(
-    kept: &mut [u8],
-    store: &mut [u8],
-    frame: &[u8],
-    out: &mut [u8],
-    length: &mut usize,
-) -> u8
-    ensures { λ n. ⌜ answerOutcome n (now (length .exit)) (now (kept .exit)) (now (store .exit)) (now (out .exit)) ≡ answerTold (answerKept (recordOf (now (kept .entry))) (now (kept .entry)) (now (store .entry)) (now (frame .entry)) (now (out .entry))) ⌝ }
-{
-    let told = kept_meter::answer(kept, store, frame, out);
-    *length = told.length;
-    let verdict = told.verdict;
-    verdict.number()
 }

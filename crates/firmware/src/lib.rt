@@ -8,11 +8,12 @@ ghost use Rattle.dayreport.specs.Report.{reportOf};
 ghost use Rattle.firmware.specs.Told.{lengthAfter, readOutcome, readTold, reportOutcome, reportTold};
 use logfile::ReadAnswer;
 
+mod answer_call;
 mod bench_meter;
 mod log_calls;
 mod wire_calls;
 
-pub use bench_meter::metlazuel_meter_answer;
+pub use answer_call::metlazuel_meter_answer;
 pub use bench_meter::metlazuel_meter_make;
 pub use bench_meter::metlazuel_meter_powers;
 pub use bench_meter::metlazuel_meter_second;

@@ -9,6 +9,4 @@ mod reply;
 pub use bench::put_slice;
 pub use reply::Answered;
 pub use reply::answer;
-pub use reply::is_heard;
 pub use reply::is_sound;
-pub use reply::put_head;

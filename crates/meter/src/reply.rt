@@ -36,7 +36,7 @@ pub fn is_sound(r: Record, store: &[u8]) -> bool
 }
 
 // Whether bytes are a frame for the meter with an address of its own: that one, or 0.
-pub fn is_heard(own: u8, frame: &[u8]) -> bool
+fn is_heard(own: u8, frame: &[u8]) -> bool
     ensures { λ a. ⌜ a ≡ heardAt own (now (frame .entry)) ⌝ }
 {
     let address = words::byte_at(frame, 0);
@@ -63,7 +63,7 @@ fn function_for(v: Verdict, function: u8) -> u8
 }
 
 // The four bytes before the data: the command's address, function and parameter, and the result.
-pub fn put_head(out: &mut [u8], v: Verdict, frame: &[u8])
+fn put_head(out: &mut [u8], v: Verdict, frame: &[u8])
     ensures { λ _. ⌜ now (out .exit) ≡ written (now (out .entry)) 0 (headOf v (now (frame .entry))) ⌝ }
 {
     let head = [

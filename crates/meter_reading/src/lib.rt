@@ -2,8 +2,5 @@
 mod reading;
 
 pub use reading::data_size;
-pub use reading::figure_bytes;
 pub use reading::is_read;
 pub use reading::put_data;
-pub use reading::put_figures;
-pub use reading::put_six;

@@ -52,7 +52,7 @@ fn winter_shown(t: Time) -> DateTime
 }
 
 // Six rows one behind the other.
-pub fn put_six(out: &mut [u8], rows: [[u16; 4]; 6])
+fn put_six(out: &mut [u8], rows: [[u16; 4]; 6])
     ensures { λ _. ⌜ now (out .exit) ≡ written (now (out .entry)) 0 (sixBytes rows) ⌝ }
 {
     store::put_row(out, 0, rows[0]);
@@ -64,7 +64,7 @@ pub fn put_six(out: &mut [u8], rows: [[u16; 4]; 6])
 }
 
 // The figures of a parameter that is read.
-pub fn put_figures(out: &mut [u8], p: Parameter, r: Record, store: &[u8], q: Request)
+fn put_figures(out: &mut [u8], p: Parameter, r: Record, store: &[u8], q: Request)
     ensures { λ _. ⌜ now (out .exit) ≡ written (now (out .entry)) 0 (figuresOf p r (now (store .entry)) q) ⌝ }
 {
     let active = r.active;
@@ -90,7 +90,7 @@ pub fn put_figures(out: &mut [u8], p: Parameter, r: Record, store: &[u8], q: Req
 }
 
 // How many bytes a parameter's figures have.
-pub fn figure_bytes(p: Parameter, detail: u8) -> usize
+fn figure_bytes(p: Parameter, detail: u8) -> usize
     ensures { λ r. ⌜ r ≡ sizeOf p detail ⌝ }
 {
     match p {

@@ -3,10 +3,10 @@
 // Each thing of the record has its place and its width; numbers of several bytes stand lowest byte first, figures as the wire has
 // them. What was written reads back as it was. Bytes of another length, or with a level, a season, a choice of date or a power that
 // there is not, are no record. Whether a record that is read keeps its ranges, `meter_record` says.
-pub mod level;
+mod level;
 mod power;
-pub mod record;
-pub mod time;
+mod record;
+mod time;
 
 pub use record::RECORD_BYTES;
 pub use record::RecordRead;

@@ -26,29 +26,29 @@ ghost use Rattle.record_bytes.specs.Record.{accessBytes, settingBytes, b
 pub const RECORD_BYTES: usize = 81;
 
 // Where each thing stands.
-pub const ADDRESS: usize = 0;
+const ADDRESS: usize = 0;
 
-pub const LEVEL: usize = 1;
+const LEVEL: usize = 1;
 
-pub const LEFT: usize = 2;
+const LEFT: usize = 2;
 
 const MAIN_PASSWORD: usize = 3;
 
 const AUXILIARY_PASSWORD: usize = 11;
 
-pub const CLOCK: usize = 19;
+const CLOCK: usize = 19;
 
-pub const TELEMETRY: usize = 40;
+const TELEMETRY: usize = 40;
 
-pub const MASK: usize = 48;
+const MASK: usize = 48;
 
-pub const ACTIVE: usize = 54;
+const ACTIVE: usize = 54;
 
-pub const REACTIVE: usize = 66;
+const REACTIVE: usize = 66;
 
-pub const MINUTES: usize = 78;
+const MINUTES: usize = 78;
 
-pub const NEXT: usize = 79;
+const NEXT: usize = 79;
 
 pub enum RecordRead {
     Read(Record),

@@ -25,19 +25,19 @@ pub enum TimeRead {
     Unreadable,
 }
 
-pub const WINTER: u8 = 0;
+const WINTER: u8 = 0;
 
-pub const SUMMER: u8 = 1;
+const SUMMER: u8 = 1;
 
-pub const AUTOMATIC: u8 = 0;
+const AUTOMATIC: u8 = 0;
 
-pub const BY_HAND: u8 = 1;
+const BY_HAND: u8 = 1;
 // Places behind the clock.
-pub const SEASON: usize = 6;
+const SEASON: usize = 6;
 
-pub const SUMMER_DATE: usize = 7;
+const SUMMER_DATE: usize = 7;
 
-pub const WINTER_DATE: usize = 14;
+const WINTER_DATE: usize = 14;
 
 fn season_byte(s: Season) -> u8
     ensures { λ r. ⌜ r ≡ seasonByte s ⌝ }
