@@ -1,4 +1,4 @@
-// The functions of target/staticlib/libfirmware.a (crates/firmware), as C and C++ see them; example.c uses them all.
+// The functions of target/staticlib/libmetlazuel.a (crates/metlazuel), as C and C++ see them; tests/c/example.c uses them all.
 //
 // A slice is a pointer and its length. What a caller owes is what C always asks: memory as long as it says, and no lent memory that
 // overlaps another argument. Everything else is refused by a number: each call but the CRC answers with one of enum metlazuel_answer.
@@ -50,8 +50,8 @@ enum {
     METLAZUEL_FRAME_BYTES = 64,    // the longest frame; a reply's output has at least so many
     METLAZUEL_HEADER_BYTES = 14,   // a log's image: its header,
     METLAZUEL_CELL_BYTES = 9,      //   and each of its cells
-    METLAZUEL_LOG_BYTES = 53582,   // the longest log's image: 62 days of 96 slots
-    METLAZUEL_FILE_BYTES = 53584,  // and its file
+    METLAZUEL_LOG_BYTES = METLAZUEL_HEADER_BYTES + 62 * 96 * METLAZUEL_CELL_BYTES, // the longest log's image: 62 days of 96 slots
+    METLAZUEL_FILE_BYTES = METLAZUEL_LOG_BYTES + 2, // and its file, with a CRC
     METLAZUEL_ROW = 7,             // a day's report, in 32-bit numbers
     METLAZUEL_FIGURES = 24         // the most figures of a reply, in 32-bit numbers
 };
@@ -129,23 +129,23 @@ uint8_t metlazuel_decode(uint8_t address, uint8_t parameter, uint8_t offset, uin
 // its ranges, are UNSOUND.
 
 // A meter from the factory. The year counts from 2000; season 0 is winter and 1 summer. TOO_SHORT, OUT_OF_RANGE, else DONE.
-uint8_t metlazuel_meter_make(uint8_t *kept, size_t n, uint8_t address, uint8_t minutes, uint32_t k, uint16_t ke, uint16_t reserve,
+uint8_t metlazuel_meter_make(uint8_t *meter, size_t n, uint8_t address, uint8_t minutes, uint32_t k, uint16_t ke, uint16_t reserve,
                              uint8_t year, uint8_t month, uint8_t day, uint8_t hour, uint8_t minute, uint8_t second, uint8_t season);
 
 // Answers a frame. The reply goes to the front of out, which has at least METLAZUEL_FRAME_BYTES, and its length, 0 for silence, to *length.
 // TOO_SHORT, UNSOUND, SILENT, UNKNOWN_FUNCTION to WRONG_ARGUMENT, else DONE.
-uint8_t metlazuel_meter_answer(uint8_t *kept, size_t n, uint8_t *store, size_t size, const uint8_t *frame, size_t bytes, uint8_t *out,
+uint8_t metlazuel_meter_answer(uint8_t *meter, size_t n, uint8_t *store, size_t size, const uint8_t *frame, size_t bytes, uint8_t *out,
                                size_t room, size_t *length);
 
 // A second passes. UNSOUND, else DONE.
-uint8_t metlazuel_meter_second(uint8_t *kept, size_t n);
+uint8_t metlazuel_meter_second(uint8_t *meter, size_t n);
 
 // Puts a slice into the store: E+, E-, R+ and R- of an interval. UNSOUND, OUT_OF_RANGE, else DONE.
-uint8_t metlazuel_meter_slice(uint8_t *kept, size_t n, uint8_t *store, size_t size, uint8_t month, uint8_t day, uint8_t number,
+uint8_t metlazuel_meter_slice(uint8_t *meter, size_t n, uint8_t *store, size_t size, uint8_t month, uint8_t day, uint8_t number,
                               uint16_t eplus, uint16_t eminus, uint16_t rplus, uint16_t rminus);
 
 // Sets the active powers (parameter 8) or the reactive ones (9), each as the bits of a 32-bit float. UNSOUND, OUT_OF_RANGE, else DONE.
-uint8_t metlazuel_meter_powers(uint8_t *kept, size_t n, uint8_t parameter, uint32_t a, uint32_t b, uint32_t c);
+uint8_t metlazuel_meter_powers(uint8_t *meter, size_t n, uint8_t parameter, uint32_t a, uint32_t b, uint32_t c);
 
 #ifdef __cplusplus
 }

@@ -1,16 +1,14 @@
 // The log's file.
 use console_io::say;
+use console_log::Kept;
 use file_io::FileAnswer;
-use log_lines::Kept;
+use logfile::FILE_MOST;
 use logfile::ReadAnswer;
 use logfile::WriteAnswer;
 use logger::OpenAsk;
 
 // One byte more than the longest file, so that a longer one shows by its length.
-const READ_ROOM: usize = 53585;
-
-// The longest file.
-const WRITE_ROOM: usize = 53584;
+const READ_ROOM: usize = FILE_MOST + 1;
 
 pub fn load(line: &[u8], image: &mut [u8], kept: Kept) -> Kept {
     if console::spaces(line) != 1 {
@@ -50,7 +48,7 @@ pub fn save(line: &[u8], image: &[u8]) {
         say::unread();
         return;
     }
-    let mut bytes = [0u8; WRITE_ROOM];
+    let mut bytes = [0u8; FILE_MOST];
     let answer = logfile::write_file(image, &mut bytes);
     let WriteAnswer::Done(n) = answer else {
         say::number_line(answer.number());

@@ -4,8 +4,8 @@ mod help;
 mod verb;
 
 use console_io::Rest;
+use console_log::Kept;
 use libc::STDIN_FILENO;
-use log_lines::Kept;
 use logger::OpenAsk;
 use meter_record::Record;
 use meter_record::RecordAnswer;
@@ -23,11 +23,11 @@ fn main() {
 
 fn begin() {
     // The longest image, the meter's 2,976 places for slices, all unused, the longest line, and a block of the input.
-    let mut image = [0u8; 53582];
+    let mut image = [0u8; log::IMAGE_MOST];
     let mut store = [0u8; 32736];
     let mut line = [0u8; 4096];
     let mut block = [0u8; 4096];
-    let RecordAnswer::Done(record) = setting::first() else {
+    let RecordAnswer::Done(record) = console_setup::first() else {
         return;
     };
     session(&mut image, &mut store, &mut line, &mut block, record);
@@ -59,11 +59,11 @@ fn session(image: &mut [u8], store: &mut [u8], line: &mut [u8], block: &mut [u8]
 
 fn on_log(verb: usize, line: &[u8], image: &mut [u8], kept: Kept) -> Kept {
     match verb {
-        verb::LOG => log_lines::fresh(line, image, kept),
+        verb::LOG => console_log::fresh(line, image, kept),
         verb::LOAD => files::load(line, image, kept),
-        verb::ASK => log_lines::ask(line, image, kept),
-        verb::LAPSE => log_lines::lapse(line, kept),
-        verb::REPLY => log_lines::reply(line, image, kept),
+        verb::ASK => console_log::ask(line, image, kept),
+        verb::LAPSE => console_log::lapse(line, kept),
+        verb::REPLY => console_log::reply(line, image, kept),
         _ => {
             let held = kept.held;
             read(verb, line, console::part(image, kept.length), held);
@@ -76,11 +76,11 @@ fn on_log(verb: usize, line: &[u8], image: &mut [u8], kept: Kept) -> Kept {
 fn read(verb: usize, line: &[u8], image: &[u8], held: OpenAsk) {
     match verb {
         verb::SAVE => files::save(line, image),
-        verb::OPEN => log_lines::open_ask(line, held),
-        verb::CELL => log_lines::cell(line, image),
-        verb::REPORT => log_lines::report(line, image),
-        verb::REQUEST => log_lines::request(line),
-        verb::DECODE => log_lines::decode(line),
+        verb::OPEN => console_log::open_ask(line, held),
+        verb::CELL => console_log::cell(line, image),
+        verb::REPORT => console_log::report(line, image),
+        verb::REQUEST => console_log::request(line),
+        verb::DECODE => console_log::decode(line),
         _ => {}
     }
 }
@@ -89,5 +89,5 @@ fn on_meter(verb: usize, line: &[u8], store: &mut [u8], r: Record) -> Record {
     if verb <= verb::NOTHING {
         return r;
     }
-    meter_lines::called(line, store, r)
+    console_meter::called(line, store, r)
 }

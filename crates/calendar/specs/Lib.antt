@@ -1,10 +1,5 @@
+pub mod Count
 pub mod Date
 pub mod Time
 pub mod Sunday
-pub mod DateLaws
-pub mod TimeLaws
-pub mod SundayLaws
-pub mod Examples
 pub mod Steps
-pub mod Count
-pub mod Numbered

@@ -6,8 +6,6 @@ use Rattle.calendar.specs.Date.{centuryDays, isDate, dayNumber, dateOf}
 use Rattle.calendar.specs.declared.time.DateTime.{DateTime}
 use Rattle.calendar.specs.declared.time.TimeAnswer.{TimeAnswer}
 use Rattle.calendar.specs.declared.time.TimeAnswer.the-variants.{At, NotATime, OutOfRange}
-use Rattle.calendar.specs.declared.time.Order.{Order}
-use Rattle.calendar.specs.declared.time.Order.the-variants.{Before, Same, After}
 
 -- whether six bytes are a time
 unfoldable pub isTime : DateTime → Bool
@@ -40,10 +38,3 @@ secondsLater t n = cond (isTime t) (timeAt (secondNumber t + n)) NotATime
 -- the time n seconds before t
 unfoldable pub secondsEarlier : DateTime → ℕ → TimeAnswer
 secondsEarlier t n = cond (isTime t) (timeBack (secondNumber t) n) NotATime
-
--- which of two times comes first
-unfoldable pub orderOf : DateTime → DateTime → Order
-orderOf a b =
-    cond (isTime a && isTime b)
-    (cond (ltb (secondNumber a) (secondNumber b)) Before (cond (ltb (secondNumber b) (secondNumber a)) After Same))
-    Order.NotATime

@@ -1,8 +1,9 @@
 // Dates: which bytes are one, and the dates some days on.
 ghost use mathlib.Core.Path.{_≡_};
 ghost use mathlib.Core.Bool.{true};
-ghost use Prim.Native.Nat.{_<_, _+_, _*_};
-ghost use Rattle.calendar.specs.Date.{isDate, daysInMonth, lengthOf, daysBefore, monthNumber, dayNumber, dateAt, dateOn, dateBack, daysLater, daysEarlier};
+ghost use Prim.Native.Nat.{_<_, _+_};
+ghost use Rattle.calendar.specs.Date.{isDate, daysInMonth, lengthOf, daysBefore, monthNumber, dayNumber};
+ghost use Rattle.calendar.specs.Date.{dateAt, dateOn, dateBack, daysLater, daysEarlier};
 
 pub struct Date {
     // Counted from 2000.
@@ -139,7 +140,7 @@ fn last_day_before(month: u16) -> DateAnswer
 }
 
 // Months since January 2000.
-pub fn month_number(d: Date) -> u16
+fn month_number(d: Date) -> u16
     requires { ⌜ isDate d ≡ true ⌝ }
     ensures { λ r. ⌜ r ≡ monthNumber d ⌝ }
 {

@@ -1,7 +1,7 @@
 // The calendar of a meter's clock: the dates and times of 2000 to 2099 as the meter writes them, a binary byte each for second, minute,
 // hour, day, month and the year's last two digits. It says which bytes are a date or a time, which day, second or hour comes next or
-// came before, which of two times is the earlier, and on which days summer time begins and ends. What each answer means stands in
-// specs/, as a count of days or of seconds since the start of 2000.
+// came before, and on which days summer time begins and ends. What each answer means stands in specs/, as a count of days or of seconds
+// since the start of 2000.
 mod date;
 mod sunday;
 mod time;
@@ -16,9 +16,7 @@ pub use date::previous_day;
 pub use sunday::last_sunday_of_march;
 pub use sunday::last_sunday_of_october;
 pub use time::DateTime;
-pub use time::Order;
 pub use time::TimeAnswer;
-pub use time::compare;
 pub use time::hour_earlier;
 pub use time::hour_later;
 pub use time::is_time;

@@ -1,12 +1,11 @@
-// Times: which bytes are one, the second and the hours around it, and which of two comes first.
+// Times: which bytes are one, the second and the hours around it.
 ghost use mathlib.Core.Path.{_≡_};
 ghost use mathlib.Core.Bool.{true};
-ghost use Rattle.calendar.specs.Time.{isTime, secondsLater, secondsEarlier, orderOf};
-ghost use Rattle.calendar.specs.Steps.{onDay, sortKey};
+ghost use Rattle.calendar.specs.Time.{isTime, secondsLater, secondsEarlier};
+ghost use Rattle.calendar.specs.Steps.{onDay};
 use crate::date::Date;
 use crate::date::DateAnswer;
 use crate::date::is_date;
-use crate::date::month_number;
 use crate::date::next_day;
 use crate::date::previous_day;
 
@@ -25,27 +24,11 @@ pub enum TimeAnswer {
     OutOfRange,
 }
 
-pub enum Order {
-    Before,
-    Same,
-    After,
-    // One of the two is no time.
-    NotATime,
-}
-
 const LAST_HOUR: u8 = 23;
 
 const LAST_MINUTE: u8 = 59;
 
 const LAST_SECOND: u8 = 59;
-
-const LONGEST_MONTH: u64 = 31;
-
-const HOURS: u64 = 24;
-
-const MINUTES: u64 = 60;
-
-const SECONDS: u64 = 60;
 
 pub fn is_time(t: DateTime) -> bool
     ensures { λ r. ⌜ r ≡ isTime t ⌝ }
@@ -90,17 +73,6 @@ pub fn hour_earlier(t: DateTime) -> TimeAnswer
     } else {
         TimeAnswer::NotATime
     }
-}
-
-pub fn compare(a: DateTime, b: DateTime) -> Order
-    ensures { λ r. ⌜ r ≡ orderOf a b ⌝ }
-{
-    if is_time(a) {
-        if is_time(b) {
-            return compare_keys(a, b);
-        }
-    }
-    Order::NotATime
 }
 
 fn second_after(t: DateTime) -> TimeAnswer
@@ -177,29 +149,4 @@ fn on_day(day: DateAnswer, hour: u8, minute: u8, second: u8) -> TimeAnswer
         DateAnswer::NotADate => TimeAnswer::NotATime,
         DateAnswer::OutOfRange => TimeAnswer::OutOfRange,
     }
-}
-
-fn compare_keys(a: DateTime, b: DateTime) -> Order
-    requires { ⌜ isTime a ≡ true ⌝ }
-    requires { ⌜ isTime b ≡ true ⌝ }
-    ensures { λ r. ⌜ r ≡ orderOf a b ⌝ }
-{
-    let first = sort_key(a);
-    let second = sort_key(b);
-    if first < second {
-        return Order::Before;
-    }
-    if second < first {
-        return Order::After;
-    }
-    Order::Same
-}
-
-// One number that grows with the time. Each month counts as the longest one, so that no days have to be summed.
-fn sort_key(t: DateTime) -> u64
-    requires { ⌜ isTime t ≡ true ⌝ }
-    ensures { λ r. ⌜ r ≡ sortKey t ⌝ }
-{
-    let day = (month_number(t.date) as u64) * LONGEST_MONTH + (t.date.day as u64 - 1);
-    ((day * HOURS + t.hour as u64) * MINUTES + t.minute as u64) * SECONDS + t.second as u64
 }

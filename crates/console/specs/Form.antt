@@ -1,23 +1,14 @@
 -- A line's form: which of some names begins it, and the numbers that follow. Source: the console's page, "Words are separated by single
 -- spaces, numbers are decimal without sign"; a number too large for its argument is not read.
-use Prim.Native.Nat.{ℕ, zero, suc, _+_, _-_, _<_, _≤_}
-use native.Mathlib.Nat.{sub-zero}
-use native.Mathlib.Numerals.{add-one}
-use native.Mathlib.Omega.{arith}
-use mathlib.Core.Path.{_≡_, refl, sym, ap, ap₂, _∙_}
+use Prim.Native.Nat.{ℕ, zero, suc, _+_, _-_}
 use mathlib.Core.Bool.{Bool, true, false, cond}
 use mathlib.Core.List.{List, [], _∷_}
 use lib.Dec.{eqb, ltb}
-use lib.ListN.{length, getD, drop, drop-of-length-le}
-use lib.Seq.{drop-cons}
-use borrow.Author.Tests.{eqb-true, eq-eqb, ne-eqb}
+use lib.ListN.{length}
 use Rattle.text.specs.Reading.{numberOfText}
 use Rattle.text.specs.declared.reading.NumberAnswer.{NumberAnswer}
 use Rattle.console.specs.Line.{spacesIn, wordAt}
-use Rattle.console.specs.Value.{upTo, byteOf, shortOf, longOf}
-use Rattle.console.specs.declared.value.ByteAnswer as B
-use Rattle.console.specs.declared.value.ShortAnswer as S
-use Rattle.console.specs.declared.value.LongAnswer as L
+use Rattle.console.specs.Value.{upTo}
 use Rattle.console.specs.declared.form.YearAnswer as Y
 
 -- the same bytes
@@ -49,97 +40,20 @@ areNumbers line k (most ∷ ms) = cond (isUpTo most (numberOfText (wordAt k line
 unfoldable pub isForm : List ℕ → List ℕ → Bool
 isForm line ms = cond (eqb (spacesIn line) (length ms)) (areNumbers line 1 ms) false
 
--- the number that was read, else 0
-unfoldable pub byteOr0 : B.ByteAnswer → ℕ
-byteOr0 (B.the-variants.Byte n) = n
-byteOr0 B.the-variants.Unread = 0
+-- the number that the word with index k is, up to the most that one may be, else 0
+abbrev pub numberIn : ℕ → List ℕ → ℕ → ℕ
+numberIn most line k = upTo most (λ (n : ℕ). n) 0 (numberOfText (wordAt k line))
 
-unfoldable pub shortOr0 : S.ShortAnswer → ℕ
-shortOr0 (S.the-variants.Short n) = n
-shortOr0 S.the-variants.Unread = 0
-
-unfoldable pub longOr0 : L.LongAnswer → ℕ
-longOr0 (L.the-variants.Long n) = n
-longOr0 L.the-variants.Unread = 0
-
--- the numbers of the word with index k
+-- of one byte, of two and of four
 abbrev pub byteIn : List ℕ → ℕ → ℕ
-byteIn line k = byteOr0 (byteOf (numberOfText (wordAt k line)))
+byteIn line k = numberIn 255 line k
 
 abbrev pub shortIn : List ℕ → ℕ → ℕ
-shortIn line k = shortOr0 (shortOf (numberOfText (wordAt k line)))
+shortIn line k = numberIn 65535 line k
 
 abbrev pub longIn : List ℕ → ℕ → ℕ
-longIn line k = longOr0 (longOf (numberOfText (wordAt k line)))
+longIn line k = numberIn 4294967295 line k
 
 -- a year that one byte holds, from 2000
 unfoldable pub yearOf : ℕ → Y.YearAnswer
 yearOf y = cond (ltb y 2000) Y.the-variants.OutOfRange (cond (ltb 2255 y) Y.the-variants.OutOfRange (Y.the-variants.Year (y - 2000)))
-
--- ---- laws for the walks
-
-same-as-itself : (s : List ℕ) → sameBytes s s ≡ true
-unfolding sameBytes
-same-as-itself [] = refl
-same-as-itself (a ∷ s) = rw (eq-eqb a a refl) (same-as-itself s)
-
-pub tells-same : (s t : List ℕ) (r : Bool) → (r ≡ true → s ≡ t) × (s ≡ t → r ≡ true) → r ≡ true → sameBytes s t ≡ true
-tells-same s t r h e = rw (h .0 e) (same-as-itself t)
-
-are-same : (s t : List ℕ) → sameBytes s t ≡ true → s ≡ t
-unfolding sameBytes
-are-same [] [] h = refl
-are-same [] (b ∷ t) h = cc
-are-same (a ∷ s) [] h = cc
-are-same (a ∷ s) (b ∷ t) h = go (eqb a b) refl h (are-same s t)
-  where
-    go : (x : Bool) → eqb a b ≡ x → cond x (sameBytes s t) false ≡ true → (sameBytes s t ≡ true → s ≡ t) → a ∷ s ≡ b ∷ t
-    go true e k rest = ap₂ _∷_ (eqb-true a b e) (rest k)
-    go false e k rest = cc
-
-pub tells-other : (s t : List ℕ) (r : Bool) → (r ≡ true → s ≡ t) × (s ≡ t → r ≡ true) → r ≡ false → sameBytes s t ≡ false
-tells-other s t r h e = go (sameBytes s t) refl
-  where
-    go : (x : Bool) → sameBytes s t ≡ x → x ≡ false
-    go true k = sym (h .1 (are-same s t k)) ∙ e
-    go false k = refl
-
-module _ (w names : List ℕ) where
-  pub place-start : (last : ℕ) → last ≡ spacesIn names → placeFrom w names 0 (suc (last - 0)) ≡ placeOf w names
-  unfolding placeOf
-  place-start last e = rw (sub-zero, e)
-
-  -- what was told of the word u at place k
-  module _ (k n : ℕ) {u : List ℕ} {r : Bool} (word : u ≡ wordAt k names) (told : (r ≡ true → u ≡ w) × (u ≡ w → r ≡ true)) where
-    pub place-here : r ≡ true → k ≡ placeFrom w names k (suc n)
-    unfolding placeFrom
-    place-here e = rw (sym word, tells-same u w r told e)
-
-    pub place-further : r ≡ false → placeFrom w names (k + 1) n ≡ placeFrom w names k (suc n)
-    unfolding placeFrom
-    place-further e = rw (sym word, tells-other u w r told e)
-
-  pub place-none : (k : ℕ) → length names ≡ placeFrom w names k 0
-  unfolding placeFrom
-  place-none k = refl
-
-  pub place-last : (k last : ℕ) → k ≤ last → last ≤ k → placeFrom w names last (suc 0) ≡ placeFrom w names k (suc (last - k))
-  place-last k last h l =
-      let e : k ≡ last = omega arith in
-      let none : last - k ≡ 0 = omega arith in
-      rw (none, e)
-
-module _ (line ms : List ℕ) (i : ℕ) where
-  pub numbers-on : i < length ms → isUpTo (getD ms i 0) (numberOfText (wordAt (i + 1) line)) ≡ true
-      → areNumbers line (i + 1 + 1) (drop (i + 1) ms) ≡ areNumbers line (i + 1) (drop i ms)
-  unfolding areNumbers
-  numbers-on h e = let d : drop i ms ≡ getD ms i 0 ∷ drop (i + 1) ms = rw add-one (drop-cons ms i 0 h) in rw (d, e)
-
-  pub numbers-off : i < length ms → isUpTo (getD ms i 0) (numberOfText (wordAt (i + 1) line)) ≡ false
-      → false ≡ areNumbers line (i + 1) (drop i ms)
-  unfolding areNumbers
-  numbers-off h e = rw (drop-cons ms i 0 h, e)
-
-  pub numbers-done : length ms ≤ i → true ≡ areNumbers line (i + 1) (drop i ms)
-  unfolding areNumbers
-  numbers-done h = rw (drop-of-length-le ms h)

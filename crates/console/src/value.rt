@@ -1,9 +1,10 @@
 // What a word stands for.
 ghost use mathlib.Core.Path.{_≡_};
+ghost use Rattle.refusal.specs.Outcome.{outcome};
 ghost use Rattle.text.specs.Hex.{hexValue};
 ghost use Rattle.text.specs.Reading.{numberOfText};
 ghost use Rattle.console.specs.Line.{wordAt};
-ghost use Rattle.console.specs.Value.{byteOf, shortOf, longOf, pairOf, bytesRead, outcome};
+ghost use Rattle.console.specs.Value.{byteOf, shortOf, longOf, pairOf, bytesRead};
 use text::HexAnswer;
 use text::NumberAnswer;
 

@@ -7,10 +7,12 @@ use lib.Dec.{eqb}
 use lib.Pow.{pow-pos, shr-le}
 use lib.Bits.{bitXor, xor-comm, xor-lt}
 use lib.Count.{ones, onesIn}
-use Rattle.decide.specs.Test.{everyBelow}
+use Rattle.case_laws.proofs.Test.{everyBelow}
 use Rattle.crc16.specs.Crc.{times, bitStep, polynomial}
-use Rattle.crc16.specs.Linear.{Linear, linear-id, linear-compose, linear-times, linear-xor, linear-shl, linear-shr, linear-low, linear-bit, linear-parityIn, onesIn-low, linear-bitStep, linear-agree-test, xor-assoc, xor-exchange}
-use Rattle.crc16.specs.Word.{register, linear-register, times-add, times-same, up, byX64, byX128, belowX30, belowX15}
+use Rattle.crc16.proofs.Linear.{Linear, linear-id, linear-compose, linear-times, linear-xor, linear-shl, linear-shr, linear-low, linear-bit}
+use Rattle.crc16.proofs.Linear.{linear-parityIn, onesIn-low, linear-bitStep, linear-agree-test, xor-assoc, xor-exchange}
+use Rattle.crc16.specs.Word.{register, up, byX64, byX128, belowX30, belowX15}
+use Rattle.crc16.proofs.WordLaws.{linear-register, times-add, times-same}
 
 -- ---- the computed test
 

@@ -1,4 +1,2 @@
 pub mod Crc
-pub mod Linear
 pub mod Word
-pub mod Short

@@ -1,4 +1,4 @@
-pub mod Report
 pub mod Tallies
-pub mod ReportLaws
-pub mod Examples
+pub mod Report
+pub mod Text
+pub mod Day

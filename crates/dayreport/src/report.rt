@@ -3,7 +3,8 @@ ghost use mathlib.Core.Path.{_≡_};
 ghost use Prim.Native.Nat.{_≤_};
 ghost use mathlib.Core.List.{_++_};
 ghost use lib.ListN.{length, drop};
-ghost use Rattle.dayreport.specs.Report.{reportNumber, outcome, reportOf, reportIn};
+ghost use Rattle.refusal.specs.Outcome.{outcome};
+ghost use Rattle.dayreport.specs.Report.{rowNumbers, reportNumber, reportOf, reportIn};
 ghost use Rattle.dayreport.specs.Tallies.{rowOf};
 use crate::tallies::Tallied;
 use crate::tallies::Tallies;
@@ -35,7 +36,7 @@ impl ReportAnswer {
 
 pub const REPORT_NUMBERS: usize = 7;
 
-// Sets the row's first seven numbers; a refusal leaves it as it was.
+// Sets the row's first numbers; a refusal leaves it as it was.
 pub fn day_report(log: &[u8], day: u8, row: &mut [u32]) -> ReportAnswer
     ensures { λ r. ⌜ outcome r (now (row .exit)) ≡ reportOf (now (log .entry)) day (now (row .entry)) ⌝ }
 {
@@ -49,7 +50,7 @@ pub fn day_report(log: &[u8], day: u8, row: &mut [u32]) -> ReportAnswer
 }
 
 fn report_in(log: &[u8], h: Header, day: u8, row: &mut [u32]) -> ReportAnswer
-    requires { ⌜ 7 ≤ length (now row) ⌝ }
+    requires { ⌜ rowNumbers ≤ length (now row) ⌝ }
     ensures { λ r. ⌜ outcome r (now (row .exit)) ≡ reportIn h (now (log .entry)) day (now (row .entry)) ⌝ }
 {
     if h.days <= day {
@@ -66,8 +67,8 @@ fn report_in(log: &[u8], h: Header, day: u8, row: &mut [u32]) -> ReportAnswer
 }
 
 fn put_row(row: &mut [u32], t: Tallies)
-    requires { ⌜ 7 ≤ length (now row) ⌝ }
-    ensures { λ _. ⌜ now (row .exit) ≡ rowOf t ++ drop 7 (now (row .entry)) ⌝ }
+    requires { ⌜ rowNumbers ≤ length (now row) ⌝ }
+    ensures { λ _. ⌜ now (row .exit) ≡ rowOf t ++ drop rowNumbers (now (row .entry)) ⌝ }
 {
     row[0] = t.gaps;
     row[1] = t.empties;

@@ -1,55 +1,41 @@
--- Demand 2. "What the bench meter answers from its record, the reader decodes to the same figures. A change happens only with the access it
--- needs, and then changes the named parameter alone, save that protection's 240 seconds start again."
+-- Demand 2. "Frames, replies, protection and parameter changes are those of the SS-301 operator's instruction, as document 01 condenses it.
+-- What the bench meter answers from its record, the reader decodes to the same figures. A change happens only with the access it needs, and
+-- then changes the named parameter alone, save that protection's 240 seconds start again."
 --
--- The meter answers by the definition that the contract of `answer` cites (`meter/specs/Reply.antt`), the reader decodes by that of `decode`
--- (`reader/specs/Reply.antt`). The figures that a record and its store hold for a request are `held` (`Held.antt`).
-use mathlib.Core.Path.{_≡_, refl, sym, ap, _∙_}
-use mathlib.Core.Bool.{Bool, true, false, false≢true}
-use mathlib.Core.List.{List, [], _∷_, _++_}
-use Prim.Native.Nat.{ℕ, _+_, _≤_, _<_}
-use native.Mathlib.Omega.{arith}
-use lib.Dec.{eqb, ltb, lit≤}
+-- The meter answers by `answerOf` (meter/specs/Reply.antt), which the contract of `answer` cites: its definitions are the instruction's, page
+-- by page. The reader decodes by `decodedOf` (reader/specs/Reply.antt), that of `decode`. Proofs: `demand-2`, proofs/Claims.antt.
+use mathlib.Core.Path.{_≡_}
+use mathlib.Core.Bool.{true, false, cond}
+use mathlib.Core.List.{List}
+use Prim.Native.Nat.{ℕ, _≤_, _<_}
 use lib.ListN.{length, take}
-use borrow.Author.Tests.{ltb-false, le-ltb, eq-eqb}
-use Rattle.decide.specs.Test.{both}
-use Rattle.words.specs.Number.{Bytes, bytesOf}
-use Rattle.words.specs.Place.{written}
-use Rattle.frame.specs.Code.{functionOf, parameterOf}
-use Rattle.frame.specs.Sealing.{framed, length-framed, crcFits-framed}
-use Rattle.crc16.specs.Crc.{crcOf}
-use Rattle.frame.specs.declared.code.Function.{Function}
+use Rattle.words.specs.Number.{Bytes}
+use Rattle.words.specs.Place.{numberAt}
+use Rattle.frame.specs.Table.{parameterOf}
 use Rattle.frame.specs.declared.code.Function.the-variants as function
-use Rattle.frame.specs.declared.code.Parameter.{Parameter}
 use Rattle.frame.specs.declared.code.Parameter.the-variants as parameter
-use Rattle.slots.specs.Day.{slotsOf, slots-at-most}
 use Rattle.request.specs.Request.{requestFrame}
-use Rattle.request.specs.RequestLaws.{subject-wider}
-use Rattle.request.specs.Subject.{keyOf, subjectOf, subjectFor, mostSlots, askable, dataBytes}
+use Rattle.request.specs.Subject.{keyOf, subjectOf, mostSlots, askable}
 use Rattle.request.specs.declared.request.Request.{Request}
-use Rattle.store.specs.Store.{sixOf, storeBytes}
-use Rattle.meter_record.specs.RangeLaws.{Within, within}
-use Rattle.meter_record.specs.Ranges.{isWithin}
-use Rattle.meter_record.specs.Widths.{FitsRecord}
-use Rattle.meter_record.specs.declared.record.Record.{Record}
-use Rattle.command.specs.Judgement.{verdictOf, verdictBy, readVerdict}
-use Rattle.command.specs.JudgementLaws.{read-accepted}
-use Rattle.command.specs.Parts.{functionIn, parameterByte, requestIn}
-use Rattle.command.specs.Verdict.{numberOf, resultOf, isDone}
-use Rattle.command.specs.declared.verdict.Verdict.{Verdict}
-use Rattle.command.specs.declared.verdict.Verdict.the-variants.{Done, TooShort, Unsound, Silent, UnknownFunction, UnknownParameter, NotOpen, WrongLength, NoAccess, WrongArgument}
-use Rattle.meter_reading.specs.Reading.{figuresOf, sixBytes, dataOf}
-use Rattle.meter.specs.Reply.{Outcome, isSound, heard, functionFor, headOf, done, refused, replied, answerOf}
-use Rattle.meter.specs.ReplyLaws.{length-figures, size-small, length-head}
-use Rattle.reader.specs.Form as form
-use Rattle.reader.specs.Form.{lengthFor, formOf}
-use Rattle.reader.specs.Rows.{replyData, sixOf as sixIn}
-use Rattle.reader.specs.Reply.{decodedOf, repliedOf}
+use Rattle.reader.specs.Reply.{decodedOf}
+use Rattle.reader.specs.Rows as rows
 use Rattle.reader.specs.declared.reply.Decoded.the-variants as decoded
-use Rattle.demands.specs.Held.{held, same-size, found-again}
-use Rattle.demands.specs.Six.{six-again}
-use Rattle.demands.specs.Wire.{OfBytes, nil, bytes-cons, slice-fits, figures-bytes, replyBody, reply-formed, front-again}
-
--- ---- the claim: what is read
+use Rattle.meter_clock.specs.Protection.{shut, opened}
+use Rattle.meter_store.specs.Store.{sixOf, cleared}
+use Rattle.meter_record.specs.Widths.{FitsRecord}
+use Rattle.meter_record.specs.With.{withProtection}
+use Rattle.meter_record.specs.declared.record.Record.{Record}
+use Rattle.meter_command.specs.Access.{isMain, changeAllowed, passwordFor, levelFor}
+use Rattle.meter_command.specs.Judgement.{verdictOf}
+use Rattle.meter_command.specs.Parts.{functionIn, parameterIn, detailIn}
+use Rattle.meter_command.specs.Verdict.{resultOf, isDone}
+use Rattle.meter.specs.Effect.{isSlice}
+use Rattle.meter.specs.Reply.{Outcome, isSound, heard, answerOf}
+use Rattle.meter_inquiry.specs.Inquiry as inquiry
+use Rattle.meter_inquiry.specs.declared.Inquired.the-variants.{Told}
+use Rattle.demands.specs.Demand1.{answerNumber}
+use Rattle.demands.specs.Figures.{ownFigures}
+use Rattle.demands.specs.Changes.{Permitted, Leaves}
 
 -- the meter's answer to a read request, and the bytes of its reply
 abbrev pub answered : Record → List ℕ → Request → List ℕ → Outcome
@@ -63,177 +49,34 @@ pub record FitsRequest (q : Request) : Type 0 where
   pub address : q .address < 256
   pub parameter : q .parameter < 256
 
--- "What the bench meter answers from its record, the reader decodes to the same figures": for every record, store and request that is
--- answered with 0
-abbrev pub Demand2Read : Type 0
-Demand2Read =
-    (r : Record) (s : List ℕ) (q : Request) (out : List ℕ) → FitsRecord r → Bytes s → FitsRequest q
-    → numberOf ((answered r s q out) .answer .verdict) ≡ 0
-    → decodedOf q (replyIn (answered r s q out)) ≡ held (parameterOf (q .parameter)) r s q
-
--- ---- what an answer with 0 has passed
-
-pub done-only : (v : Verdict) → isDone v ≡ true → v ≡ Done
-done-only Done h = refl
-done-only TooShort h = absurd (false≢true h)
-done-only Unsound h = absurd (false≢true h)
-done-only Silent h = absurd (false≢true h)
-done-only UnknownFunction h = absurd (false≢true h)
-done-only UnknownParameter h = absurd (false≢true h)
-done-only NotOpen h = absurd (false≢true h)
-done-only WrongLength h = absurd (false≢true h)
-done-only NoAccess h = absurd (false≢true h)
-done-only WrongArgument h = absurd (false≢true h)
-
-pub record Passed (r : Record) (s f out : List ℕ) : Type 0 where
-  pub room : 64 ≤ length out
-  pub sound : isSound r s ≡ true
-  pub verdict : verdictOf r f ≡ Done
-  pub whole : answerOf r s f out ≡ done Done r s f out
-
-pub passed : (r : Record) (s f out : List ℕ) → numberOf ((answerOf r s f out) .answer .verdict) ≡ 0 → Passed r s f out
-unfolding answerOf replied
-passed r s f out h = go (ltb (length out) 64) refl (isSound r s) refl (heard r f) refl (verdictOf r f) refl
-  where
-    go : (a : Bool) → ltb (length out) 64 ≡ a → (b : Bool) → isSound r s ≡ b → (c : Bool) → heard r f ≡ c → (v : Verdict) → verdictOf r f ≡ v
-        → Passed r s f out
-    go true e b k c l v m = absurd (omega (arith, simp e at h))
-    go false e false k c l v m = absurd (omega (arith, simp (e, k) at h))
-    go false e true k false l v m = absurd (omega (arith, simp (e, k, l) at h))
-    go false e true k true l Done m = record { room = ltb-false (length out) 64 e; sound = k; verdict = m; whole = simp (e, k, l, m) }
-    go false e true k true l TooShort m = absurd (omega (arith, simp (e, k, l, m) at h))
-    go false e true k true l Unsound m = absurd (omega (arith, simp (e, k, l, m) at h))
-    go false e true k true l Silent m = absurd (omega (arith, simp (e, k, l, m) at h))
-    go false e true k true l UnknownFunction m = absurd (omega (arith, simp (e, k, l, m) at h))
-    go false e true k true l UnknownParameter m = absurd (omega (arith, simp (e, k, l, m) at h))
-    go false e true k true l NotOpen m = absurd (omega (arith, simp (e, k, l, m) at h))
-    go false e true k true l WrongLength m = absurd (omega (arith, simp (e, k, l, m) at h))
-    go false e true k true l NoAccess m = absurd (omega (arith, simp (e, k, l, m) at h))
-    go false e true k true l WrongArgument m = absurd (omega (arith, simp (e, k, l, m) at h))
-
--- ---- the request's frame, as the meter takes it apart
-
-request-read : (q : Request) → functionIn (requestFrame q) ≡ function.Read
-unfolding requestFrame framed functionOf
-request-read q = refl
-
-request-parameter : (q : Request) → parameterByte (requestFrame q) ≡ q .parameter
-unfolding requestFrame framed functionOf parameterByte bytesOf
-request-parameter q = refl
-
-request-again : (q : Request) → requestIn (requestFrame q) ≡ q
-unfolding requestFrame framed requestIn
-request-again q = refl
-
--- a request that is answered with 0 asks for something
-asked : (r : Record) (q : Request) → verdictOf r (requestFrame q) ≡ Done → askable (subjectOf q (slotsOf (r .minutes))) ≡ true
-unfolding verdictOf verdictBy
-asked r q h =
-    let f = requestFrame q in
-    let v : readVerdict r f ≡ Done = sym (ap (λ (fn : Function). verdictBy fn r f) (request-read q)) ∙ h in
-    ap (λ (x : Request). askable (subjectOf x (slotsOf (r .minutes)))) (sym (request-again q)) ∙ read-accepted r f (ap isDone v) .fits
-
--- the reply's bytes before its CRC
-body : (r : Record) (s : List ℕ) (q : Request)
-    → headOf Done (requestFrame q) ++ dataOf r s (requestFrame q) ≡ replyBody q (figuresOf (parameterOf (q .parameter)) r s q)
-unfolding headOf functionFor dataOf requestFrame framed functionOf requestIn parameterByte bytesOf
-body r s q = refl
-
-length-of-data : (r : Record) (s : List ℕ) (q : Request)
-    → length (dataOf r s (requestFrame q)) ≡ length (figuresOf (parameterOf (q .parameter)) r s q)
-unfolding dataOf requestFrame framed functionOf requestIn parameterByte bytesOf
-length-of-data r s q = refl
-
-figures-small : (p : Parameter) (r : Record) (s : List ℕ) (q : Request) → length (figuresOf p r s q) ≤ 48
-figures-small p r s q = rw length-figures (size-small p (q .detail))
-
--- the reply, taken from the lent output
-reply-is : (r : Record) (s : List ℕ) (q : Request) (out : List ℕ) → Passed r s (requestFrame q) out
-    → replyIn (answered r s q out) ≡ framed (replyBody q (figuresOf (parameterOf (q .parameter)) r s q))
-reply-is r s q out p =
-    let f = requestFrame q in
-    let figures = figuresOf (parameterOf (q .parameter)) r s q in
-    let d : length (dataOf r s f) ≡ length figures = length-of-data r s q in
-    let small : length figures ≤ 48 = figures-small (parameterOf (q .parameter)) r s q in
-    let l : length (framed (replyBody q figures)) ≡ 6 + length (dataOf r s f) = length-framed (replyBody q figures) ∙ omega (arith, d) in
-    ap replyIn (p .whole)
-    ∙ ap (λ (b : List ℕ). take (6 + length (dataOf r s f)) (written out 0 (framed b))) (body r s q)
-    ∙ front-again out (framed (replyBody q figures)) (6 + length (dataOf r s f)) l (omega (arith, p .room, d, small))
-
--- the reader's answer to it
-decoded-is : (r : Record) (s : List ℕ) (q : Request) → Within r → FitsRecord r → Bytes s → FitsRequest q
-    → askable (subjectOf q (slotsOf (r .minutes))) ≡ true
-    → decodedOf q (framed (replyBody q (figuresOf (parameterOf (q .parameter)) r s q))) ≡ held (parameterOf (q .parameter)) r s q
-unfolding decodedOf repliedOf framed subjectOf
-decoded-is r s q w f b k h =
-    let p = parameterOf (q .parameter) in
-    let slots = slotsOf (r .minutes) in
-    let figures = figuresOf p r s q in
-    let y = framed (replyBody q figures) in
-    let size : length figures ≡ dataBytes (subjectFor p q slots) = length-figures p r s q ∙ sym (same-size p q slots h) in
-    let bytes : OfBytes (replyBody q figures) =
-    bytes-cons (q .address) (k .address) (bytes-cons 3 (lit≤ tt) (bytes-cons (q .parameter) (k .parameter) (bytes-cons 0 (lit≤ tt) (figures-bytes p r s q w f)))) in
-    let formed = reply-formed q figures (dataBytes (subjectFor p q slots)) bytes size in
-    rw (subject-wider q slots (slots-at-most (r .minutes)) h, h, formed)
-    (found-again p r s q slots (bytesOf 2 (crcOf (replyBody q figures))) w f (slice-fits s (keyOf q) b) h)
-
--- "What the bench meter answers from its record, the reader decodes to the same figures."
-pub demand-2-read : Demand2Read
-unfolding isSound
-demand-2-read r s q out f b k h =
-    let p = passed r s (requestFrame q) out h in
-    let w = within r (both (eqb (length s) storeBytes) (isWithin r) (p .sound) .1) in
-    ap (decodedOf q) (reply-is r s q out p) ∙ decoded-is r s q w f b k (asked r q (p .verdict))
-
--- "six rows", taken by the reader beside the decoding
-pub demand-2-six : (r : Record) (s : List ℕ) (q : Request) (out : List ℕ) → Bytes s
-    → parameterOf (q .parameter) ≡ parameter.SixSlices → numberOf ((answered r s q out) .answer .verdict) ≡ 0
-    → sixIn (replyData (replyIn (answered r s q out))) ≡ sixOf s (keyOf q)
-unfolding framed
-demand-2-six r s q out b e h =
-    let p = passed r s (requestFrame q) out h in
-    let figures : figuresOf (parameterOf (q .parameter)) r s q ≡ sixBytes (sixOf s (keyOf q)) = ap (λ (x : Parameter). figuresOf x r s q) e in
-    ap (λ (y : List ℕ). sixIn (replyData y)) (reply-is r s q out p ∙ ap (λ (x : List ℕ). framed (replyBody q x)) figures)
-    ∙ six-again s (keyOf q) (bytesOf 2 (crcOf (replyBody q (sixBytes (sixOf s (keyOf q)))))) b
-
--- ---- "A refusal frame decodes to 24 with its result"
-
-refusal-decoded : (q : Request) (k : ℕ) → k < 256 → eqb k 0 ≡ false → FitsRequest q → askable (subjectOf q mostSlots) ≡ true
-    → decodedOf q (framed (q .address ∷ 131 ∷ q .parameter ∷ k ∷ [])) ≡ decoded.MeterRefused k
-unfolding decodedOf repliedOf formOf lengthFor form.functionFor form.headOf framed bytesOf
-refusal-decoded q k small n f h =
-    let bytes : OfBytes (q .address ∷ 131 ∷ q .parameter ∷ k ∷ []) =
-    bytes-cons (q .address) (f .address) (bytes-cons 131 (lit≤ tt) (bytes-cons (q .parameter) (f .parameter) (bytes-cons k small nil))) in
-    simp (h, n, crcFits-framed (q .address ∷ 131 ∷ q .parameter ∷ k ∷ []) (bytes .each), eq-eqb (q .address) (q .address) refl, eq-eqb (q .parameter) (q .parameter) refl)
-
--- the refusal frame that a request gets, decoded
-refusal-of : (q : Request) (v : Verdict) → FitsRequest q → askable (subjectOf q mostSlots) ≡ true → isDone v ≡ false
-    → decodedOf q (framed (headOf v (requestFrame q))) ≡ decoded.MeterRefused (resultOf v)
-unfolding headOf functionFor requestFrame framed functionOf parameterByte bytesOf
-refusal-of q Done f h e = absurd (false≢true (sym e))
-refusal-of q TooShort f h e = refusal-decoded q 3 (lit≤ tt) refl f h
-refusal-of q Unsound f h e = refusal-decoded q 3 (lit≤ tt) refl f h
-refusal-of q Silent f h e = refusal-decoded q 3 (lit≤ tt) refl f h
-refusal-of q UnknownFunction f h e = refusal-decoded q 1 (lit≤ tt) refl f h
-refusal-of q UnknownParameter f h e = refusal-decoded q 2 (lit≤ tt) refl f h
-refusal-of q NotOpen f h e = refusal-decoded q 3 (lit≤ tt) refl f h
-refusal-of q WrongLength f h e = refusal-decoded q 3 (lit≤ tt) refl f h
-refusal-of q NoAccess f h e = refusal-decoded q 4 (lit≤ tt) refl f h
-refusal-of q WrongArgument f h e = refusal-decoded q 3 (lit≤ tt) refl f h
-
--- a refused command's answer, whole
-refused-whole : (r : Record) (s f out : List ℕ) → 64 ≤ length out → isSound r s ≡ true → heard r f ≡ true → isDone (verdictOf r f) ≡ false
-    → answerOf r s f out ≡ refused (verdictOf r f) r s f out
-unfolding answerOf replied
-refused-whole r s f out room sound hear d = simp (le-ltb (length out) 64 room, sound, hear, d)
-
-pub demand-2-refused : (r : Record) (s : List ℕ) (q : Request) (out : List ℕ) → FitsRequest q → askable (subjectOf q mostSlots) ≡ true
-    → 64 ≤ length out → isSound r s ≡ true → heard r (requestFrame q) ≡ true → isDone (verdictOf r (requestFrame q)) ≡ false
-    → decodedOf q (replyIn (answered r s q out)) ≡ decoded.MeterRefused (resultOf (verdictOf r (requestFrame q)))
-demand-2-refused r s q out f h room sound hear d =
-    let v = verdictOf r (requestFrame q) in
-    let frame = framed (headOf v (requestFrame q)) in
-    let l : length frame ≡ 6 = length-framed (headOf v (requestFrame q)) ∙ ap (λ (n : ℕ). n + 2) (length-head v (requestFrame q)) in
-    ap (decodedOf q)
-    (ap replyIn (refused-whole r s (requestFrame q) out room sound hear d) ∙ front-again out frame 6 l (omega (arith, room)))
-    ∙ refusal-of q v f h d
+pub record Demand2 : Type 0 where
+  -- "What the bench meter answers from its record, the reader decodes to the same figures": every reply with result 0; its six rows, which the
+  -- reader takes beside the decoding; "24: meter's result not 0; returned"; and all of it as one call, `inquire`
+  pub read : (r : Record) (s : List ℕ) (q : Request) (out : List ℕ) → FitsRecord r → Bytes s → FitsRequest q
+      → answerNumber (answered r s q out) ≡ 0 → decodedOf q (replyIn (answered r s q out)) ≡ ownFigures (parameterOf (q .parameter)) r s q
+  pub six-slices : (r : Record) (s : List ℕ) (q : Request) (out : List ℕ) → Bytes s → parameterOf (q .parameter) ≡ parameter.SixSlices
+      → answerNumber (answered r s q out) ≡ 0 → rows.sixOf (rows.replyData (replyIn (answered r s q out))) ≡ sixOf s (keyOf q)
+  pub refused : (r : Record) (s : List ℕ) (q : Request) (out : List ℕ) → FitsRequest q → askable (subjectOf q mostSlots) ≡ true
+      → 64 ≤ length out → isSound r s ≡ true → heard r (requestFrame q) ≡ true → isDone (verdictOf r (requestFrame q)) ≡ false
+      → decodedOf q (replyIn (answered r s q out)) ≡ decoded.MeterRefused (resultOf (verdictOf r (requestFrame q)))
+  pub inquired : (r : Record) (s : List ℕ) (q : Request) (out : List ℕ) → FitsRecord r → Bytes s → FitsRequest q
+      → let o = inquiry.inquired r s q out in inquiry.numberOf (o .answer) ≡ 0 → o .answer ≡ Told (ownFigures (parameterOf (q .parameter)) r s q)
+  -- "A change happens only with the access it needs, and then changes the named parameter alone, save that protection's 240 seconds start
+  -- again"; a zeroing needs main access, and that of the slices makes the store empty. What is refused leaves all (demand 1)
+  pub change : (r : Record) (s f out : List ℕ) → functionIn f ≡ function.Change → let o = answerOf r s f out in answerNumber o ≡ 0
+      → Permitted (changeAllowed (parameterIn f) (r .protection .level)) f r s o
+  pub zeroing : (r : Record) (s f out : List ℕ) → functionIn f ≡ function.Zero → let o = answerOf r s f out in answerNumber o ≡ 0
+      → Permitted (isMain (r .protection .level)) f r (cond (isSlice (parameterIn f)) (cleared s) s) o
+  pub change-without-access : (r : Record) (s f out : List ℕ) → functionIn f ≡ function.Change
+      → changeAllowed (parameterIn f) (r .protection .level) ≡ false → Leaves r s (answerOf r s f out)
+  pub zeroing-without-access : (r : Record) (s f out : List ℕ) → functionIn f ≡ function.Zero
+      → isMain (r .protection .level) ≡ false → Leaves r s (answerOf r s f out)
+  -- "each right password, which sets its own level"; "A wrong password changes nothing, an open level included"; protection restored; a read
+  pub right-password : (r : Record) (s f out : List ℕ) → functionIn f ≡ function.Unlock → let o = answerOf r s f out in answerNumber o ≡ 0
+      → (numberAt f 4 8 ≡ passwordFor (r .passwords) (detailIn f)) × Leaves (withProtection r (opened (levelFor (detailIn f)))) s o
+  pub wrong-password : (r : Record) (s f out : List ℕ) → functionIn f ≡ function.Unlock
+      → (numberAt f 4 8 ≡ passwordFor (r .passwords) (detailIn f) → ⊥) → Leaves r s (answerOf r s f out)
+  pub lock : (r : Record) (s f out : List ℕ) → functionIn f ≡ function.Lock → let o = answerOf r s f out in answerNumber o ≡ 0
+      → Leaves (withProtection r shut) s o
+  pub read-changes-nothing : (r : Record) (s f out : List ℕ) → functionIn f ≡ function.Read → let o = answerOf r s f out in answerNumber o ≡ 0
+      → Leaves r s o

@@ -1,10 +1,6 @@
-pub mod Examples
 pub mod Demand1
-pub mod Demand3
-pub mod History
-pub mod Held
-pub mod Wire
-pub mod Demand2
+pub mod Figures
 pub mod Changes
-pub mod Six
-pub mod Inquired
+pub mod Demand2
+pub mod Demand3
+pub mod Examples

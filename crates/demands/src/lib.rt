@@ -1,1 +1,1 @@
-// The claims that the product makes, each in a file of specs/ that a reader opens first.
+// The claims that the product makes: specs/ states them, a file a demand, and proofs/ proves each under its name.

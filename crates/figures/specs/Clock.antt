@@ -1,6 +1,5 @@
 -- Parameters 27, 28 and 32. Source: document 01, "Clock": "second, minute, hour, day, month, year - 2000, one byte each, in binary".
-use mathlib.Core.Path.{_≡_, refl}
-use mathlib.Core.List.{List, [], _∷_, _++_}
+use mathlib.Core.List.{List, [], _∷_}
 use Prim.Native.Nat.{ℕ}
 use Rattle.words.specs.Place.{byteAt}
 use Rattle.calendar.specs.declared.time.DateTime.{DateTime}
@@ -17,7 +16,3 @@ dateTimeOf bs = record {
 -- its six bytes
 unfoldable pub dateTimeBytes : DateTime → List ℕ
 dateTimeBytes t = t .second ∷ t .minute ∷ t .hour ∷ t .date .day ∷ t .date .month ∷ t .date .year ∷ []
-
-pub dateTimeOf-bytes : (t : DateTime) (rest : List ℕ) → dateTimeOf (dateTimeBytes t ++ rest) ≡ t
-unfolding dateTimeOf dateTimeBytes
-dateTimeOf-bytes t rest = refl

@@ -2,5 +2,3 @@ pub mod Clock
 pub mod Telemetry
 pub mod Mask
 pub mod Power
-pub mod PowerLaws
-pub mod Within

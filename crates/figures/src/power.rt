@@ -1,6 +1,6 @@
 // Parameters 8 and 9: the powers of three phases and their total, as 32-bit floats.
 ghost use mathlib.Core.Path.{_≡_};
-ghost use Rattle.figures.specs.Power.{totalOf, powerOf, powersOf, bitsOf, powerBytes, powersBytes};
+ghost use Rattle.figures.specs.Power.{totalOf, powerOf, together, phasesOf, powersOf, bitsOf, powerBytes, phasesBytes, powersBytes};
 ghost use Rattle.words.specs.Place.{written};
 
 // The phase powers of one reading.
@@ -19,6 +19,11 @@ pub struct Powers {
 // One power of a reply.
 pub enum Power {
     Finite(f32),
+    NotFinite,
+}
+
+pub enum PhasesAnswer {
+    Finite(Phases),
     NotFinite,
 }
 
@@ -53,24 +58,46 @@ pub fn power_of(bytes: &[u8], at: usize) -> Power
     }
 }
 
+// The powers A, B and C at the front of a part.
+pub fn phases_of(bytes: &[u8]) -> PhasesAnswer
+    ensures { λ r. ⌜ r ≡ phasesOf (now (bytes .entry)) ⌝ }
+{
+    together(power_of(bytes, 0), power_of(bytes, 4), power_of(bytes, 8))
+}
+
+// All three, or none.
+fn together(a: Power, b: Power, c: Power) -> PhasesAnswer
+    ensures { λ r. ⌜ r ≡ together a b c ⌝ }
+{
+    let Power::Finite(first) = a else {
+        return PhasesAnswer::NotFinite;
+    };
+    let Power::Finite(second) = b else {
+        return PhasesAnswer::NotFinite;
+    };
+    let Power::Finite(third) = c else {
+        return PhasesAnswer::NotFinite;
+    };
+    PhasesAnswer::Finite(Phases {
+        a: first,
+        b: second,
+        c: third,
+    })
+}
+
+// The total and behind it the phases.
 pub fn powers_of(bytes: &[u8]) -> PowersAnswer
     ensures { λ r. ⌜ r ≡ powersOf (now (bytes .entry)) ⌝ }
 {
     let Power::Finite(total) = power_of(bytes, 0) else {
         return PowersAnswer::NotFinite;
     };
-    let Power::Finite(a) = power_of(bytes, 4) else {
-        return PowersAnswer::NotFinite;
-    };
-    let Power::Finite(b) = power_of(bytes, 8) else {
-        return PowersAnswer::NotFinite;
-    };
-    let Power::Finite(c) = power_of(bytes, 12) else {
+    let PhasesAnswer::Finite(phases) = phases_of(words::tail(bytes, 4)) else {
         return PowersAnswer::NotFinite;
     };
     PowersAnswer::Finite(Powers {
         total: total,
-        phases: Phases { a: a, b: b, c: c },
+        phases: phases,
     })
 }
 
@@ -89,11 +116,19 @@ pub fn put_power(out: &mut [u8], at: usize, x: f32)
     words::put_u32(out, at, bits_of(x));
 }
 
+pub fn put_phases(out: &mut [u8], at: usize, p: Phases)
+    ensures { λ _. ⌜ now (out .exit) ≡ written (now (out .entry)) at (phasesBytes p) ⌝ }
+{
+    if at < out.len() {
+        put_power(out, at, p.a);
+        put_power(out, at + 4, p.b);
+        put_power(out, at + 8, p.c);
+    }
+}
+
 pub fn put_powers(out: &mut [u8], p: Phases)
     ensures { λ _. ⌜ now (out .exit) ≡ written (now (out .entry)) 0 (powersBytes p) ⌝ }
 {
     put_power(out, 0, p.total());
-    put_power(out, 4, p.a);
-    put_power(out, 8, p.b);
-    put_power(out, 12, p.c);
+    put_phases(out, 4, p);
 }

@@ -4,8 +4,6 @@ use Prim.Native.Nat.{ℕ}
 use lib.Dec.{eqb}
 use Rattle.frame.specs.declared.code.Function.{Function}
 use Rattle.frame.specs.declared.code.Function.the-variants as function
-use Rattle.frame.specs.declared.code.Parameter.{Parameter}
-use Rattle.frame.specs.declared.code.Parameter.the-variants as parameter
 
 -- the function that reads a parameter: figure 3 (page 5)
 abbrev pub read : ℕ
@@ -28,19 +26,3 @@ functionOf n =
     (cond (eqb n 31) function.Unlock
     (cond (eqb n 32) function.Lock
     function.Unknown))))
-
--- parameters that have a bullet in document 01, with the codes of Appendix A (page 21); every other one is unknown
-unfoldable pub parameterOf : ℕ → Parameter
-parameterOf n =
-    cond (eqb n 8) parameter.ActivePower
-    (cond (eqb n 9) parameter.ReactivePower
-    (cond (eqb n 21) parameter.Address
-    (cond (eqb n 24) parameter.Telemetry
-    (cond (eqb n 27) parameter.SummerDate
-    (cond (eqb n 28) parameter.WinterDate
-    (cond (eqb n 32) parameter.Clock
-    (cond (eqb n 35) parameter.DisplayMask
-    (cond (eqb n 36) parameter.Slice
-    (cond (eqb n 37) parameter.Password
-    (cond (eqb n 40) parameter.SixSlices
-    parameter.Unknown))))))))))

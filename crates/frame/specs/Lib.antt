@@ -1,2 +1,4 @@
+pub mod Layout
 pub mod Sealing
 pub mod Code
+pub mod Table

@@ -1,86 +1,27 @@
 -- Frames and their CRC. Source: document 01, "Frames": "Address (1 byte), function (1), message, CRC (2, low byte first)", "The CRC covers
 -- all bytes before it", "A frame is 4 to 64 bytes (house)".
-use mathlib.Core.Path.{_≡_, refl, sym, ap, ap₂, _∙_}
-use mathlib.Core.Bool.{Bool, true, false, _&&_}
-use mathlib.Core.List.{List, [], _∷_, _++_}
-use Prim.Native.Nat.{ℕ, zero, suc, _+_, _-_, _≤_, _<_}
-use native.Mathlib.Nat.{zero-add, le-refl}
-use native.Mathlib.Omega.{arith}
+use mathlib.Core.Bool.{Bool, _&&_}
+use mathlib.Core.List.{List, _++_}
+use Prim.Native.Nat.{ℕ, _-_}
 use lib.Dec.{leb, eqb}
-use lib.ListN.{length, take, drop, length-append, length-drop, take-append-drop}
-use lib.Seq.{take-at, drop-at, take-all, getD-drop}
-use borrow.Author.Tests.{le-leb, eq-eqb, leb-true, eqb-true}
-use Rattle.decide.specs.Test.{both}
-use Rattle.words.specs.Number.{Bytes, number, bytesOf, length-bytesOf, number-bytesOf-fits, bytesOf-number}
-use Rattle.words.specs.Place.{numberAt, written, written-append, part-written}
-use Rattle.crc16.specs.Crc.{crcOf, crcOf-lt}
+use lib.ListN.{length, take}
+use Rattle.words.specs.Number.{bytesOf}
+use Rattle.words.specs.Place.{numberAt, written}
+use Rattle.crc16.specs.Crc.{crcOf}
+use Rattle.frame.specs.Layout.{shortest, longest, crcSize}
 
 -- a frame: its bytes, and behind them their CRC, low byte first
 unfoldable pub framed : List ℕ → List ℕ
-framed body = body ++ bytesOf 2 (crcOf body)
+framed body = body ++ bytesOf crcSize (crcOf body)
 
 -- a buffer whose first n bytes got their CRC behind them
 unfoldable pub sealed : List ℕ → ℕ → List ℕ
-sealed s n = written s n (bytesOf 2 (crcOf (take n s)))
+sealed s n = written s n (bytesOf crcSize (crcOf (take n s)))
 
 -- whether the last two bytes are the CRC of all bytes before them
 unfoldable pub crcFits : List ℕ → Bool
-crcFits s = leb 2 (length s) && eqb (numberAt s (length s - 2) 2) (crcOf (take (length s - 2) s))
+crcFits s = leb crcSize (length s) && eqb (numberAt s (length s - crcSize) crcSize) (crcOf (take (length s - crcSize) s))
 
 -- whether the bytes are a frame
 unfoldable pub isSealed : List ℕ → Bool
-isSealed s = leb 4 (length s) && leb (length s) 64 && crcFits s
-
--- ---- laws
-
-pub length-framed : (body : List ℕ) → length (framed body) ≡ length body + 2
-unfolding framed
-length-framed body = length-append body (bytesOf 2 (crcOf body)) ∙ ap (λ (k : ℕ). length body + k) (length-bytesOf 2 (crcOf body))
-
--- what is written to the front and then sealed is a frame
-pub sealed-written : (s body : List ℕ) → length body ≤ length s → sealed (written s 0 body) (length body) ≡ written s 0 (framed body)
-unfolding sealed framed
-sealed-written s body h =
-    let front : take (length body) (written s 0 body) ≡ body = part-written s 0 body (rw zero-add h) in
-    ap (λ (l : List ℕ). written (written s 0 body) (length body) (bytesOf 2 (crcOf l))) front
-    ∙ sym (written-append s 0 body (bytesOf 2 (crcOf body)) ∙ ap (λ (k : ℕ). written (written s 0 body) k (bytesOf 2 (crcOf body))) (zero-add (length body)))
-
-pub take-framed : (body : List ℕ) → take (length body) (framed body) ≡ body
-unfolding framed
-take-framed body = take-at body (bytesOf 2 (crcOf body)) (length body) refl
-
-pub numberAt-framed : (body : List ℕ) → Bytes body → numberAt (framed body) (length body) 2 ≡ crcOf body
-unfolding framed numberAt
-numberAt-framed body h =
-    ap (λ (l : List ℕ). number (take 2 l)) (drop-at body (bytesOf 2 (crcOf body)) (length body) refl)
-    ∙ ap number (take-all 2 (bytesOf 2 (crcOf body)) (rw length-bytesOf (le-refl 2)))
-    ∙ number-bytesOf-fits 2 (crcOf body) (crcOf-lt body h)
-
--- the CRC of a frame fits
-pub crcFits-framed : (body : List ℕ) → Bytes body → crcFits (framed body) ≡ true
-unfolding crcFits
-crcFits-framed body h =
-    let l : length (framed body) ≡ length body + 2 = length-framed body in
-    let n : length (framed body) - 2 ≡ length body = omega arith in
-    let fits : numberAt (framed body) (length (framed body) - 2) 2 ≡ crcOf (take (length (framed body) - 2) (framed body)) =
-    rw (n, take-framed) (numberAt-framed body h) in
-    ap₂ _&&_ (le-leb 2 (length (framed body)) (omega arith)) (eq-eqb _ _ fits)
-
--- ---- bytes whose last two are the CRC of all before them
-
--- the last two bytes are those of the number there
-last-two : (s : List ℕ) → Bytes s → 2 ≤ length s → drop (length s - 2) s ≡ bytesOf 2 (numberAt s (length s - 2) 2)
-unfolding numberAt
-last-two s bytes l =
-    let tail = drop (length s - 2) s in
-    let e : length tail ≡ 2 = length-drop (length s - 2) s ∙ omega arith in
-    let b : Bytes tail = λ i. rw getD-drop (bytes (length s - 2 + i)) in
-    sym (bytesOf-number tail b) ∙ ap₂ bytesOf e (sym (ap number (take-all 2 tail (omega arith))))
-
-pub framed-of-fits : (s : List ℕ) → Bytes s → crcFits s ≡ true → s ≡ framed (take (length s - 2) s)
-unfolding crcFits framed
-framed-of-fits s bytes p =
-    let a = both _ _ p in
-    let l : 2 ≤ length s = leb-true 2 (length s) (a .0) in
-    sym (take-append-drop (length s - 2) s)
-    ∙ ap (λ (x : List ℕ). take (length s - 2) s ++ x) (last-two s bytes l ∙ ap (bytesOf 2) (eqb-true _ _ (a .1)))
+isSealed s = leb shortest (length s) && leb (length s) longest && crcFits s

@@ -1,6 +1,6 @@
 // The codes of the SS-301 operator's instruction 3.16.
 ghost use mathlib.Core.Path.{_≡_};
-ghost use Rattle.frame.specs.Code.{functionOf, parameterOf};
+ghost use Rattle.frame.specs.Code.{functionOf};
 
 // Functions (sections 4 and 5).
 pub const READ: u8 = 3;
@@ -15,7 +15,9 @@ pub const LOCK: u8 = 32;
 // Added to the function of a reply whose result is not 0.
 pub const REFUSED: u8 = 128;
 
-// Parameters (Appendix A).
+// Parameters (Appendix A). No parameter that is known has the code 0, so it stands for those that are not.
+pub const UNKNOWN: u8 = 0;
+
 pub const ACTIVE_POWER: u8 = 8;
 
 pub const REACTIVE_POWER: u8 = 9;
@@ -83,24 +85,5 @@ pub fn function_of(code: u8) -> Function
         UNLOCK => Function::Unlock,
         LOCK => Function::Lock,
         _ => Function::Unknown,
-    }
-}
-
-pub fn parameter_of(code: u8) -> Parameter
-    ensures { λ r. ⌜ r ≡ parameterOf code ⌝ }
-{
-    match code {
-        ACTIVE_POWER => Parameter::ActivePower,
-        REACTIVE_POWER => Parameter::ReactivePower,
-        ADDRESS => Parameter::Address,
-        TELEMETRY => Parameter::Telemetry,
-        SUMMER_DATE => Parameter::SummerDate,
-        WINTER_DATE => Parameter::WinterDate,
-        CLOCK => Parameter::Clock,
-        DISPLAY_MASK => Parameter::DisplayMask,
-        SLICE => Parameter::Slice,
-        PASSWORD => Parameter::Password,
-        SIX_SLICES => Parameter::SixSlices,
-        _ => Parameter::Unknown,
     }
 }

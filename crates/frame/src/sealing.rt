@@ -1,13 +1,8 @@
 ghost use mathlib.Core.Path.{_≡_};
 ghost use Rattle.frame.specs.Sealing.{sealed, crcFits, isSealed};
-
-// The fewest and the most bytes of a frame.
-const SHORTEST: usize = 4;
-
-const LONGEST: usize = 64;
-
-// The CRC's own bytes.
-const CRC_BYTES: usize = 2;
+use crate::layout::CRC_BYTES;
+use crate::layout::LONGEST;
+use crate::layout::SHORTEST;
 
 // Puts the CRC of the first n bytes behind them, as far as there is room.
 pub fn seal(out: &mut [u8], n: usize)

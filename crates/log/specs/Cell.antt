@@ -1,15 +1,20 @@
 -- A cell of the log and its nine bytes. Source: document 01, "The reader and the log".
-use Prim.Native.Nat.{ℕ}
+use Prim.Native.Nat.{ℕ, _<_}
 use mathlib.Core.Bool.{Bool, true, cond, not, _&&_}
 use mathlib.Core.List.{List, [], _∷_, _++_}
 use lib.Dec.{eqb}
 use lib.ListN.{length}
+use mathlib.Core.Path.{_≡_}
 use Rattle.words.specs.Number.{bytesOf}
 use Rattle.words.specs.Place.{byteAt, numberAt}
 use Rattle.log.specs.declared.cell.Cell.{Cell}
 use Rattle.log.specs.declared.cell.Cell.the-variants.{Gap, Empty, Measured}
 use Rattle.log.specs.declared.cell.CellAnswer.{CellAnswer}
 use Rattle.log.specs.declared.cell.CellAnswer.the-variants.{Good, Bad}
+
+-- "9 bytes each"
+abbrev pub cellSize : ℕ
+cellSize = 9
 
 -- whether none of four counts is above zero
 unfoldable pub noCounts : ℕ → ℕ → ℕ → ℕ → Bool
@@ -21,7 +26,7 @@ isCell Gap = true
 isCell Empty = true
 isCell (Measured e+ e- r+ r-) = not (noCounts e+ e- r+ r-)
 
--- "9 bytes each": the kind, "and four counts low first"
+-- the kind, "and four counts low first"
 unfoldable pub kindBytes : ℕ → ℕ → ℕ → ℕ → ℕ → List ℕ
 kindBytes kind e+ e- r+ r- = kind ∷ [] ++ (bytesOf 2 e+ ++ (bytesOf 2 e- ++ (bytesOf 2 r+ ++ bytesOf 2 r-)))
 
@@ -40,4 +45,26 @@ kindCell kind e+ e- r+ r- =
 
 -- the cell that nine bytes are
 unfoldable pub cellOf : List ℕ → CellAnswer
-cellOf bs = cond (eqb (length bs) 9) (kindCell (byteAt bs 0) (numberAt bs 1 2) (numberAt bs 3 2) (numberAt bs 5 2) (numberAt bs 7 2)) Bad
+cellOf bs = cond (eqb (length bs) cellSize) (kindCell (byteAt bs 0) (numberAt bs 1 2) (numberAt bs 3 2) (numberAt bs 5 2) (numberAt bs 7 2)) Bad
+
+-- one value where bytes are no cell, else one by the cell that they are
+abbrev pub ifGood : {A : Type 0} → CellAnswer → A → (Cell → A) → A
+ifGood Bad other f = other
+ifGood (Good c) other f = f c
+
+pub record CountsFit (e+ e- r+ r- : ℕ) : Type 0 where
+  pub e-plus : e+ < 65536
+  pub e-minus : e- < 65536
+  pub r-plus : r+ < 65536
+  pub r-minus : r- < 65536
+
+-- the counts fit two bytes, as those of a Rattle value do
+abbrev pub CellFits : Cell → Type 0
+CellFits Gap = Unit
+CellFits Empty = Unit
+CellFits (Measured e+ e- r+ r-) = CountsFit e+ e- r+ r-
+
+-- a cell that an image can hold
+pub record IsCell (c : Cell) : Type 0 where
+  pub right : isCell c ≡ true
+  pub fits : CellFits c

@@ -4,6 +4,7 @@ use mathlib.Core.Bool.{cond}
 use mathlib.Core.List.{List}
 use lib.Dec.{leb}
 use lib.ListN.{length, replicate}
+use Rattle.refusal.specs.Outcome.{Outcome, outcome}
 use Rattle.words.specs.Place.{written}
 use Rattle.log.specs.Header.{isHeader, cellsOf, lengthOf}
 use Rattle.log.specs.Image.{imageOf}
@@ -19,14 +20,6 @@ freshNumber (Done n) = 0
 freshNumber OutOfRange = 27
 freshNumber TooShort = 1
 
--- the answer, and what the lent output then holds
-pub record Outcome : Type 0 where
-  pub answer : FreshAnswer
-  pub bytes : List ℕ
-
-abbrev pub outcome : FreshAnswer → List ℕ → Outcome
-outcome r s = record { answer = r; bytes = s }
-
 -- n gaps
 unfoldable pub gaps : ℕ → List Cell
 gaps n = replicate n Gap
@@ -36,7 +29,7 @@ unfoldable pub freshImage : Header → List ℕ
 freshImage h = imageOf h (gaps (cellsOf h))
 
 -- "a new log 27, 1"; "Output past what was written is unchanged"
-unfoldable pub freshOf : Header → List ℕ → Outcome
+unfoldable pub freshOf : Header → List ℕ → Outcome FreshAnswer (List ℕ)
 freshOf h s =
     cond (isHeader h)
     (cond (leb (lengthOf h) (length s)) (outcome (Done (lengthOf h)) (written s 0 (freshImage h))) (outcome TooShort s))

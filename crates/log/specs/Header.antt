@@ -9,11 +9,24 @@ use Rattle.words.specs.Place.{byteAt, numberAt}
 use Rattle.slots.specs.Day.{isMinutes, slotsOf}
 use Rattle.calendar.specs.Date.{isDate, dayNumber, centuryDays}
 use Rattle.calendar.specs.declared.date.Date.{Date}
+use Rattle.log.specs.Cell.{cellSize}
 use Rattle.log.specs.declared.header.Header.{Header}
 use Rattle.log.specs.declared.header.HeaderAnswer.{HeaderAnswer}
 use Rattle.log.specs.declared.header.HeaderAnswer.the-variants.{Right, Wrong}
 use Rattle.log.specs.declared.header.Lent.{Lent}
 use Rattle.log.specs.declared.header.Lent.the-variants.{Sound, Unsound}
+
+-- "two zero bytes: 14 bytes"
+abbrev pub headerSize : ℕ
+headerSize = 14
+
+-- "version 1"
+abbrev pub version : ℕ
+version = 1
+
+-- "1 to 62 days"
+abbrev pub daysMost : ℕ
+daysMost = 62
 
 -- the log's cells: the slots of all its days
 unfoldable pub cellsOf : Header → ℕ
@@ -21,11 +34,11 @@ cellsOf h = h .days * slotsOf (h .minutes)
 
 -- "14 bytes. Then cells in time order, 9 bytes each"
 unfoldable pub lengthOf : Header → ℕ
-lengthOf h = 14 + 9 * cellsOf h
+lengthOf h = headerSize + cellSize * cellsOf h
 
 -- "1 to 62 days that end by 2099-12-31"
 unfoldable pub daysRight : Header → Bool
-daysRight h = leb 1 (h .days) && leb (h .days) 62 && ltb (dayNumber (h .start) + (h .days - 1)) centuryDays
+daysRight h = leb 1 (h .days) && leb (h .days) daysMost && ltb (dayNumber (h .start) + (h .days - 1)) centuryDays
 
 -- "a start date (2000..2099), 1 to 62 days .., an interval of 15 or 30 minutes, and Ke (1..65,535)"
 unfoldable pub isHeader : Header → Bool
@@ -39,7 +52,7 @@ dateBytes d = d .year ∷ d .month ∷ d .day ∷ []
 unfoldable pub headerBytes : Header → List ℕ
 headerBytes h =
     71 ∷ 69 ∷ 76 ∷ []
-    ++ (bytesOf 2 1 ++ (dateBytes (h .start) ++ (h .days ∷ [] ++ (h .minutes ∷ [] ++ (bytesOf 2 (h .ke) ++ bytesOf 2 0)))))
+    ++ (bytesOf 2 version ++ (dateBytes (h .start) ++ (h .days ∷ [] ++ (h .minutes ∷ [] ++ (bytesOf 2 (h .ke) ++ bytesOf 2 0)))))
 
 -- the fields, as their bytes say
 unfoldable pub headerAt : List ℕ → Header
@@ -57,7 +70,7 @@ markRight s = eqb (byteAt s 0) 71 && eqb (byteAt s 1) 69 && eqb (byteAt s 2) 76
 
 -- the file reader's 31: the version
 unfoldable pub versionRight : List ℕ → Bool
-versionRight s = eqb (numberAt s 3 2) 1
+versionRight s = eqb (numberAt s 3 2) version
 
 -- the file reader's 32: the fields, with the two zero bytes
 unfoldable pub fieldsRight : List ℕ → Bool
@@ -67,6 +80,11 @@ fieldsRight s = isHeader (headerAt s) && eqb (numberAt s 12 2) 0
 unfoldable pub headerOf : List ℕ → HeaderAnswer
 headerOf s = cond (fieldsRight s) (Right (headerAt s)) Wrong
 
+-- one value where bytes are no header, else one by it
+abbrev pub ifRight : {A : Type 0} → HeaderAnswer → A → (Header → A) → A
+ifRight Wrong other f = other
+ifRight (Right h) other f = f h
+
 -- the file reader's 33: the length
 unfoldable pub fittedTo : ℕ → HeaderAnswer → Lent
 fittedTo n Wrong = Unsound
@@ -75,3 +93,8 @@ fittedTo n (Right h) = cond (eqb n (lengthOf h)) (Sound h) Unsound
 -- 28: "lent log with a wrong header, length ..": whether lent bytes are a log, and with which header
 unfoldable pub soundOf : List ℕ → Lent
 soundOf s = cond (markRight s && versionRight s) (fittedTo (length s) (headerOf s)) Unsound
+
+-- one value where lent bytes are no log, else one by their header
+abbrev pub ifSound : {A : Type 0} → Lent → A → (Header → A) → A
+ifSound Unsound other f = other
+ifSound (Sound h) other f = f h

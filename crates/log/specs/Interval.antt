@@ -16,6 +16,11 @@ use Rattle.log.specs.declared.interval.DayAnswer.the-variants as day
 unfoldable pub intervalOf : Header → ℕ → ℕ → Interval
 intervalOf h d s = cond (ltb d (h .days) && ltb s (slotsOf (h .minutes))) (interval.At (d * slotsOf (h .minutes) + s)) interval.Outside
 
+-- one value for an interval that is not in the log, else one by its cell's index
+abbrev pub ifAt : {A : Type 0} → Interval → A → (ℕ → A) → A
+ifAt interval.Outside other f = other
+ifAt (interval.At i) other f = f i
+
 -- a day past the calendar is no day of a log
 abbrev pub onDay : DateAnswer → DayAnswer
 onDay (date.On d) = day.On d

@@ -1,13 +1,5 @@
-pub mod ByteLaws
-pub mod Header
-pub mod HeaderLaws
 pub mod Cell
-pub mod CellLaws
+pub mod Header
 pub mod Image
-pub mod ImageLaws
 pub mod Interval
-pub mod IntervalLaws
 pub mod Fresh
-pub mod FreshLaws
-pub mod Examples
-pub mod FrontLaws

@@ -30,7 +30,11 @@ pub enum Lent {
 
 pub const HEADER_BYTES: usize = 14;
 
-const MOST_DAYS: u8 = 62;
+const DAYS_MOST: u8 = 62;
+
+// The longest image.
+pub const IMAGE_MOST: usize = HEADER_BYTES
+    + CELL_BYTES * (DAYS_MOST as usize * slots::SLOTS_MOST as usize);
 
 const VERSION: u16 = 1;
 
@@ -54,7 +58,7 @@ pub fn is_header(h: Header) -> bool
     if h.days == 0 {
         return false;
     }
-    if MOST_DAYS < h.days {
+    if DAYS_MOST < h.days {
         return false;
     }
     if h.ke == 0 {

@@ -1,10 +1,17 @@
 // The log's image: single cells, by their index in time order.
 ghost use mathlib.Core.Path.{_≡_};
-ghost use Rattle.log.specs.Image.{cellAt, putCell};
+ghost use Rattle.log.specs.Image.{cellAt, putCell, applied};
 use crate::cell::CELL_BYTES;
 use crate::cell::Cell;
 use crate::cell::CellAnswer;
 use crate::header::HEADER_BYTES;
+
+// What a call does to a log.
+pub enum Change {
+    None,
+    // The cell with this index is another.
+    Put(usize, Cell),
+}
 
 pub fn cell_at(log: &[u8], i: usize) -> CellAnswer
     ensures { λ r. ⌜ r ≡ cellAt (now (log .entry)) i ⌝ }
@@ -31,5 +38,14 @@ pub fn put_cell(log: &mut [u8], i: usize, c: Cell)
     let from = HEADER_BYTES + CELL_BYTES * i;
     if from < log.len() {
         crate::cell::write_cell(&mut log[from..], c);
+    }
+}
+
+pub fn apply(log: &mut [u8], change: Change)
+    ensures { λ _. ⌜ now (log .exit) ≡ applied change (now (log .entry)) ⌝ }
+{
+    match change {
+        Change::Put(i, c) => put_cell(log, i, c),
+        Change::None => {}
     }
 }

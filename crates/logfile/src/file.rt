@@ -1,9 +1,10 @@
 // The length of a log's file.
 ghost use mathlib.Core.Path.{_≡_};
 ghost use Rattle.logfile.specs.File.{fileLength};
+use frame::layout::CRC_BYTES;
 
-// The CRC's own bytes.
-const CRC_BYTES: usize = 2;
+// The longest file.
+pub const FILE_MOST: usize = log::IMAGE_MOST + CRC_BYTES;
 
 pub fn file_length(h: log::Header) -> usize
     ensures { λ r. ⌜ r ≡ fileLength h ⌝ }

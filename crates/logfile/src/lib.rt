@@ -7,6 +7,7 @@ mod read;
 mod walk;
 mod write;
 
+pub use file::FILE_MOST;
 pub use file::file_length;
 pub use read::ReadAnswer;
 pub use read::read_file;

@@ -1,6 +1,7 @@
 // A log, written as a file.
 ghost use mathlib.Core.Path.{_≡_};
-ghost use Rattle.logfile.specs.Write.{writeNumber, outcome, writtenFile};
+ghost use Rattle.refusal.specs.Outcome.{outcome};
+ghost use Rattle.logfile.specs.Write.{writeNumber, writtenFile};
 
 pub enum WriteAnswer {
     // The file's length.

@@ -5,12 +5,19 @@
 use libc::STDOUT_FILENO;
 use logfile::ReadAnswer;
 
+// Where the first two cells and the last one begin.
+const SLOT_0: usize = log::HEADER_BYTES;
+
+const SLOT_1: usize = SLOT_0 + log::CELL_BYTES;
+
+const SLOT_47: usize = SLOT_0 + 47 * log::CELL_BYTES;
+
 // The image, the file and one byte more, which is 0.
-const IMAGE: usize = 446;
+const IMAGE: usize = SLOT_47 + log::CELL_BYTES;
 
-const FILE: usize = 448;
+const FILE: usize = IMAGE + frame::layout::CRC_BYTES;
 
-const LONGER: usize = 449;
+const LONGER: usize = FILE + 1;
 
 fn main() {
     lengths();
@@ -31,9 +38,9 @@ fn lengths() {
     show(b"4 bytes", good(), 4);
     show(b"5 bytes", good(), 5);
     show(b"13 bytes", good(), 13);
-    show(b"14 bytes", good(), 14);
+    show(b"14 bytes", good(), log::HEADER_BYTES);
     show(b"the image alone", good(), IMAGE);
-    show(b"a byte short", good(), 447);
+    show(b"a byte short", good(), FILE - 1);
     show(b"a byte long", good(), LONGER);
 }
 
@@ -77,24 +84,24 @@ fn crcs() {
     damaged(b"CRC 0", IMAGE, b"\x00\x00");
     damaged(b"year 2025", 5, b"\x19");
     sealed_again(b"year 2025", 5, b"\x19");
-    damaged(b"slot 0 counts 13", 15, b"\x0D");
-    sealed_again(b"slot 0 counts 13", 15, b"\x0D");
-    damaged(b"slot 47 kind 3", 437, b"\x03");
+    damaged(b"slot 0 counts 13", SLOT_0 + 1, b"\x0D");
+    sealed_again(b"slot 0 counts 13", SLOT_0 + 1, b"\x0D");
+    damaged(b"slot 47 kind 3", SLOT_47, b"\x03");
 }
 
 fn cells() {
     sealed_again(
         b"slot 0 measured zeros",
-        14,
+        SLOT_0,
         b"\x02\x00\x00\x00\x00\x00\x00\x00\x00",
     );
-    sealed_again(b"slot 0 kind 3", 14, b"\x03");
-    sealed_again(b"slot 0 a gap with counts", 14, b"\x00");
-    sealed_again(b"slot 1 empty with a count", 31, b"\x01");
-    sealed_again(b"slot 1 measured zeros", 23, b"\x02");
-    sealed_again(b"slot 47 kind 3", 437, b"\x03");
-    sealed_again(b"slot 47 measured 65535", 437, b"\x02\xFF\xFF");
-    sealed_again(b"all slots but 0 gaps", 23, b"\x00");
+    sealed_again(b"slot 0 kind 3", SLOT_0, b"\x03");
+    sealed_again(b"slot 0 a gap with counts", SLOT_0, b"\x00");
+    sealed_again(b"slot 1 empty with a count", SLOT_1 + 8, b"\x01");
+    sealed_again(b"slot 1 measured zeros", SLOT_1, b"\x02");
+    sealed_again(b"slot 47 kind 3", SLOT_47, b"\x03");
+    sealed_again(b"slot 47 measured 65535", SLOT_47, b"\x02\xFF\xFF");
+    sealed_again(b"all slots but 0 gaps", SLOT_1, b"\x00");
 }
 
 fn outputs() {
@@ -106,36 +113,44 @@ fn outputs() {
 fn first_of_two() {
     damaged(b"mark and version", 0, b"GEM\x02");
     damaged(b"version and month 13", 3, b"\x02\x00\x18\x0D");
-    show(b"month 13, a byte short", with(good(), 6, b"\x0D"), 447);
+    show(
+        b"month 13, a byte short",
+        with(good(), 6, b"\x0D"),
+        FILE - 1,
+    );
     show(
         b"CRC 0, a byte short",
         with(good(), IMAGE, b"\x00\x00"),
-        447,
+        FILE - 1,
     );
-    damaged(b"slot 0 kind 3", 14, b"\x03");
-    into_less(b"slot 0 kind 3", sealed(with(good(), 14, b"\x03")));
+    damaged(b"slot 0 kind 3", SLOT_0, b"\x03");
+    into_less(b"slot 0 kind 3", sealed(with(good(), SLOT_0, b"\x03")));
     into_less(b"CRC 0", with(good(), IMAGE, b"\x00\x00"));
 }
 
-fn good() -> [u8; 449] {
-    let mut file = [0u8; 449];
+fn good() -> [u8; LONGER] {
+    let mut file = [0u8; LONGER];
     words::put_bytes(
         &mut file,
         0,
         b"GEL\x01\x00\x18\x05\x11\x01\x1E\x64\x00\x00\x00",
     );
-    words::put_bytes(&mut file, 14, b"\x02\x0C\x00\x00\x00\x03\x00\x00\x00\x01");
+    words::put_bytes(
+        &mut file,
+        SLOT_0,
+        b"\x02\x0C\x00\x00\x00\x03\x00\x00\x00\x01",
+    );
     sealed(file)
 }
 
 // The file with the CRC of what it now holds.
-fn sealed(mut file: [u8; 449]) -> [u8; 449] {
+fn sealed(mut file: [u8; LONGER]) -> [u8; LONGER] {
     frame::seal(&mut file, IMAGE);
     file
 }
 
 // The file with other bytes at a place.
-fn with(mut file: [u8; 449], at: usize, bytes: &[u8]) -> [u8; 449] {
+fn with(mut file: [u8; LONGER], at: usize, bytes: &[u8]) -> [u8; LONGER] {
     words::put_bytes(&mut file, at, bytes);
     file
 }
@@ -152,28 +167,28 @@ fn sealed_again(what: &[u8], at: usize, bytes: &[u8]) {
 }
 
 // The first n bytes, into an output that has room.
-fn show(what: &[u8], file: [u8; 449], n: usize) {
-    let mut out = [255u8; 446];
+fn show(what: &[u8], file: [u8; LONGER], n: usize) {
+    let mut out = [255u8; IMAGE];
     say(what);
     read_first(file, n, &mut out);
 }
 
 // Into an output one byte too short.
-fn into_less(what: &[u8], file: [u8; 449]) {
-    let mut out = [255u8; 445];
+fn into_less(what: &[u8], file: [u8; LONGER]) {
+    let mut out = [255u8; IMAGE - 1];
     say(what);
     say(b", output of 445 bytes");
     read_first(file, FILE, &mut out);
 }
 
-fn into_one(what: &[u8], file: [u8; 449]) {
+fn into_one(what: &[u8], file: [u8; LONGER]) {
     let mut out = [255u8; 1];
     say(what);
     say(b", output of 1 byte");
     read_first(file, FILE, &mut out);
 }
 
-fn read_first(file: [u8; 449], n: usize, out: &mut [u8]) {
+fn read_first(file: [u8; LONGER], n: usize, out: &mut [u8]) {
     if n <= LONGER {
         read(&file[..n], out);
     }
@@ -190,9 +205,9 @@ fn read(file: &[u8], out: &mut [u8]) {
     say(b"\n");
 }
 
-fn show_crc(file: [u8; 449]) {
+fn show_crc(file: [u8; LONGER]) {
     let mut digits = [0u8; 4];
-    text::put_hex(&mut digits, 0, &[file[446], file[447]]);
+    text::put_hex(&mut digits, 0, &[file[IMAGE], file[IMAGE + 1]]);
     say(b"its CRC: ");
     say(&digits);
     say(b"\n");

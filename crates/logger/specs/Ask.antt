@@ -5,35 +5,26 @@ use mathlib.Core.List.{List}
 use Prim.Native.Nat.{ℕ, _+_}
 use lib.Dec.{ltb}
 use lib.ListN.{length}
+use Rattle.refusal.specs.Outcome.{Outcome, outcome}
 use Rattle.words.specs.Place.{written}
 use Rattle.frame.specs.Code.{slice}
+use Rattle.frame.specs.Layout.{readSize}
 use Rattle.request.specs.Request.{requestFrame}
 use Rattle.calendar.specs.Date.{dateOf, dayNumber}
 use Rattle.calendar.specs.declared.date.Date.{Date}
 use Rattle.request.specs.declared.request.Request.{Request}
-use Rattle.log.specs.Header.{soundOf}
-use Rattle.log.specs.Interval.{intervalOf}
+use Rattle.log.specs.Header.{soundOf, ifSound}
+use Rattle.log.specs.Interval.{intervalOf, ifAt}
 use Rattle.log.specs.declared.header.Header.{Header}
-use Rattle.log.specs.declared.header.Lent.{Lent}
-use Rattle.log.specs.declared.header.Lent.the-variants as lent
-use Rattle.log.specs.declared.interval.Interval.{Interval}
-use Rattle.log.specs.declared.interval.Interval.the-variants as interval
+use Rattle.logger.specs.Held.{ifNone}
 use Rattle.logger.specs.declared.ask.AskAnswer.{AskAnswer}
 use Rattle.logger.specs.declared.ask.AskAnswer.the-variants.{Done, TooShort, Unsound, AlreadyOpen, NotInLog}
 use Rattle.logger.specs.declared.ask.Asked.{Asked}
 use Rattle.logger.specs.declared.held.OpenAsk.{OpenAsk}
-use Rattle.logger.specs.declared.held.OpenAsk.the-variants.{Closed, Open}
+use Rattle.logger.specs.declared.held.OpenAsk.the-variants.{Open}
 
--- an answer, the ask left open, and what the lent output then holds
-pub record Outcome : Type 0 where
-  pub result : Asked
-  pub bytes : List ℕ
-
-abbrev pub outcome : Asked → List ℕ → Outcome
-outcome r s = record { result = r; bytes = s }
-
-abbrev pub answered : AskAnswer → OpenAsk → List ℕ → Outcome
-answered a held s = record { result = record { answer = a; held = held }; bytes = s }
+abbrev pub answered : AskAnswer → OpenAsk → List ℕ → Outcome Asked (List ℕ)
+answered a held s = outcome (record { answer = a; held = held }) s
 
 -- the date of a day of the log
 abbrev pub dateOfDay : Header → ℕ → Date
@@ -48,32 +39,15 @@ unfoldable pub askFrame : Header → ℕ → ℕ → ℕ → List ℕ
 unfolding requestFrame
 askFrame h address day slot = requestFrame (sliceRequest address (dateOfDay h day) slot)
 
-unfoldable pub slotAsked : Interval → Header → ℕ → ℕ → ℕ → List ℕ → Outcome
+-- an ask: 1, 28, 21, 22, and then 0, the frame and the ask open
+unfoldable pub asked : List ℕ → OpenAsk → ℕ → ℕ → ℕ → List ℕ → Outcome Asked (List ℕ)
 unfolding askFrame
-slotAsked interval.Outside h address day slot out = answered NotInLog Closed out
-slotAsked (interval.At i) h address day slot out = answered Done (Open address day slot) (written out 0 (askFrame h address day slot))
-
--- with none open: 22, else 0, the frame and the ask open
-unfoldable pub askedSlot : Header → ℕ → ℕ → ℕ → List ℕ → Outcome
-unfolding slotAsked
-askedSlot h address day slot out = slotAsked (intervalOf h day slot) h address day slot out
-
--- 21 with an ask open
-unfoldable pub askedOf : Header → OpenAsk → ℕ → ℕ → ℕ → List ℕ → Outcome
-unfolding askedSlot
-askedOf h Closed address day slot out = askedSlot h address day slot out
-askedOf h (Open a d s) address day slot out = answered AlreadyOpen (Open a d s) out
-
-unfoldable pub logAsked : Lent → OpenAsk → ℕ → ℕ → ℕ → List ℕ → Outcome
-unfolding askedOf
-logAsked lent.Unsound held address day slot out = answered Unsound held out
-logAsked (lent.Sound h) held address day slot out = askedOf h held address day slot out
-
--- an ask: 1, 28, 21, 22, 0
-unfoldable pub asked : List ℕ → OpenAsk → ℕ → ℕ → ℕ → List ℕ → Outcome
-unfolding logAsked
 asked log held address day slot out =
-    cond (ltb (length out) 8) (answered TooShort held out) (logAsked (soundOf log) held address day slot out)
+    cond (ltb (length out) readSize) (answered TooShort held out) (
+    ifSound (soundOf log) (answered Unsound held out) (λ h.
+    ifNone held (answered AlreadyOpen held out) (
+    ifAt (intervalOf h day slot) (answered NotInLog held out) (λ i.
+    answered Done (Open address day slot) (written out 0 (askFrame h address day slot))))))
 
 -- document 01's numbers
 abbrev pub numberOf : AskAnswer → ℕ

@@ -6,18 +6,16 @@ use mathlib.Core.List.{List, [], _∷_, _++_}
 use Prim.Native.Nat.{ℕ, zero, suc, _+_, _*_}
 use lib.Dec.{eqb, ltb}
 use lib.ListN.{length, getD}
-use Rattle.words.specs.Place.{byteAt, numberAt}
-use Rattle.frame.specs.Code.{slice}
-use Rattle.reader.specs.Form.{formOf}
-use Rattle.reader.specs.declared.form.Form.{Form}
-use Rattle.reader.specs.declared.form.Form.the-variants.{WellFormed, Faulty}
+use Rattle.refusal.specs.Outcome.{Outcome, outcome}
+use Rattle.frame.specs.Layout.{readSize}
 use Rattle.slots.specs.Day.{slotsOf}
-use Rattle.log.specs.Interval.{intervalOf}
+use Rattle.log.specs.Interval.{intervalOf, ifAt}
 use Rattle.log.specs.declared.header.Header.{Header}
-use Rattle.log.specs.declared.interval.Interval.{Interval}
-use Rattle.log.specs.declared.interval.Interval.the-variants as interval
 use Rattle.log.specs.declared.cell.Cell.{Cell}
 use Rattle.log.specs.declared.cell.Cell.the-variants.{Gap, Empty, Measured}
+use Rattle.words.specs.Number.{Bytes}
+use Rattle.logger.specs.Held.{ifNone, ifOpen}
+use Rattle.logger.specs.Reply.{sliceForm, ifFormed, resultOf, ifOk, Row, rowOf}
 use Rattle.logger.specs.declared.held.OpenAsk.{OpenAsk}
 use Rattle.logger.specs.declared.held.OpenAsk.the-variants.{Closed, Open}
 
@@ -34,17 +32,6 @@ pub record Answer : Type 0 where
 
 abbrev pub plain : ℕ → Answer
 plain n = record { number = n; result = 0 }
-
--- the four counts of a reply
-pub record Row : Type 0 where
-  pub e+ : ℕ
-  pub e- : ℕ
-  pub r+ : ℕ
-  pub r- : ℕ
-
--- "Data: E+, E-, R+, R-, 2 bytes each", behind address, function, parameter and result
-unfoldable pub rowOf : List ℕ → Row
-rowOf y = record { e+ = numberAt y 4 2; e- = numberAt y 6 2; r+ = numberAt y 8 2; r- = numberAt y 10 2 }
 
 unfoldable pub isZero : Row → Bool
 isZero r = eqb (r .e+) 0 && eqb (r .e-) 0 && eqb (r .r+) 0 && eqb (r .r-) 0
@@ -100,12 +87,8 @@ unfoldable pub keptWith : (ℕ → List Row) → ℕ → Row → ℕ → List Ro
 keptWith kept i r j = cond (eqb j i) (kept j ++ (r ∷ [])) (kept j)
 
 -- an answer and the book after it
-pub record Entry : Type 0 where
-  pub answer : Answer
-  pub book : Book
-
-abbrev pub entry : Answer → OpenAsk → (ℕ → List Row) → Entry
-entry a held kept = record { answer = a; book = record { held = held; kept = kept } }
+abbrev pub entry : Answer → OpenAsk → (ℕ → List Row) → Outcome Answer Book
+entry a held kept = outcome a (record { held = held; kept = kept })
 
 -- "25 if nonzero and unlike that interval's first nonzero one, else 0"
 abbrev pub keptAnswer : First → Row → ℕ
@@ -113,62 +96,45 @@ keptAnswer none r = 0
 keptAnswer (counts q) r = cond (not (isZero r) && not (alike q r)) 25 0
 
 -- a reply with result 0 "is kept for the ask's interval"
-unfoldable pub keepReply : (ℕ → List Row) → ℕ → Row → Entry
+unfoldable pub keepReply : (ℕ → List Row) → ℕ → Row → Outcome Answer Book
 unfolding keptWith
 keepReply kept i r = entry (plain (keptAnswer (firstOf (kept i)) r)) Closed (keptWith kept i r)
 
--- "Else the ask closes: a result other than 0 gets 24 with that result; any other reply is kept"
-unfoldable pub closeAsk : Header → (ℕ → List Row) → ℕ → ℕ → List ℕ → Entry
+-- "A reply gets 20 with none open. If it isn't well formed it gets 23, and the ask stays. Else the ask closes: a result other than 0
+-- gets 24 with that result; any other reply is kept for the ask's interval"
+unfoldable pub bookReply : Header → OpenAsk → (ℕ → List Row) → List ℕ → Outcome Answer Book
 unfolding keepReply
-closeAsk h kept day slot y =
-    cond (eqb (byteAt y 3) 0)
-    (keepReply kept (placeOf h day slot) (rowOf y))
-    (entry (record { number = 24; result = byteAt y 3 }) Closed kept)
-
-unfoldable pub formed : Form → Header → (ℕ → List Row) → ℕ → ℕ → ℕ → List ℕ → Entry
-unfolding closeAsk
-formed WellFormed h kept a day slot y = closeAsk h kept day slot y
-formed (Faulty fault) h kept a day slot y = entry (plain 23) (Open a day slot) kept
-
--- "A reply gets 20 with none open. If it isn't well formed it gets 23, and the ask stays."
-unfoldable pub bookReply : Header → OpenAsk → (ℕ → List Row) → List ℕ → Entry
-unfolding formed
-bookReply h Closed kept y = entry (plain 20) Closed kept
-bookReply h (Open a day slot) kept y = formed (formOf a slice 14 y) h kept a day slot y
-
-unfoldable pub opened : Interval → ℕ → ℕ → ℕ → (ℕ → List Row) → Entry
-opened interval.Outside a day slot kept = entry (plain 22) Closed kept
-opened (interval.At i) a day slot kept = entry (plain 0) (Open a day slot) kept
-
-unfoldable pub askedWith : OpenAsk → Header → ℕ → ℕ → ℕ → (ℕ → List Row) → Entry
-unfolding opened
-askedWith (Open a d s) h address day slot kept = entry (plain 21) (Open a d s) kept
-askedWith Closed h address day slot kept = opened (intervalOf h day slot) address day slot kept
+bookReply h held kept y =
+    ifOpen held (entry (plain 20) held kept) (λ address day slot.
+    ifFormed (sliceForm address y) (λ fault. entry (plain 23) held kept) (
+    ifOk (resultOf y) (entry (record { number = 24; result = resultOf y }) Closed kept) (
+    keepReply kept (placeOf h day slot) (rowOf y))))
 
 -- "An ask gets 1, 21 or 22 by the table, else 0 and opens."
-unfoldable pub bookAsk : Header → OpenAsk → (ℕ → List Row) → ℕ → ℕ → ℕ → List ℕ → Entry
-unfolding askedWith
-bookAsk h held kept address day slot out = cond (ltb (length out) 8) (entry (plain 1) held kept) (askedWith held h address day slot kept)
+unfoldable pub bookAsk : Header → OpenAsk → (ℕ → List Row) → ℕ → ℕ → ℕ → List ℕ → Outcome Answer Book
+bookAsk h held kept address day slot out =
+    cond (ltb (length out) readSize) (entry (plain 1) held kept) (
+    ifNone held (entry (plain 21) held kept) (
+    ifAt (intervalOf h day slot) (entry (plain 22) held kept) (λ i.
+    entry (plain 0) (Open address day slot) kept)))
 
 -- one call; "A lapse gets 0, and none is open."
-unfoldable pub bookStep : Header → Book → Call → Entry
+unfoldable pub bookStep : Header → Book → Call → Outcome Answer Book
 unfolding bookAsk bookReply
 bookStep h b (ask address day slot out) = bookAsk h (b .held) (b .kept) address day slot out
 bookStep h b lapse = entry (plain 0) Closed (b .kept)
 bookStep h b (reply y) = bookReply h (b .held) (b .kept) y
 
--- the book of a list of calls, and its answers
-pub record BookRun : Type 0 where
-  pub answers : List Answer
-  pub book : Book
+-- a list of calls, each with what the one before it left: all answers, and what is left in the end
+unfoldable pub runOf : {S : Type 0} → (S → Call → Outcome Answer S) → S → List Call → Outcome (List Answer) S
+runOf step s [] = outcome [] s
+runOf step s (c ∷ cs) =
+    let o = step s c in
+    let rest = runOf step (o .left) cs in
+    outcome (o .result ∷ rest .result) (rest .left)
 
-unfoldable pub bookRun : Header → Book → List Call → BookRun
-unfolding bookStep
-bookRun h b [] = record { answers = []; book = b }
-bookRun h b (c ∷ cs) =
-    let e = bookStep h b c in
-    let rest = bookRun h (e .book) cs in
-    record { answers = e .answer ∷ rest .answers; book = rest .book }
+abbrev pub bookRun : Header → Book → List Call → Outcome (List Answer) Book
+bookRun h b calls = runOf (bookStep h) b calls
 
 -- ---- the log that the book's replies give
 
@@ -176,3 +142,15 @@ bookRun h b (c ∷ cs) =
 unfoldable pub workedOut : (ℕ → List Row) → ℕ → ℕ → List Cell
 workedOut kept i zero = []
 workedOut kept i (suc n) = afresh (kept i) ∷ workedOut kept (suc i) n
+
+-- ---- any call
+
+-- the bytes that a call is lent are bytes
+abbrev pub CallBytes : Call → Type 0
+CallBytes (ask address day slot out) = Unit
+CallBytes lapse = Unit
+CallBytes (reply y) = Bytes y
+
+abbrev pub AllBytes : List Call → Type 0
+AllBytes [] = Unit
+AllBytes (c ∷ calls) = CallBytes c × AllBytes calls

@@ -1,7 +1,6 @@
+pub mod Held
 pub mod Ask
-pub mod AskLaws
+pub mod Reply
 pub mod Book
-pub mod BookLaws
-pub mod Run
-pub mod StepLaws
 pub mod Take
+pub mod Run

@@ -1,12 +1,13 @@
 -- A list of calls, run: each call gets log and open ask as the one before left them (demand 3). The steps are the very definitions that
 -- the contracts of `put_ask`, `lapse` and `take_reply` cite.
-use mathlib.Core.List.{List, [], _∷_}
+use mathlib.Core.List.{List}
 use Prim.Native.Nat.{ℕ}
+use Rattle.refusal.specs.Outcome.{Outcome, outcome}
 use Rattle.logger.specs.Ask as Ask
+use Rattle.logger.specs.Held.{lapsed}
 use Rattle.logger.specs.Take as Take
-use Rattle.logger.specs.Book.{Call, ask, lapse, reply, Answer, plain}
+use Rattle.logger.specs.Book.{Call, ask, lapse, reply, Answer, plain, runOf}
 use Rattle.logger.specs.declared.held.OpenAsk.{OpenAsk}
-use Rattle.logger.specs.declared.held.OpenAsk.the-variants.{Closed}
 use Rattle.logger.specs.declared.take.TakeAnswer.{TakeAnswer}
 use Rattle.logger.specs.declared.take.TakeAnswer.the-variants.{Done, NoAskOpen, NotInLog, Malformed, MeterRefused, OtherCounts, Unsound}
 
@@ -25,30 +26,16 @@ takeAnswer (MeterRefused result) = record { number = Take.numberOf (MeterRefused
 takeAnswer OtherCounts = plain (Take.numberOf OtherCounts)
 takeAnswer Unsound = plain (Take.numberOf Unsound)
 
--- an answer and the state after it
-pub record Step : Type 0 where
-  pub answer : Answer
-  pub state : State
-
--- one call, by the definition that its contract cites
-unfoldable pub step : State → Call → Step
+-- one call, by the definition that its contract cites: its answer and the state after it
+unfoldable pub step : State → Call → Outcome Answer State
 step s (ask address day slot out) =
     let o = Ask.asked (s .log) (s .held) address day slot out in
-    record { answer = plain (Ask.numberOf (o .result .answer)); state = record { log = s .log; held = o .result .held } }
-step s lapse = record { answer = plain 0; state = record { log = s .log; held = Closed } }
+    outcome (plain (Ask.numberOf (o .result .answer))) (record { log = s .log; held = o .result .held })
+step s lapse = outcome (plain 0) (record { log = s .log; held = lapsed (s .held) })
 step s (reply y) =
     let o = Take.taken (s .log) (s .held) y in
-    record { answer = takeAnswer (o .result .answer); state = record { log = o .log; held = o .result .held } }
-
-pub record Run : Type 0 where
-  pub answers : List Answer
-  pub state : State
+    outcome (takeAnswer (o .result .answer)) (record { log = o .left; held = o .result .held })
 
 -- a list of calls
-unfoldable pub run : State → List Call → Run
-unfolding step
-run s [] = record { answers = []; state = s }
-run s (c ∷ cs) =
-    let e = step s c in
-    let rest = run (e .state) cs in
-    record { answers = e .answer ∷ rest .answers; state = rest .state }
+abbrev pub run : State → List Call → Outcome (List Answer) State
+run s calls = runOf step s calls

@@ -5,42 +5,27 @@ use mathlib.Core.Bool.{Bool, cond, _&&_}
 use mathlib.Core.List.{List}
 use Prim.Native.Nat.{ℕ}
 use lib.Dec.{eqb}
-use Rattle.words.specs.Place.{byteAt, numberAt}
-use Rattle.frame.specs.Code.{slice}
-use Rattle.reader.specs.Form.{formOf}
-use Rattle.reader.specs.declared.form.Form.{Form}
-use Rattle.reader.specs.declared.form.Form.the-variants.{WellFormed, Faulty}
-use Rattle.log.specs.Header.{soundOf}
-use Rattle.log.specs.Cell.{noCounts}
-use Rattle.log.specs.Image.{cellAt, putCell}
-use Rattle.log.specs.Interval.{intervalOf}
-use Rattle.log.specs.declared.header.Header.{Header}
-use Rattle.log.specs.declared.header.Lent.{Lent}
-use Rattle.log.specs.declared.header.Lent.the-variants as lent
-use Rattle.log.specs.declared.interval.Interval.{Interval}
-use Rattle.log.specs.declared.interval.Interval.the-variants as interval
+use Rattle.refusal.specs.Outcome.{Outcome, outcome}
+use Rattle.log.specs.Header.{soundOf, ifSound}
+use Rattle.log.specs.Cell.{noCounts, ifGood}
+use Rattle.log.specs.Image.{cellAt, applied}
+use Rattle.log.specs.Interval.{intervalOf, ifAt}
 use Rattle.log.specs.declared.cell.Cell.{Cell}
 use Rattle.log.specs.declared.cell.Cell.the-variants as cell
-use Rattle.log.specs.declared.cell.CellAnswer.{CellAnswer}
-use Rattle.log.specs.declared.cell.CellAnswer.the-variants as read
+use Rattle.log.specs.declared.image.Change.{Change}
+use Rattle.log.specs.declared.image.Change.the-variants as change
+use Rattle.logger.specs.Held.{ifOpen}
+use Rattle.logger.specs.Reply.{sliceForm, ifFormed, resultOf, ifOk, Row, rowOf}
+use Rattle.logger.specs.declared.take.Decision.{Decision}
 use Rattle.logger.specs.declared.take.TakeAnswer.{TakeAnswer}
 use Rattle.logger.specs.declared.take.TakeAnswer.the-variants.{Done, NoAskOpen, NotInLog, Malformed, MeterRefused, OtherCounts, Unsound}
 use Rattle.logger.specs.declared.take.Taken.{Taken}
 use Rattle.logger.specs.declared.take.Update.{Update}
 use Rattle.logger.specs.declared.take.Update.the-variants.{Put, Keep, Conflict}
 use Rattle.logger.specs.declared.held.OpenAsk.{OpenAsk}
-use Rattle.logger.specs.declared.held.OpenAsk.the-variants.{Closed, Open}
+use Rattle.logger.specs.declared.held.OpenAsk.the-variants.{Closed}
 
--- an answer, the ask left open, and the log after it
-pub record Outcome : Type 0 where
-  pub result : Taken
-  pub log : List ℕ
-
-abbrev pub outcome : Taken → List ℕ → Outcome
-outcome r s = record { result = r; log = s }
-
-abbrev pub answered : TakeAnswer → OpenAsk → List ℕ → Outcome
-answered a held s = record { result = record { answer = a; held = held }; log = s }
+-- ---- what counts do to a cell
 
 -- whether four counts are those of another four
 unfoldable pub sameCounts : ℕ → ℕ → ℕ → ℕ → ℕ → ℕ → ℕ → ℕ → Bool
@@ -54,65 +39,46 @@ filled e+ e- r+ r- = cond (noCounts e+ e- r+ r-) (Put cell.Empty) (Put (cell.Mea
 abbrev pub compared : ℕ → ℕ → ℕ → ℕ → ℕ → ℕ → ℕ → ℕ → Update
 compared a b c d e+ e- r+ r- = cond (noCounts e+ e- r+ r-) Keep (cond (sameCounts a b c d e+ e- r+ r-) Keep Conflict)
 
--- what a reply's counts do to a cell
-unfoldable pub updateOf : Cell → ℕ → ℕ → ℕ → ℕ → Update
-updateOf cell.Gap e+ e- r+ r- = filled e+ e- r+ r-
-updateOf cell.Empty e+ e- r+ r- = filled e+ e- r+ r-
-updateOf (cell.Measured a b c d) e+ e- r+ r- = compared a b c d e+ e- r+ r-
+unfoldable pub updateOf : Cell → Row → Update
+updateOf cell.Gap r = filled (r .e+) (r .e-) (r .r+) (r .r-)
+updateOf cell.Empty r = filled (r .e+) (r .e-) (r .r+) (r .r-)
+updateOf (cell.Measured a b c d) r = compared a b c d (r .e+) (r .e-) (r .r+) (r .r-)
 
-unfoldable pub updated : Update → List ℕ → ℕ → Outcome
-updated (Put c) s i = answered Done Closed (putCell s i c)
-updated Keep s i = answered Done Closed s
-updated Conflict s i = answered OtherCounts Closed s
+-- ---- what a reply comes to: the answer, the ask left open, and what it does to the log
 
-unfoldable pub cellTaken : CellAnswer → List ℕ → ℕ → OpenAsk → ℕ → ℕ → ℕ → ℕ → Outcome
-unfolding updateOf updated
-cellTaken read.Bad s i held e+ e- r+ r- = answered Unsound held s
-cellTaken (read.Good c) s i held e+ e- r+ r- = updated (updateOf c e+ e- r+ r-) s i
+-- refused, and all stays as it was
+abbrev pub stays : TakeAnswer → OpenAsk → Decision
+stays a held = record { taken = record { answer = a; held = held }; change = change.None }
 
--- counts for cell i: 28 where the cell is bad, else what they do to it
-unfoldable pub takenCounts : List ℕ → ℕ → OpenAsk → ℕ → ℕ → ℕ → ℕ → Outcome
-unfolding cellTaken
-takenCounts s i held e+ e- r+ r- = cellTaken (cellAt s i) s i held e+ e- r+ r-
+-- the ask is closed
+abbrev pub closes : TakeAnswer → Change → Decision
+closes a done = record { taken = record { answer = a; held = Closed }; change = done }
 
--- a well-formed reply: 24 with the meter's result closes the ask; else its counts are taken
-unfoldable pub takenSound : List ℕ → ℕ → OpenAsk → List ℕ → Outcome
-unfolding takenCounts
-takenSound s i held y =
-    cond (eqb (byteAt y 3) 0)
-    (takenCounts s i held (numberAt y 4 2) (numberAt y 6 2) (numberAt y 8 2) (numberAt y 10 2))
-    (answered (MeterRefused (byteAt y 3)) Closed s)
+unfoldable pub updated : Update → ℕ → Decision
+updated (Put c) i = closes Done (change.Put i c)
+updated Keep i = closes Done change.None
+updated Conflict i = closes OtherCounts change.None
 
-unfoldable pub formTaken : Form → List ℕ → ℕ → OpenAsk → List ℕ → Outcome
-unfolding takenSound
-formTaken WellFormed s i held y = takenSound s i held y
-formTaken (Faulty fault) s i held y = answered (Malformed fault) held s
+-- the checks, one below the other: 28 (header, length), 20, 22, 23, 24, 28 (the cell), and then 25 or 0
+unfoldable pub decided : List ℕ → OpenAsk → List ℕ → Decision
+unfolding updateOf updated rowOf
+decided s held y =
+    ifSound (soundOf s) (stays Unsound held) (λ h.
+    ifOpen held (stays NoAskOpen held) (λ address day slot.
+    ifAt (intervalOf h day slot) (stays NotInLog held) (λ i.
+    ifFormed (sliceForm address y) (λ fault. stays (Malformed fault) held) (
+    ifOk (resultOf y) (closes (MeterRefused (resultOf y)) change.None) (
+    ifGood (cellAt s i) (stays Unsound held) (λ c.
+    updated (updateOf c (rowOf y)) i))))))
 
--- a reply for cell i: 23 where it is not well formed, and the ask stays
-unfoldable pub takenAt : List ℕ → ℕ → ℕ → OpenAsk → List ℕ → Outcome
-unfolding formTaken
-takenAt s i address held y = formTaken (formOf address slice 14 y) s i held y
+-- what was decided, done to the log
+abbrev pub done : Decision → List ℕ → Outcome Taken (List ℕ)
+done d s = outcome (d .taken) (applied (d .change) s)
 
-unfoldable pub slotTaken : Interval → List ℕ → ℕ → OpenAsk → List ℕ → Outcome
-unfolding takenAt
-slotTaken interval.Outside s address held y = answered NotInLog held s
-slotTaken (interval.At i) s address held y = takenAt s i address held y
-
--- 20 with none open, 22 where the interval is not in the log
-unfoldable pub takenOpen : Header → List ℕ → OpenAsk → List ℕ → Outcome
-unfolding slotTaken
-takenOpen h s Closed y = answered NoAskOpen Closed s
-takenOpen h s (Open address day slot) y = slotTaken (intervalOf h day slot) s address (Open address day slot) y
-
-unfoldable pub logTaken : Lent → List ℕ → OpenAsk → List ℕ → Outcome
-unfolding takenOpen
-logTaken lent.Unsound s held y = answered Unsound held s
-logTaken (lent.Sound h) s held y = takenOpen h s held y
-
--- taking a reply: 28, 20, 22, 23, 24, 28, 25 or 0
-unfoldable pub taken : List ℕ → OpenAsk → List ℕ → Outcome
-unfolding logTaken
-taken s held y = logTaken (soundOf s) s held y
+-- taking a reply
+unfoldable pub taken : List ℕ → OpenAsk → List ℕ → Outcome Taken (List ℕ)
+unfolding decided
+taken s held y = done (decided s held y) s
 
 -- document 01's numbers
 abbrev pub numberOf : TakeAnswer → ℕ

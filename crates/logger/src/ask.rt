@@ -1,6 +1,7 @@
 // Asking for an interval.
 use crate::held::OpenAsk;
 use frame::code;
+use frame::layout::READ_BYTES;
 use log::DayAnswer;
 use log::Header;
 use log::Interval;
@@ -10,10 +11,12 @@ ghost use mathlib.Core.Path.{_≡_};
 ghost use mathlib.Core.Bool.{true};
 ghost use Prim.Native.Nat.{_≤_, _<_};
 ghost use lib.ListN.{length};
+ghost use Rattle.refusal.specs.Outcome.{outcome};
+ghost use Rattle.frame.specs.Layout.{readSize};
 ghost use Rattle.slots.specs.Day.{slotsOf};
 ghost use Rattle.log.specs.Header.{isHeader};
 ghost use Rattle.words.specs.Place.{written};
-ghost use Rattle.logger.specs.Ask.{outcome, asked, askedOf, askedSlot, askFrame, numberOf};
+ghost use Rattle.logger.specs.Ask.{asked, askFrame, numberOf};
 
 pub enum AskAnswer {
     Done,
@@ -44,58 +47,32 @@ impl AskAnswer {
     }
 }
 
-const REQUEST_BYTES: usize = 8;
-
 // Opens an ask for a slot of a day, counted from 0, and puts its frame to the front of a lent output.
 pub fn put_ask(log: &[u8], held: OpenAsk, address: u8, day: u8, slot: u8, out: &mut [u8]) -> Asked
     ensures { λ r. ⌜ outcome r (now (out .exit)) ≡ asked (now (log .entry)) held address day slot (now (out .entry)) ⌝ }
 {
-    if out.len() < REQUEST_BYTES {
-        return Asked {
-            answer: AskAnswer::TooShort,
-            held: held,
-        };
+    if out.len() < READ_BYTES {
+        return answered(AskAnswer::TooShort, held);
     }
-    match log::sound(log) {
-        Lent::Unsound => Asked {
-            answer: AskAnswer::Unsound,
-            held: held,
-        },
-        Lent::Sound(h) => ask_of(h, held, address, day, slot, out),
-    }
+    let Lent::Sound(h) = log::sound(log) else {
+        return answered(AskAnswer::Unsound, held);
+    };
+    let OpenAsk::Closed = held else {
+        return answered(AskAnswer::AlreadyOpen, held);
+    };
+    let Interval::At(_) = log::interval_of(h, day, slot) else {
+        return answered(AskAnswer::NotInLog, held);
+    };
+    put_slot(h, address, day, slot, out);
+    answered(AskAnswer::Done, OpenAsk::Open(address, day, slot))
 }
 
-fn ask_of(h: Header, held: OpenAsk, address: u8, day: u8, slot: u8, out: &mut [u8]) -> Asked
-    requires { ⌜ isHeader h ≡ true ⌝ }
-    requires { ⌜ 8 ≤ length (now out) ⌝ }
-    ensures { λ r. ⌜ outcome r (now (out .exit)) ≡ askedOf h held address day slot (now (out .entry)) ⌝ }
+fn answered(answer: AskAnswer, held: OpenAsk) -> Asked
+    ensures { λ r. ⌜ r ≡ record { answer = answer; held = held } ⌝ }
 {
-    match held {
-        OpenAsk::Closed => ask_slot(h, address, day, slot, out),
-        OpenAsk::Open(_, _, _) => Asked {
-            answer: AskAnswer::AlreadyOpen,
-            held: held,
-        },
-    }
-}
-
-fn ask_slot(h: Header, address: u8, day: u8, slot: u8, out: &mut [u8]) -> Asked
-    requires { ⌜ isHeader h ≡ true ⌝ }
-    requires { ⌜ 8 ≤ length (now out) ⌝ }
-    ensures { λ r. ⌜ outcome r (now (out .exit)) ≡ askedSlot h address day slot (now (out .entry)) ⌝ }
-{
-    match log::interval_of(h, day, slot) {
-        Interval::Outside => Asked {
-            answer: AskAnswer::NotInLog,
-            held: OpenAsk::Closed,
-        },
-        Interval::At(_) => {
-            put_slot(h, address, day, slot, out);
-            Asked {
-                answer: AskAnswer::Done,
-                held: OpenAsk::Open(address, day, slot),
-            }
-        }
+    Asked {
+        answer: answer,
+        held: held,
     }
 }
 
@@ -103,7 +80,7 @@ fn put_slot(h: Header, address: u8, day: u8, slot: u8, out: &mut [u8])
     requires { ⌜ isHeader h ≡ true ⌝ }
     requires { ⌜ day < h .days ⌝ }
     requires { ⌜ slot < slotsOf (h .minutes) ⌝ }
-    requires { ⌜ 8 ≤ length (now out) ⌝ }
+    requires { ⌜ readSize ≤ length (now out) ⌝ }
     ensures { λ _. ⌜ now (out .exit) ≡ written (now (out .entry)) 0 (askFrame h address day slot) ⌝ }
 {
     match log::date_of(h, day) {

@@ -1,6 +1,6 @@
 // The open ask.
 ghost use mathlib.Core.Path.{_≡_};
-ghost use Rattle.logger.specs.declared.held.OpenAsk.the-variants.{Closed};
+ghost use Rattle.logger.specs.Held.{lapsed};
 
 pub enum OpenAsk {
     Closed,
@@ -10,7 +10,7 @@ pub enum OpenAsk {
 
 // A lapse closes the open ask; with none open it does nothing. It always answers 0.
 pub fn lapse(held: OpenAsk) -> OpenAsk
-    ensures { λ r. ⌜ r ≡ Closed ⌝ }
+    ensures { λ r. ⌜ r ≡ lapsed held ⌝ }
 {
     match held {
         OpenAsk::Closed => OpenAsk::Closed,

@@ -1,15 +1,18 @@
 // Taking a reply for the open ask.
 use crate::held::OpenAsk;
 use frame::code;
+use frame::layout;
 use log::Cell;
 use log::CellAnswer;
-use log::Header;
+use log::Change;
 use log::Interval;
 use log::Lent;
 use reader::Fault;
 use reader::Form;
 ghost use mathlib.Core.Path.{_≡_};
-ghost use Rattle.logger.specs.Take.{outcome, taken, takenOpen, takenAt, takenSound, takenCounts, updateOf, updated, filled, compared, sameCounts, numberOf};
+ghost use Rattle.refusal.specs.Outcome.{outcome};
+ghost use Rattle.logger.specs.Reply.{row};
+ghost use Rattle.logger.specs.Take.{taken, decided, stays, closes, updated, updateOf, filled, compared, sameCounts, numberOf};
 
 pub enum TakeAnswer {
     Done,
@@ -27,6 +30,12 @@ pub enum TakeAnswer {
 pub struct Taken {
     pub answer: TakeAnswer,
     pub held: OpenAsk,
+}
+
+// What a reply comes to: what is answered, and what is done to the log.
+pub struct Decision {
+    pub taken: Taken,
+    pub change: Change,
 }
 
 // What a reply does to a cell.
@@ -53,113 +62,84 @@ impl TakeAnswer {
     }
 }
 
-// The bytes of a whole reply about a slice, and where its result and its counts stand.
-const SLICE_REPLY: usize = 14;
-
-const RESULT: usize = 3;
-
 // Takes a reply for the open ask into the log.
 pub fn take_reply(log: &mut [u8], held: OpenAsk, reply: &[u8]) -> Taken
     ensures { λ r. ⌜ outcome r (now (log .exit)) ≡ taken (now (log .entry)) held (now (reply .entry)) ⌝ }
 {
-    match log::sound(log) {
-        Lent::Unsound => Taken {
-            answer: TakeAnswer::Unsound,
-            held: held,
-        },
-        Lent::Sound(h) => take_open(h, log, held, reply),
-    }
+    let decided = decided(log, held, reply);
+    let change = decided.change;
+    log::apply(log, change);
+    decided.taken
 }
 
-fn take_open(h: Header, log: &mut [u8], held: OpenAsk, reply: &[u8]) -> Taken
-    ensures { λ r. ⌜ outcome r (now (log .exit)) ≡ takenOpen h (now (log .entry)) held (now (reply .entry)) ⌝ }
+// What the reply comes to, check after check. The log is only read.
+fn decided(log: &[u8], held: OpenAsk, reply: &[u8]) -> Decision
+    ensures { λ r. ⌜ r ≡ decided (now (log .entry)) held (now (reply .entry)) ⌝ }
 {
-    match held {
-        OpenAsk::Closed => Taken {
-            answer: TakeAnswer::NoAskOpen,
-            held: held,
-        },
-        OpenAsk::Open(address, day, slot) => match log::interval_of(h, day, slot) {
-            Interval::Outside => Taken {
-                answer: TakeAnswer::NotInLog,
-                held: held,
-            },
-            Interval::At(i) => take_at(log, i, address, OpenAsk::Open(address, day, slot), reply),
-        },
+    let Lent::Sound(h) = log::sound(log) else {
+        return stays(TakeAnswer::Unsound, held);
+    };
+    let OpenAsk::Open(address, day, slot) = held else {
+        return stays(TakeAnswer::NoAskOpen, held);
+    };
+    let Interval::At(i) = log::interval_of(h, day, slot) else {
+        return stays(TakeAnswer::NotInLog, held);
+    };
+    if let Form::Faulty(fault) = reader::form_of(address, code::SLICE, layout::SLICE_REPLY, reply) {
+        return stays(TakeAnswer::Malformed(fault), held);
     }
-}
-
-fn take_at(log: &mut [u8], i: usize, address: u8, held: OpenAsk, reply: &[u8]) -> Taken
-    ensures { λ r. ⌜ outcome r (now (log .exit)) ≡ takenAt (now (log .entry)) i address held (now (reply .entry)) ⌝ }
-{
-    match reader::form_of(address, code::SLICE, SLICE_REPLY, reply) {
-        Form::Faulty(fault) => Taken {
-            answer: TakeAnswer::Malformed(fault),
-            held: held,
-        },
-        Form::WellFormed => take_sound(log, i, held, reply),
-    }
-}
-
-// A reply that is well formed.
-fn take_sound(log: &mut [u8], i: usize, held: OpenAsk, reply: &[u8]) -> Taken
-    ensures { λ r. ⌜ outcome r (now (log .exit)) ≡ takenSound (now (log .entry)) i held (now (reply .entry)) ⌝ }
-{
-    let result = words::byte_at(reply, RESULT);
+    let result = words::byte_at(reply, layout::RESULT);
     if result != code::OK {
-        return Taken {
-            answer: TakeAnswer::MeterRefused(result),
-            held: OpenAsk::Closed,
-        };
+        return closes(TakeAnswer::MeterRefused(result), Change::None);
     }
-    take_counts(
-        log,
-        i,
-        held,
-        words::u16_at(reply, 4),
-        words::u16_at(reply, 6),
-        words::u16_at(reply, 8),
-        words::u16_at(reply, 10),
-    )
+    let CellAnswer::Good(cell) = log::cell_at(log, i) else {
+        return stays(TakeAnswer::Unsound, held);
+    };
+    let ep = words::u16_at(reply, layout::DATA);
+    let em = words::u16_at(reply, layout::DATA + 2);
+    let rp = words::u16_at(reply, layout::DATA + 4);
+    let rm = words::u16_at(reply, layout::DATA + 6);
+    updated(update_of(cell, ep, em, rp, rm), i)
 }
 
-fn take_counts(log: &mut [u8], i: usize, held: OpenAsk, ep: u16, em: u16, rp: u16, rm: u16) -> Taken
-    ensures { λ r. ⌜ outcome r (now (log .exit)) ≡ takenCounts (now (log .entry)) i held ep em rp rm ⌝ }
+// Refused, and all stays as it was.
+fn stays(answer: TakeAnswer, held: OpenAsk) -> Decision
+    ensures { λ r. ⌜ r ≡ stays answer held ⌝ }
 {
-    match log::cell_at(log, i) {
-        CellAnswer::Bad => Taken {
-            answer: TakeAnswer::Unsound,
+    Decision {
+        taken: Taken {
+            answer: answer,
             held: held,
         },
-        CellAnswer::Good(cell) => updated(log, i, update_of(cell, ep, em, rp, rm)),
+        change: Change::None,
     }
 }
 
-// What the reply does to the cell is done, and the ask is closed.
-fn updated(log: &mut [u8], i: usize, update: Update) -> Taken
-    ensures { λ r. ⌜ outcome r (now (log .exit)) ≡ updated update (now (log .entry)) i ⌝ }
+// The ask is closed.
+fn closes(answer: TakeAnswer, change: Change) -> Decision
+    ensures { λ r. ⌜ r ≡ closes answer change ⌝ }
+{
+    Decision {
+        taken: Taken {
+            answer: answer,
+            held: OpenAsk::Closed,
+        },
+        change: change,
+    }
+}
+
+fn updated(update: Update, i: usize) -> Decision
+    ensures { λ r. ⌜ r ≡ updated update i ⌝ }
 {
     match update {
-        Update::Put(new) => {
-            log::put_cell(log, i, new);
-            Taken {
-                answer: TakeAnswer::Done,
-                held: OpenAsk::Closed,
-            }
-        }
-        Update::Keep => Taken {
-            answer: TakeAnswer::Done,
-            held: OpenAsk::Closed,
-        },
-        Update::Conflict => Taken {
-            answer: TakeAnswer::OtherCounts,
-            held: OpenAsk::Closed,
-        },
+        Update::Put(new) => closes(TakeAnswer::Done, Change::Put(i, new)),
+        Update::Keep => closes(TakeAnswer::Done, Change::None),
+        Update::Conflict => closes(TakeAnswer::OtherCounts, Change::None),
     }
 }
 
 fn update_of(cell: Cell, ep: u16, em: u16, rp: u16, rm: u16) -> Update
-    ensures { λ r. ⌜ r ≡ updateOf cell ep em rp rm ⌝ }
+    ensures { λ r. ⌜ r ≡ updateOf cell (row ep em rp rm) ⌝ }
 {
     match cell {
         Cell::Gap => filled_with(ep, em, rp, rm),

@@ -2,26 +2,19 @@
 use mathlib.Core.Bool.{cond}
 use mathlib.Core.List.{List}
 use Prim.Native.Nat.{ℕ}
+use Rattle.refusal.specs.Outcome.{Outcome, outcome}
 use Rattle.slots.specs.Day.{slotsOf}
 use Rattle.slots.specs.Key.{isLegal}
 use Rattle.slots.specs.declared.key.Key.{Key}
-use Rattle.store.specs.Store.{putStore, putNext}
+use Rattle.meter_store.specs.Store.{putStore, putNext}
 use Rattle.meter_record.specs.declared.record.Record.{Record}
 use Rattle.meter_record.specs.declared.record.RecordAnswer.{RecordAnswer}
 use Rattle.meter_record.specs.declared.record.RecordAnswer.the-variants.{Done, OutOfRange, Unsound}
 use Rattle.meter.specs.Reply.{isSound}
 use Rattle.meter_record.specs.With.{withNext}
 
--- an answer, and what the store then holds
-pub record Outcome : Type 0 where
-  pub answer : RecordAnswer
-  pub store : List ℕ
-
-abbrev pub outcome : RecordAnswer → List ℕ → Outcome
-outcome a s = record { answer = a; store = s }
-
 -- 28, then 27 for an illegal key
-unfoldable pub slicePut : Record → List ℕ → Key → List ℕ → Outcome
+unfoldable pub slicePut : Record → List ℕ → Key → List ℕ → Outcome RecordAnswer (List ℕ)
 slicePut r s k row =
     cond (isSound r s)
     (cond (isLegal k (slotsOf (r .minutes)))

@@ -1,19 +1,21 @@
 -- What a command that is done leaves behind. Source: document 01, "Protection": "each accepted one, and each right password, which sets its
 -- own level, starts the 240 again"; "Slices": "Zeroing makes all unused".
-use mathlib.Core.Bool.{Bool, true, false, cond}
+use mathlib.Core.Bool.{Bool, false, cond}
 use mathlib.Core.List.{List}
 use Prim.Native.Nat.{ℕ}
+use lib.Dec.{eqb}
+use Rattle.frame.specs.Code.{slice}
+use Rattle.frame.specs.Table.{codeOf}
 use Rattle.frame.specs.declared.code.Function.{Function}
-use Rattle.frame.specs.declared.code.Function.the-variants as function
 use Rattle.frame.specs.declared.code.Parameter.{Parameter}
-use Rattle.frame.specs.declared.code.Parameter.the-variants as parameter
-use Rattle.second.specs.Protection.{shut, opened}
-use Rattle.store.specs.Store.{cleared}
+use Rattle.meter_clock.specs.Protection.{shut, opened}
+use Rattle.meter_store.specs.Store.{cleared}
 use Rattle.meter_record.specs.declared.record.Record.{Record}
-use Rattle.command.specs.Access.{levelFor}
+use Rattle.meter_command.specs.Access.{levelFor}
 use Rattle.meter_record.specs.With.{withProtection}
-use Rattle.command.specs.Change.{changed, zeroed}
-use Rattle.command.specs.Parts.{functionIn, parameterIn, detailIn}
+use Rattle.meter_command.specs.Change.{changed, zeroed}
+use Rattle.meter_command.specs.Parts.{functionIn, parameterIn, detailIn}
+use Rattle.frame.specs.declared.code.Function.the-variants as function
 
 -- the level stays, and has all its seconds
 abbrev pub renewed : Record → Record
@@ -33,18 +35,7 @@ unfolding afterBy
 afterOf r f = afterBy (functionIn f) r f
 
 abbrev pub isSlice : Parameter → Bool
-isSlice parameter.Slice = true
-isSlice parameter.ActivePower = false
-isSlice parameter.ReactivePower = false
-isSlice parameter.Address = false
-isSlice parameter.Telemetry = false
-isSlice parameter.SummerDate = false
-isSlice parameter.WinterDate = false
-isSlice parameter.Clock = false
-isSlice parameter.DisplayMask = false
-isSlice parameter.Password = false
-isSlice parameter.SixSlices = false
-isSlice parameter.Unknown = false
+isSlice p = eqb (codeOf p) slice
 
 unfoldable pub clearsBy : Function → Parameter → Bool
 clearsBy function.Zero p = isSlice p

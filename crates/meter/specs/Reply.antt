@@ -7,18 +7,19 @@ use lib.Dec.{eqb, leb, ltb}
 use lib.ListN.{length}
 use Rattle.words.specs.Place.{byteAt, written}
 use Rattle.frame.specs.Code.{refused as topBit}
+use Rattle.frame.specs.Layout.{addressPlace, functionPlace, dataPlace, longest, bareSize}
 use Rattle.frame.specs.Sealing.{framed, sealed, isSealed}
-use Rattle.store.specs.Store.{storeBytes}
+use Rattle.meter_store.specs.Store.{storeBytes}
 use Rattle.meter_record.specs.Ranges.{isWithin}
 use Rattle.meter_record.specs.declared.record.Record.{Record}
-use Rattle.command.specs.Parts.{parameterByte}
+use Rattle.meter_command.specs.Parts.{parameterByte}
 use Rattle.meter.specs.Effect.{afterOf, storeAfter}
-use Rattle.command.specs.Judgement.{verdictOf}
+use Rattle.meter_command.specs.Judgement.{verdictOf}
 use Rattle.meter_reading.specs.Reading.{dataOf, dataSize}
-use Rattle.command.specs.Verdict.{isDone, resultOf}
+use Rattle.meter_command.specs.Verdict.{isDone, resultOf}
 use Rattle.meter.specs.declared.reply.Answered.{Answered}
-use Rattle.command.specs.declared.verdict.Verdict.{Verdict}
-use Rattle.command.specs.declared.verdict.Verdict.the-variants.{TooShort, Unsound, Silent}
+use Rattle.meter_command.specs.declared.verdict.Verdict.{Verdict}
+use Rattle.meter_command.specs.declared.verdict.Verdict.the-variants.{TooShort, Unsound, Silent}
 
 -- an answer, and what the store and the output then hold
 pub record Outcome : Type 0 where
@@ -35,7 +36,7 @@ isSound r s = eqb (length s) storeBytes && isWithin r
 
 -- "A command with its own address or address 0 is answered"; 2 is for "length, CRC or address wrong"
 abbrev pub heardAt : ℕ → List ℕ → Bool
-heardAt own f = isSealed f && (eqb (byteAt f 0) 0 || eqb (byteAt f 0) own)
+heardAt own f = isSealed f && (eqb (byteAt f addressPlace) 0 || eqb (byteAt f addressPlace) own)
 
 unfoldable pub heard : Record → List ℕ → Bool
 heard r f = heardAt (r .address) f
@@ -47,7 +48,7 @@ functionFor v n = cond (isDone v) n (cond (leb topBit n) n (topBit + n))
 -- "the command's address, function and parameter, then a result byte"
 unfoldable pub headOf : Verdict → List ℕ → List ℕ
 unfolding functionFor
-headOf v f = byteAt f 0 ∷ functionFor v (byteAt f 1) ∷ parameterByte f ∷ resultOf v ∷ []
+headOf v f = byteAt f addressPlace ∷ functionFor v (byteAt f functionPlace) ∷ parameterByte f ∷ resultOf v ∷ []
 
 -- no reply, and nothing changed
 abbrev pub unheard : Verdict → Record → List ℕ → List ℕ → Outcome
@@ -57,21 +58,21 @@ unheard v r s out = outcome (record { verdict = v; length = 0; after = r }) s ou
 abbrev pub done : Verdict → Record → List ℕ → List ℕ → List ℕ → Outcome
 done v r s f out =
     outcome
-    (record { verdict = v; length = 6 + length (dataOf r s f); after = afterOf r f })
+    (record { verdict = v; length = bareSize + length (dataOf r s f); after = afterOf r f })
     (storeAfter s f)
     (written out 0 (framed (headOf v f ++ dataOf r s f)))
 
 -- a refusal frame, and nothing changed
 abbrev pub refused : Verdict → Record → List ℕ → List ℕ → List ℕ → Outcome
-refused v r s f out = outcome (record { verdict = v; length = 6; after = r }) s (written out 0 (framed (headOf v f)))
+refused v r s f out = outcome (record { verdict = v; length = bareSize; after = r }) s (written out 0 (framed (headOf v f)))
 
 -- the same, from an output whose head is written: data behind it, and the CRC behind those
 abbrev pub filled : Verdict → Record → List ℕ → List ℕ → List ℕ → Outcome
 filled v r s f out =
     outcome
-    (record { verdict = v; length = 6 + dataSize f; after = afterOf r f })
+    (record { verdict = v; length = bareSize + dataSize f; after = afterOf r f })
     (storeAfter s f)
-    (sealed (written out 4 (dataOf r s f)) (4 + dataSize f))
+    (sealed (written out dataPlace (dataOf r s f)) (dataPlace + dataSize f))
 
 unfoldable pub replied : Verdict → Record → List ℕ → List ℕ → List ℕ → Outcome
 replied v r s f out = cond (isDone v) (done v r s f out) (refused v r s f out)
@@ -80,7 +81,7 @@ replied v r s f out = cond (isDone v) (done v r s f out) (refused v r s f out)
 unfoldable pub answerOf : Record → List ℕ → List ℕ → List ℕ → Outcome
 unfolding replied
 answerOf r s f out =
-    cond (ltb (length out) 64) (unheard TooShort r s out)
+    cond (ltb (length out) longest) (unheard TooShort r s out)
     (cond (isSound r s)
     (cond (heard r f) (replied (verdictOf r f) r s f out) (unheard Silent r s out))
     (unheard Unsound r s out))

@@ -1,6 +1,9 @@
 // What a command that is done leaves behind: the record after it, and the store.
+use frame::code;
 use frame::code::Function;
 use frame::code::Parameter;
+use frame::layout;
+use frame::table;
 use meter_record::Record;
 ghost use mathlib.Core.Path.{_≡_};
 ghost use Rattle.meter.specs.Effect.{renewed, afterOf, isSlice, clears, storeAfter};
@@ -12,7 +15,7 @@ fn renewed(r: Record) -> Record
     let protection = r.protection;
     let level = protection.level;
     Record {
-        protection: second::opened(level),
+        protection: meter_clock::opened(level),
         ..r
     }
 }
@@ -20,16 +23,19 @@ fn renewed(r: Record) -> Record
 pub fn record_after(r: Record, frame: &[u8]) -> Record
     ensures { λ a. ⌜ a ≡ afterOf r (now (frame .entry)) ⌝ }
 {
-    let p = command::parameter_in(frame);
-    match command::function_in(frame) {
-        Function::Change => renewed(command::changed(p, r, frame)),
-        Function::Zero => renewed(command::zeroed(p, r)),
+    let p = meter_command::parameter_in(frame);
+    match meter_command::function_in(frame) {
+        Function::Change => renewed(meter_command::changed(p, r, frame)),
+        Function::Zero => renewed(meter_command::zeroed(p, r)),
         Function::Unlock => Record {
-            protection: second::opened(command::level_for(words::byte_at(frame, command::DETAIL))),
+            protection: meter_clock::opened(meter_command::level_for(words::byte_at(
+                frame,
+                layout::DETAIL,
+            ))),
             ..r
         },
         Function::Lock => Record {
-            protection: second::shut(),
+            protection: meter_clock::shut(),
             ..r
         },
         Function::Read => r,
@@ -40,28 +46,15 @@ pub fn record_after(r: Record, frame: &[u8]) -> Record
 fn is_slice(p: Parameter) -> bool
     ensures { λ r. ⌜ r ≡ isSlice p ⌝ }
 {
-    match p {
-        Parameter::Slice => true,
-        Parameter::ActivePower => false,
-        Parameter::ReactivePower => false,
-        Parameter::Address => false,
-        Parameter::Telemetry => false,
-        Parameter::SummerDate => false,
-        Parameter::WinterDate => false,
-        Parameter::Clock => false,
-        Parameter::DisplayMask => false,
-        Parameter::Password => false,
-        Parameter::SixSlices => false,
-        Parameter::Unknown => false,
-    }
+    table::code_of(p) == code::SLICE
 }
 
 // Whether a command zeroes the slices.
 fn clears(frame: &[u8]) -> bool
     ensures { λ r. ⌜ r ≡ clears (now (frame .entry)) ⌝ }
 {
-    match command::function_in(frame) {
-        Function::Zero => is_slice(command::parameter_in(frame)),
+    match meter_command::function_in(frame) {
+        Function::Zero => is_slice(meter_command::parameter_in(frame)),
         Function::Read => false,
         Function::Change => false,
         Function::Unlock => false,
@@ -74,6 +67,6 @@ pub fn clear_store(store: &mut [u8], frame: &[u8])
     ensures { λ _. ⌜ now (store .exit) ≡ storeAfter (now (store .entry)) (now (frame .entry)) ⌝ }
 {
     if clears(frame) {
-        store::clear(store);
+        meter_store::clear(store);
     }
 }

@@ -1,16 +1,17 @@
 // The answer to a frame.
 use crate::effect;
-use command::DATA;
-use command::Verdict;
 use frame::code;
+use frame::layout;
+use meter_command::Verdict;
 use meter_record::Record;
 ghost use mathlib.Core.Path.{_≡_};
 ghost use Prim.Native.Nat.{_≤_, _+_};
 ghost use lib.ListN.{length};
 ghost use Rattle.words.specs.Place.{written};
+ghost use Rattle.frame.specs.Layout.{dataPlace, longest};
 ghost use Rattle.frame.specs.Sealing.{sealed};
 ghost use Rattle.meter.specs.Reply.{outcome, isSound, heardAt, functionFor, headOf, replied, filled, answerOf};
-ghost use Rattle.command.specs.Judgement.{verdictOf};
+ghost use Rattle.meter_command.specs.Judgement.{verdictOf};
 ghost use Rattle.meter_reading.specs.Reading.{dataOf};
 
 pub struct Answered {
@@ -20,16 +21,11 @@ pub struct Answered {
     pub after: Record,
 }
 
-// A lent output holds at least the longest frame.
-const LONGEST: usize = 64;
-// A reply without data, and the bytes before its CRC.
-const BARE_BYTES: usize = 6;
-
 // Whether record and store are a meter's.
 pub fn is_sound(r: Record, store: &[u8]) -> bool
     ensures { λ a. ⌜ a ≡ isSound r (now (store .entry)) ⌝ }
 {
-    if store.len() != store::STORE_BYTES {
+    if store.len() != meter_store::STORE_BYTES {
         return false;
     }
     meter_record::is_within(r)
@@ -39,7 +35,7 @@ pub fn is_sound(r: Record, store: &[u8]) -> bool
 fn is_heard(own: u8, frame: &[u8]) -> bool
     ensures { λ a. ⌜ a ≡ heardAt own (now (frame .entry)) ⌝ }
 {
-    let address = words::byte_at(frame, 0);
+    let address = words::byte_at(frame, layout::ADDRESS);
     if frame::is_sealed(frame) {
         if address == 0 {
             return true;
@@ -53,7 +49,7 @@ fn is_heard(own: u8, frame: &[u8]) -> bool
 fn function_for(v: Verdict, function: u8) -> u8
     ensures { λ r. ⌜ r ≡ functionFor v function ⌝ }
 {
-    if command::is_done(v) {
+    if meter_command::is_done(v) {
         return function;
     }
     if code::REFUSED <= function {
@@ -67,10 +63,10 @@ fn put_head(out: &mut [u8], v: Verdict, frame: &[u8])
     ensures { λ _. ⌜ now (out .exit) ≡ written (now (out .entry)) 0 (headOf v (now (frame .entry))) ⌝ }
 {
     let head = [
-        words::byte_at(frame, 0),
-        function_for(v, words::byte_at(frame, command::FUNCTION)),
-        command::parameter_byte(frame),
-        command::result_of(v),
+        words::byte_at(frame, layout::ADDRESS),
+        function_for(v, words::byte_at(frame, layout::FUNCTION)),
+        meter_command::parameter_byte(frame),
+        meter_command::result_of(v),
     ];
     words::put_bytes(out, 0, &head);
 }
@@ -79,7 +75,7 @@ fn put_head(out: &mut [u8], v: Verdict, frame: &[u8])
 pub fn answer(r: Record, store: &mut [u8], frame: &[u8], out: &mut [u8]) -> Answered
     ensures { λ a. ⌜ outcome a (now (store .exit)) (now (out .exit)) ≡ answerOf r (now (store .entry)) (now (frame .entry)) (now (out .entry)) ⌝ }
 {
-    if out.len() < LONGEST {
+    if out.len() < layout::LONGEST {
         return Answered {
             verdict: Verdict::TooShort,
             length: 0,
@@ -104,42 +100,43 @@ pub fn answer(r: Record, store: &mut [u8], frame: &[u8], out: &mut [u8]) -> Answ
 }
 
 fn replied(r: Record, store: &mut [u8], frame: &[u8], out: &mut [u8]) -> Answered
-    requires { ⌜ 64 ≤ length (now out) ⌝ }
-    ensures { λ a. ⌜ outcome a (now (store .exit)) (now (out .exit)) ≡ replied (verdictOf r (now (frame .entry))) r (now (store .entry)) (now (frame .entry)) (now (out .entry)) ⌝ }
+    requires { ⌜ longest ≤ length (now out) ⌝ }
+    ensures { λ a. ⌜ outcome a (now (store .exit)) (now (out .exit))
+        ≡ replied (verdictOf r (now (frame .entry))) r (now (store .entry)) (now (frame .entry)) (now (out .entry)) ⌝ }
 {
-    let v = command::judge(r, frame);
+    let v = meter_command::judge(r, frame);
     put_head(out, v, frame);
-    if command::is_done(v) {
+    if meter_command::is_done(v) {
         return done(v, r, store, frame, out);
     }
-    frame::seal(out, DATA);
+    frame::seal(out, layout::DATA);
     Answered {
         verdict: v,
-        length: BARE_BYTES,
+        length: layout::BARE_BYTES,
         after: r,
     }
 }
 
 // The data part, lent on from the fifth byte to whoever fills it.
 fn fill(out: &mut [u8], r: Record, store: &[u8], frame: &[u8])
-    requires { ⌜ 64 ≤ length (now out) ⌝ }
-    ensures { λ _. ⌜ now (out .exit) ≡ written (now (out .entry)) 4 (dataOf r (now (store .entry)) (now (frame .entry))) ⌝ }
+    requires { ⌜ longest ≤ length (now out) ⌝ }
+    ensures { λ _. ⌜ now (out .exit) ≡ written (now (out .entry)) dataPlace (dataOf r (now (store .entry)) (now (frame .entry))) ⌝ }
 {
-    meter_reading::put_data(&mut out[DATA..], r, store, frame);
+    meter_reading::put_data(&mut out[layout::DATA..], r, store, frame);
 }
 
 // The data behind the head, and what the command leaves.
 fn done(v: Verdict, r: Record, store: &mut [u8], frame: &[u8], out: &mut [u8]) -> Answered
-    requires { ⌜ 64 ≤ length (now out) ⌝ }
+    requires { ⌜ longest ≤ length (now out) ⌝ }
     ensures { λ a. ⌜ outcome a (now (store .exit)) (now (out .exit)) ≡ filled v r (now (store .entry)) (now (frame .entry)) (now (out .entry)) ⌝ }
 {
     let size = meter_reading::data_size(frame);
     fill(out, r, store, frame);
-    frame::seal(out, DATA + size);
+    frame::seal(out, layout::DATA + size);
     effect::clear_store(store, frame);
     Answered {
         verdict: v,
-        length: BARE_BYTES + size,
+        length: layout::BARE_BYTES + size,
         after: effect::record_after(r, frame),
     }
 }

@@ -12,17 +12,18 @@ use Rattle.figures.specs.Mask.{maskBytes}
 use Rattle.figures.specs.Power.{powerBytes, powersBytes}
 use Rattle.figures.specs.Telemetry.{telemetryBytes}
 use Rattle.figures.specs.declared.power.Phases.{Phases}
+use Rattle.frame.specs.Table.{replyBytes}
 use Rattle.frame.specs.declared.code.Function.{Function}
 use Rattle.frame.specs.declared.code.Function.the-variants as function
 use Rattle.frame.specs.declared.code.Parameter.{Parameter}
 use Rattle.frame.specs.declared.code.Parameter.the-variants as parameter
 use Rattle.request.specs.Subject.{keyOf}
 use Rattle.request.specs.declared.request.Request.{Request}
-use Rattle.second.specs.Season.{summerDate, winterDate}
-use Rattle.second.specs.declared.season.Time.{Time}
-use Rattle.store.specs.Store.{sliceOf, sixOf, rowBytes}
+use Rattle.meter_clock.specs.Season.{summerDate, winterDate}
+use Rattle.meter_clock.specs.declared.season.Time.{Time}
+use Rattle.meter_store.specs.Store.{sliceOf, sixOf, rowBytes}
 use Rattle.meter_record.specs.declared.record.Record.{Record}
-use Rattle.command.specs.Parts.{functionIn, parameterIn, requestIn}
+use Rattle.meter_command.specs.Parts.{functionIn, parameterIn, requestIn}
 
 -- "details 1 to 3 one phase"
 unfoldable pub phase : Phases → ℕ → Float
@@ -62,24 +63,6 @@ figuresOf parameter.SixSlices r s q = sixBytes (sixOf s (keyOf q))
 figuresOf parameter.Password r s q = []
 figuresOf parameter.Unknown r s q = []
 
--- how many bytes they are
-unfoldable pub powerSize : ℕ → ℕ
-powerSize detail = cond (eqb detail 0) 16 4
-
-abbrev pub sizeOf : Parameter → ℕ → ℕ
-sizeOf parameter.ActivePower detail = powerSize detail
-sizeOf parameter.ReactivePower detail = powerSize detail
-sizeOf parameter.Address detail = 1
-sizeOf parameter.Telemetry detail = 8
-sizeOf parameter.SummerDate detail = 6
-sizeOf parameter.WinterDate detail = 6
-sizeOf parameter.Clock detail = 6
-sizeOf parameter.DisplayMask detail = 6
-sizeOf parameter.Slice detail = 8
-sizeOf parameter.SixSlices detail = 48
-sizeOf parameter.Password detail = 0
-sizeOf parameter.Unknown detail = 0
-
 -- only a read has data
 abbrev pub isRead : Function → Bool
 isRead function.Read = true
@@ -94,4 +77,4 @@ unfoldable pub dataOf : Record → List ℕ → List ℕ → List ℕ
 dataOf r s f = cond (isRead (functionIn f)) (figuresOf (parameterIn f) r s (requestIn f)) []
 
 unfoldable pub dataSize : List ℕ → ℕ
-dataSize f = cond (isRead (functionIn f)) (sizeOf (parameterIn f) ((requestIn f) .detail)) 0
+dataSize f = cond (isRead (functionIn f)) (replyBytes (parameterIn f) ((requestIn f) .detail)) 0

@@ -3,13 +3,14 @@ use calendar::DateTime;
 use figures::Phases;
 use frame::code::Function;
 use frame::code::Parameter;
+use frame::table;
+use meter_clock::Time;
 use meter_record::Record;
 use request::Request;
-use second::Time;
 ghost use mathlib.Core.Path.{_≡_};
 ghost use Rattle.words.specs.Place.{written};
-ghost use Rattle.meter_reading.specs.Reading.{phase, powerData, summerShown, winterShown, sixBytes, figuresOf, powerSize, sizeOf, isRead, dataOf, dataSize};
-ghost use Rattle.command.specs.Parts.{functionIn};
+ghost use Rattle.meter_reading.specs.Reading.{phase, powerData, summerShown, winterShown, sixBytes, figuresOf, isRead, dataOf, dataSize};
+ghost use Rattle.meter_command.specs.Parts.{functionIn};
 
 fn phase(p: Phases, detail: u8) -> f32
     ensures { λ r. ⌜ r ≡ phase p detail ⌝ }
@@ -39,7 +40,7 @@ fn summer_shown(t: Time) -> DateTime
     let summer = t.summer;
     let clock = t.clock;
     let date = clock.date;
-    second::summer_date(summer, date.year)
+    meter_clock::summer_date(summer, date.year)
 }
 
 fn winter_shown(t: Time) -> DateTime
@@ -48,19 +49,19 @@ fn winter_shown(t: Time) -> DateTime
     let winter = t.winter;
     let clock = t.clock;
     let date = clock.date;
-    second::winter_date(winter, date.year)
+    meter_clock::winter_date(winter, date.year)
 }
 
 // Six rows one behind the other.
 fn put_six(out: &mut [u8], rows: [[u16; 4]; 6])
     ensures { λ _. ⌜ now (out .exit) ≡ written (now (out .entry)) 0 (sixBytes rows) ⌝ }
 {
-    store::put_row(out, 0, rows[0]);
-    store::put_row(out, 8, rows[1]);
-    store::put_row(out, 16, rows[2]);
-    store::put_row(out, 24, rows[3]);
-    store::put_row(out, 32, rows[4]);
-    store::put_row(out, 40, rows[5]);
+    meter_store::put_row(out, 0, rows[0]);
+    meter_store::put_row(out, 8, rows[1]);
+    meter_store::put_row(out, 16, rows[2]);
+    meter_store::put_row(out, 24, rows[3]);
+    meter_store::put_row(out, 32, rows[4]);
+    meter_store::put_row(out, 40, rows[5]);
 }
 
 // The figures of a parameter that is read.
@@ -82,44 +83,22 @@ fn put_figures(out: &mut [u8], p: Parameter, r: Record, store: &[u8], q: Request
         Parameter::WinterDate => figures::put_date_time(out, winter_shown(time)),
         Parameter::Clock => figures::put_date_time(out, clock),
         Parameter::DisplayMask => figures::put_display_mask(out, mask),
-        Parameter::Slice => store::put_row(out, 0, store::slice_of(store, request::key_of(q))),
-        Parameter::SixSlices => put_six(out, store::six_of(store, request::key_of(q))),
+        Parameter::Slice => meter_store::put_row(
+            out,
+            0,
+            meter_store::slice_of(store, request::key_of(q)),
+        ),
+        Parameter::SixSlices => put_six(out, meter_store::six_of(store, request::key_of(q))),
         Parameter::Password => {}
         Parameter::Unknown => {}
     }
-}
-
-// How many bytes a parameter's figures have.
-fn figure_bytes(p: Parameter, detail: u8) -> usize
-    ensures { λ r. ⌜ r ≡ sizeOf p detail ⌝ }
-{
-    match p {
-        Parameter::ActivePower => power_bytes(detail),
-        Parameter::ReactivePower => power_bytes(detail),
-        Parameter::Address => 1,
-        Parameter::Telemetry => 8,
-        Parameter::SummerDate => 6,
-        Parameter::WinterDate => 6,
-        Parameter::Clock => 6,
-        Parameter::DisplayMask => 6,
-        Parameter::Slice => 8,
-        Parameter::SixSlices => 48,
-        Parameter::Password => 0,
-        Parameter::Unknown => 0,
-    }
-}
-
-fn power_bytes(detail: u8) -> usize
-    ensures { λ r. ⌜ r ≡ powerSize detail ⌝ }
-{
-    if detail == 0 { 16 } else { 4 }
 }
 
 // Only a read has data.
 pub fn is_read(frame: &[u8]) -> bool
     ensures { λ r. ⌜ r ≡ isRead (functionIn (now (frame .entry))) ⌝ }
 {
-    match command::function_in(frame) {
+    match meter_command::function_in(frame) {
         Function::Read => true,
         Function::Change => false,
         Function::Zero => false,
@@ -134,8 +113,8 @@ pub fn put_data(out: &mut [u8], r: Record, store: &[u8], frame: &[u8])
     ensures { λ _. ⌜ now (out .exit) ≡ written (now (out .entry)) 0 (dataOf r (now (store .entry)) (now (frame .entry))) ⌝ }
 {
     if is_read(frame) {
-        let p = command::parameter_in(frame);
-        put_figures(out, p, r, store, command::request_in(frame));
+        let p = meter_command::parameter_in(frame);
+        put_figures(out, p, r, store, meter_command::request_in(frame));
     }
 }
 
@@ -143,8 +122,8 @@ pub fn data_size(frame: &[u8]) -> usize
     ensures { λ n. ⌜ n ≡ dataSize (now (frame .entry)) ⌝ }
 {
     if is_read(frame) {
-        let q = command::request_in(frame);
-        return figure_bytes(command::parameter_in(frame), q.detail);
+        let q = meter_command::request_in(frame);
+        return table::reply_bytes(meter_command::parameter_in(frame), q.detail);
     }
     0
 }

@@ -1,8 +1,6 @@
 -- The powers that the bench sets. Source: document 01, "Powers": "The bench sets only finite figures from -1,000,000 to 1,000,000."
-use mathlib.Core.Path.{_≡_, refl}
 use mathlib.Core.Bool.{Bool, _&&_}
-use lib.Ieee.{Float, binary32, ofBits, ofInt, le}
-use lib.IntN.{pos, negsuc}
+use lib.Ieee.{Float, binary32, ofBits, le}
 use Rattle.figures.specs.declared.power.Phases.{Phases}
 
 -- 1,000,000 (`most-is`)
@@ -20,11 +18,3 @@ inBounds x = le least x && le x most
 unfoldable pub arePowers : Phases → Bool
 unfolding inBounds
 arePowers p = inBounds (p .a) && inBounds (p .b) && inBounds (p .c)
-
-pub most-is : most ≡ ofInt binary32 (pos 1000000)
-unfolding ofBits ofInt
-most-is = refl
-
-pub least-is : least ≡ ofInt binary32 (negsuc 999999)
-unfolding ofBits ofInt
-least-is = refl

@@ -3,10 +3,10 @@ use mathlib.Core.Bool.{Bool, _&&_}
 use Prim.Native.Nat.{_*_}
 use lib.Dec.{leb, ltb}
 use Rattle.figures.specs.declared.telemetry.Telemetry.{Telemetry}
-use Rattle.second.specs.Protection.{isProtection}
-use Rattle.second.specs.Season.{isFitting}
+use Rattle.meter_clock.specs.Protection.{isProtection}
+use Rattle.meter_clock.specs.Season.{isFitting}
 use Rattle.slots.specs.Day.{isMinutes}
-use Rattle.store.specs.Store.{places}
+use Rattle.meter_store.specs.Store.{places}
 use Rattle.meter_record.specs.Power.{arePowers}
 use Rattle.meter_record.specs.declared.record.Record.{Record}
 

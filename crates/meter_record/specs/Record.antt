@@ -6,10 +6,10 @@ use lib.Ieee.{binary32, ofBits}
 use Rattle.calendar.specs.declared.time.DateTime.{DateTime}
 use Rattle.figures.specs.declared.telemetry.Telemetry.{Telemetry}
 use Rattle.figures.specs.declared.power.Phases.{Phases}
-use Rattle.second.specs.Protection.{shut, quietSecond}
-use Rattle.second.specs.Season.{nextTime}
-use Rattle.second.specs.declared.season.Season.{Season}
-use Rattle.second.specs.declared.season.SwitchDate.the-variants.{Automatic}
+use Rattle.meter_clock.specs.Protection.{shut, quietSecond}
+use Rattle.meter_clock.specs.Season.{nextTime}
+use Rattle.meter_clock.specs.declared.season.Season.{Season}
+use Rattle.meter_clock.specs.declared.season.SwitchDate.the-variants.{Automatic}
 use Rattle.meter_record.specs.Power.{arePowers}
 use Rattle.meter_record.specs.Ranges.{isWithin}
 use Rattle.meter_record.specs.declared.record.Record.{Record}

@@ -1,7 +1,7 @@
 -- A record's numbers fit their widths, as those of every Rattle value do. Laws over any record of numbers ask for it where bytes are made
 -- of them.
 use Prim.Native.Nat.{_^_, _<_}
-use Rattle.figures.specs.PowerLaws.{FitsPhases}
+use Rattle.figures.specs.Power.{FitsPhases}
 use Rattle.figures.specs.Telemetry.{FitsTelemetry}
 use Rattle.meter_record.specs.declared.record.Record.{Record}
 

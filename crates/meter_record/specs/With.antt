@@ -3,9 +3,9 @@ use Prim.Native.Nat.{ℕ}
 use Rattle.calendar.specs.declared.time.DateTime.{DateTime}
 use Rattle.figures.specs.declared.mask.DisplayMask.{DisplayMask}
 use Rattle.figures.specs.declared.telemetry.Telemetry.{Telemetry}
-use Rattle.second.specs.declared.protection.Protection.{Protection}
-use Rattle.second.specs.declared.season.SwitchDate.{SwitchDate}
-use Rattle.second.specs.declared.season.Time.{Time}
+use Rattle.meter_clock.specs.declared.protection.Protection.{Protection}
+use Rattle.meter_clock.specs.declared.season.SwitchDate.{SwitchDate}
+use Rattle.meter_clock.specs.declared.season.Time.{Time}
 use Rattle.meter_record.specs.declared.record.Passwords.{Passwords}
 use Rattle.meter_record.specs.declared.record.Record.{Record}
 

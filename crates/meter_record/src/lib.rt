@@ -10,9 +10,6 @@ mod ranges;
 mod record;
 
 pub use display::shown;
-pub use display::shows_direction;
-pub use display::shows_parameter;
-pub use display::shows_tariff;
 pub use making::make;
 pub use passing::pass_second;
 pub use power::set_powers;

@@ -8,9 +8,9 @@ use calendar::DateTime;
 use figures::DisplayMask;
 use figures::Phases;
 use figures::Telemetry;
-use second::Season;
-use second::SwitchDate;
-use second::Time;
+use meter_clock::Season;
+use meter_clock::SwitchDate;
+use meter_clock::Time;
 ghost use mathlib.Core.Path.{_≡_};
 ghost use Rattle.meter_record.specs.Record.{fresh, made};
 
@@ -52,7 +52,7 @@ fn new_record(
 {
     Record {
         address: address,
-        protection: second::shut(),
+        protection: meter_clock::shut(),
         passwords: Passwords {
             main: Password(FACTORY_PASSWORD),
             auxiliary: Password(FACTORY_PASSWORD),

@@ -3,7 +3,7 @@ use crate::ranges::is_within;
 use crate::record::Record;
 use crate::record::RecordAnswer;
 ghost use mathlib.Core.Path.{_≡_};
-ghost use Rattle.meter_record.specs.Record.{later, secondOf};
+ghost use Rattle.meter_record.specs.Record.{secondOf};
 
 pub fn pass_second(r: Record) -> RecordAnswer
     ensures { λ a. ⌜ a ≡ secondOf r ⌝ }
@@ -12,8 +12,8 @@ pub fn pass_second(r: Record) -> RecordAnswer
         let protection = r.protection;
         let time = r.time;
         return RecordAnswer::Done(Record {
-            protection: second::quiet_second(protection),
-            time: second::next_time(time),
+            protection: meter_clock::quiet_second(protection),
+            time: meter_clock::next_time(time),
             ..r
         });
     }

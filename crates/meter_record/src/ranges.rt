@@ -39,8 +39,8 @@ fn settings_right(r: Record) -> bool
     let protection = r.protection;
     let time = r.time;
     let telemetry = r.telemetry;
-    if second::is_protection(protection) {
-        if second::is_fitting(time) {
+    if meter_clock::is_protection(protection) {
+        if meter_clock::is_fitting(time) {
             return is_telemetry(telemetry);
         }
     }
@@ -56,7 +56,7 @@ fn bench_right(r: Record) -> bool
     if slots::slots_of(r.minutes) == 0 {
         return false;
     }
-    if store::PLACES <= r.next {
+    if meter_store::PLACES <= r.next {
         return false;
     }
     if are_powers(active) {

@@ -1,8 +1,8 @@
 use figures::DisplayMask;
 use figures::Phases;
 use figures::Telemetry;
-use second::Protection;
-use second::Time;
+use meter_clock::Protection;
+use meter_clock::Time;
 ghost use mathlib.Core.Path.{_≡_};
 ghost use Rattle.meter_record.specs.Record.{numberOf};
 

@@ -5,12 +5,9 @@ use crate::part::front;
 use crate::say;
 use log::FreshAnswer;
 use log::Header;
+use log::IMAGE_MOST;
+use logfile::FILE_MOST;
 use logfile::WriteAnswer;
-
-// The longest image and the longest file.
-const IMAGE_ROOM: usize = 53582;
-
-const FILE_ROOM: usize = 53584;
 
 pub fn make() {
     let mut path = io::buffer();
@@ -22,7 +19,7 @@ pub fn make() {
 }
 
 fn make_of(path: &[u8], h: Header) {
-    let mut image = [0u8; IMAGE_ROOM];
+    let mut image = [0u8; IMAGE_MOST];
     let answer = log::fresh_log(h, &mut image);
     match answer {
         FreshAnswer::Done(length) => put(path, front(&image, length)),
@@ -31,7 +28,7 @@ fn make_of(path: &[u8], h: Header) {
 }
 
 fn put(path: &[u8], image: &[u8]) {
-    let mut file = [0u8; FILE_ROOM];
+    let mut file = [0u8; FILE_MOST];
     let answer = logfile::write_file(image, &mut file);
     let WriteAnswer::Done(n) = answer else {
         say::refused(path, answer.number());

@@ -1,13 +1,13 @@
 // The day report, on standard output.
 use crate::part::front;
+use dayreport::LINE_MOST;
+use dayreport::TextAnswer;
 use libc::STDOUT_FILENO;
-use report_text::LINE_MOST;
-use report_text::TextAnswer;
 
 // A heading, and a line for each day from one on and before another.
 pub fn show(path: &[u8], image: &[u8], from: u8, end: u8) {
     let mut text = [0u8; LINE_MOST];
-    let answer = report_text::put_heading(&mut text);
+    let answer = dayreport::put_heading(&mut text);
     tell(path, answer, &text);
     for day in from..end {
         one_day(path, image, day);
@@ -16,7 +16,7 @@ pub fn show(path: &[u8], image: &[u8], from: u8, end: u8) {
 
 fn one_day(path: &[u8], image: &[u8], day: u8) {
     let mut text = [0u8; LINE_MOST];
-    let answer = report_text::put_day(image, day, &mut text);
+    let answer = dayreport::put_day(image, day, &mut text);
     tell(path, answer, &text);
 }
 

@@ -13,7 +13,7 @@ use log::Lent;
 use logfile::ReadAnswer;
 
 // One byte more than the longest file has, so that a longer one shows.
-const FILE_ROOM: usize = 53585;
+const FILE_ROOM: usize = logfile::FILE_MOST + 1;
 
 // The days from one on and before another.
 pub enum Span {

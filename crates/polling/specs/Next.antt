@@ -5,11 +5,9 @@ use mathlib.Core.Bool.{Bool, true, false, cond}
 use mathlib.Core.List.{List}
 use lib.Dec.{ltb}
 use Rattle.slots.specs.Day.{slotsOf}
-use Rattle.log.specs.Header.{soundOf}
+use Rattle.log.specs.Header.{soundOf, ifSound}
 use Rattle.log.specs.Image.{cellAt}
 use Rattle.log.specs.declared.header.Header.{Header}
-use Rattle.log.specs.declared.header.Lent.{Lent}
-use Rattle.log.specs.declared.header.Lent.the-variants as lent
 use Rattle.log.specs.declared.cell.Cell.the-variants.{Gap, Empty, Measured}
 use Rattle.log.specs.declared.cell.CellAnswer.{CellAnswer}
 use Rattle.log.specs.declared.cell.CellAnswer.the-variants.{Good, Bad}
@@ -32,13 +30,7 @@ gapFrom s first k (suc n) = cond (isGap (cellAt s (first + k))) (Slot k) (gapFro
 unfoldable pub nextIn : Header → List ℕ → ℕ → ℕ → Next
 nextIn h s d k = cond (ltb d (h .days)) (gapFrom s (d * slotsOf (h .minutes)) k (slotsOf (h .minutes) - k)) Nothing
 
--- bytes that are no log have none
-unfoldable pub nextOf : Lent → List ℕ → ℕ → ℕ → Next
-unfolding nextIn
-nextOf lent.Unsound s d k = Nothing
-nextOf (lent.Sound h) s d k = nextIn h s d k
-
--- the slot of a day that is asked for next, from slot k on: the first whose cell is a gap
+-- the slot of a day that is asked for next, from slot k on: the first whose cell is a gap; bytes that are no log have none
 unfoldable pub nextGap : List ℕ → ℕ → ℕ → Next
-unfolding nextOf
-nextGap s d k = nextOf (soundOf s) s d k
+unfolding nextIn
+nextGap s d k = ifSound (soundOf s) Nothing (λ h. nextIn h s d k)

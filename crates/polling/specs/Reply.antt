@@ -7,13 +7,18 @@ use mathlib.Core.List.{List}
 use lib.Dec.{eqb, leb, ltb}
 use lib.ListN.{length}
 use Rattle.words.specs.Place.{byteAt}
+use Rattle.frame.specs.Layout.{functionPlace, sliceReply}
 use Rattle.reader.specs.Form.{lengthFor}
 
 -- whether a reply has all its bytes, or more
 unfoldable pub isWhole : List ℕ → Bool
-isWhole y = leb (lengthFor (byteAt y 1) 14) (length y)
+isWhole y = leb (lengthFor (byteAt y functionPlace) sliceReply) (length y)
 
--- whether to stop listening: the reply is whole, or ten reads were silent before its first byte, or one behind it
+-- the silent reads before a reply's first byte that mean that none comes
+abbrev pub silentMost : ℕ
+silentMost = 10
+
+-- whether to stop listening: the reply is whole, or so many reads were silent before its first byte, or one behind it
 unfoldable pub isOver : List ℕ → ℕ → Bool
 unfolding isWhole
-isOver y silent = cond (isWhole y) true (cond (eqb (length y) 0) (leb 10 silent) (ltb 0 silent))
+isOver y silent = cond (isWhole y) true (cond (eqb (length y) 0) (leb silentMost silent) (ltb 0 silent))

@@ -1,6 +1,7 @@
 // What becomes of an ask.
 ghost use mathlib.Core.Path.{_≡_};
-ghost use Rattle.polling.specs.Fate.{outcome, settled, fateOf};
+ghost use Rattle.refusal.specs.Outcome.{outcome};
+ghost use Rattle.polling.specs.Fate.{heard, settled, fateOf};
 use logger::OpenAsk;
 use logger::TakeAnswer;
 
@@ -15,29 +16,41 @@ pub enum Fate {
     Stopped(u8),
 }
 
-// The fate, and the ask that is open after it: none.
+// The fate, and the ask that is open after it.
 pub struct Settled {
     pub fate: Fate,
     pub held: OpenAsk,
 }
 
-// Takes what was heard for the open ask into the log, and closes the ask: with nothing heard, and after a reply that is not well
-// formed, by a lapse. The interval then stays a gap.
+// Takes what was heard for the open ask into the log, and lets the ask lapse, which closes it where the reply did not: with nothing
+// heard, and after a reply that is not well formed. The interval then stays a gap.
 pub fn settle(log: &mut [u8], held: OpenAsk, reply: &[u8]) -> Settled
     ensures { λ r. ⌜ outcome r (now (log .exit)) ≡ settled (now (log .entry)) held (now (reply .entry)) ⌝ }
+{
+    let heard = heard(log, held, reply);
+    let fate = heard.fate;
+    let left = heard.held;
+    Settled {
+        fate: fate,
+        held: logger::lapse(left),
+    }
+}
+
+fn heard(log: &mut [u8], held: OpenAsk, reply: &[u8]) -> Settled
+    ensures { λ r. ⌜ outcome r (now (log .exit)) ≡ heard (now (log .entry)) held (now (reply .entry)) ⌝ }
 {
     if reply.len() == 0 {
         return Settled {
             fate: Fate::Silent,
-            held: logger::lapse(held),
+            held: held,
         };
     }
     let taken = logger::take_reply(log, held, reply);
     let answer = taken.answer;
-    let open = taken.held;
+    let left = taken.held;
     Settled {
         fate: fate_of(answer),
-        held: logger::lapse(open),
+        held: left,
     }
 }
 

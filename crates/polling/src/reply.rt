@@ -2,13 +2,7 @@
 ghost use mathlib.Core.Path.{_≡_};
 ghost use Rattle.polling.specs.Reply.{isWhole, isOver};
 use frame::code;
-
-const FUNCTION: usize = 1;
-
-// The bytes of a reply about a slice, and of a refusal.
-const SLICE_REPLY: usize = 14;
-
-const REFUSAL: usize = 6;
+use frame::layout;
 
 // The silent reads before a reply's first byte that mean that none comes.
 pub const SILENT_MOST: u8 = 10;
@@ -17,10 +11,10 @@ pub const SILENT_MOST: u8 = 10;
 pub fn is_whole(reply: &[u8]) -> bool
     ensures { λ r. ⌜ r ≡ isWhole (now (reply .entry)) ⌝ }
 {
-    if code::REFUSED <= words::byte_at(reply, FUNCTION) {
-        return REFUSAL <= reply.len();
+    if code::REFUSED <= words::byte_at(reply, layout::FUNCTION) {
+        return layout::BARE_BYTES <= reply.len();
     }
-    SLICE_REPLY <= reply.len()
+    layout::SLICE_REPLY <= reply.len()
 }
 
 // Whether to stop listening, with these bytes heard and so many silent reads since the last of them.

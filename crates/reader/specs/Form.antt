@@ -9,14 +9,14 @@ use lib.ListN.{length}
 use Rattle.words.specs.Place.{byteAt}
 use Rattle.frame.specs.Sealing.{crcFits}
 use Rattle.frame.specs.Code.{read, refused}
+use Rattle.frame.specs.Layout.{addressPlace, functionPlace, parameterPlace, resultPlace, bareSize}
 use Rattle.reader.specs.declared.form.Form.{Form}
 use Rattle.reader.specs.declared.form.Form.the-variants.{WellFormed, Faulty}
-use Rattle.reader.specs.declared.form.Fault.{Fault}
 use Rattle.reader.specs.declared.form.Fault.the-variants as fault
 
 -- "6 with the function's top bit set, else that of its request"
 unfoldable pub lengthFor : ℕ → ℕ → ℕ
-lengthFor function full = cond (leb refused function) 6 full
+lengthFor function full = cond (leb refused function) bareSize full
 
 -- the function asked for, its top bit "set exactly where the result isn't 0"
 unfoldable pub functionFor : ℕ → ℕ
@@ -26,9 +26,9 @@ functionFor result = cond (eqb result 0) read (refused + read)
 unfoldable pub headOf : ℕ → ℕ → List ℕ → Form
 unfolding functionFor
 headOf address parameter y =
-    cond (eqb (byteAt y 0) address)
-    (cond (eqb (byteAt y 1) (functionFor (byteAt y 3)))
-    (cond (eqb (byteAt y 2) parameter)
+    cond (eqb (byteAt y addressPlace) address)
+    (cond (eqb (byteAt y functionPlace) (functionFor (byteAt y resultPlace)))
+    (cond (eqb (byteAt y parameterPlace) parameter)
     WellFormed
     (Faulty fault.Parameter))
     (Faulty fault.Function))
@@ -38,4 +38,4 @@ headOf address parameter y =
 unfoldable pub formOf : ℕ → ℕ → ℕ → List ℕ → Form
 unfolding lengthFor headOf
 formOf address parameter full y =
-    cond (eqb (length y) (lengthFor (byteAt y 1) full)) (cond (crcFits y) (headOf address parameter y) (Faulty fault.Crc)) (Faulty fault.Length)
+    cond (eqb (length y) (lengthFor (byteAt y functionPlace) full)) (cond (crcFits y) (headOf address parameter y) (Faulty fault.Crc)) (Faulty fault.Length)

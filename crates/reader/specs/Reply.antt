@@ -5,10 +5,13 @@ use mathlib.Core.List.{List}
 use Prim.Native.Nat.{ℕ, _+_}
 use lib.Dec.{eqb}
 use Rattle.words.specs.Place.{byteAt, numberAt}
+use Rattle.frame.specs.Layout.{resultPlace, bareSize}
+use Rattle.frame.specs.declared.code.Parameter.{Parameter}
+use Rattle.frame.specs.declared.code.Parameter.the-variants as parameter
 use Rattle.request.specs.Subject.{subjectOf, askable, dataBytes, mostSlots}
 use Rattle.request.specs.declared.request.Request.{Request}
 use Rattle.request.specs.declared.subject.Subject.{Subject}
-use Rattle.request.specs.declared.subject.Subject.the-variants as subject
+use Rattle.request.specs.declared.subject.Subject.the-variants.{Figures, Nothing}
 use Rattle.figures.specs.Clock.{dateTimeOf}
 use Rattle.figures.specs.Mask.{maskOf}
 use Rattle.figures.specs.Power.{powerOf, powersOf}
@@ -43,23 +46,33 @@ abbrev pub powerFigure : Power → Decoded
 powerFigure (power.Finite p) = OnePower p
 powerFigure power.NotFinite = NotFinite
 
+-- "detail 0 answers the total and A, B, C, details 1 to 3 one phase"
+unfoldable pub phaseFigures : ℕ → List ℕ → Decoded
+phaseFigures detail bs = cond (eqb detail 0) (powersFigure (powersOf bs)) (powerFigure (powerOf bs 0))
+
 -- the figures that the data of a reply hold
-unfoldable pub figuresOf : Subject → List ℕ → Decoded
-unfolding countsOf
-figuresOf subject.Address bs = Address (byteAt bs 0)
-figuresOf subject.Telemetry bs = Telemetry (telemetryOf bs)
-figuresOf subject.DateTime bs = DateTime (dateTimeOf bs)
-figuresOf subject.DisplayMask bs = DisplayMask (maskOf bs)
-figuresOf subject.Powers bs = powersFigure (powersOf bs)
-figuresOf subject.OnePower bs = powerFigure (powerOf bs 0)
-figuresOf subject.Slice bs = Slice (countsOf bs)
-figuresOf subject.SixSlices bs = SixSlices
-figuresOf subject.Nothing bs = OutOfRange
+unfoldable pub readFigures : Parameter → ℕ → List ℕ → Decoded
+unfolding phaseFigures countsOf
+readFigures parameter.ActivePower detail bs = phaseFigures detail bs
+readFigures parameter.ReactivePower detail bs = phaseFigures detail bs
+readFigures parameter.Address detail bs = Address (byteAt bs 0)
+readFigures parameter.Telemetry detail bs = Telemetry (telemetryOf bs)
+readFigures parameter.SummerDate detail bs = DateTime (dateTimeOf bs)
+readFigures parameter.WinterDate detail bs = DateTime (dateTimeOf bs)
+readFigures parameter.Clock detail bs = DateTime (dateTimeOf bs)
+readFigures parameter.DisplayMask detail bs = DisplayMask (maskOf bs)
+readFigures parameter.Slice detail bs = Slice (countsOf bs)
+readFigures parameter.SixSlices detail bs = SixSlices
+readFigures parameter.Password detail bs = OutOfRange
+readFigures parameter.Unknown detail bs = OutOfRange
+
+abbrev pub figuresOf : Subject → List ℕ → Decoded
+figuresOf (Figures p detail) bs = readFigures p detail bs
+figuresOf Nothing bs = OutOfRange
 
 -- a well-formed reply: 24 with the meter's result, else its figures
 unfoldable pub repliedOf : Subject → List ℕ → Decoded
-unfolding figuresOf
-repliedOf s y = cond (eqb (byteAt y 3) 0) (figuresOf s (replyData y)) (MeterRefused (byteAt y 3))
+repliedOf s y = cond (eqb (byteAt y resultPlace) 0) (figuresOf s (replyData y)) (MeterRefused (byteAt y resultPlace))
 
 formed : Form → Subject → List ℕ → Decoded
 unfolding repliedOf
@@ -71,7 +84,7 @@ unfoldable pub decodedOf : Request → List ℕ → Decoded
 unfolding formed
 decodedOf q y =
     let s = subjectOf q mostSlots in
-    cond (askable s) (formed (formOf (q .address) (q .parameter) (6 + dataBytes s) y) s y) OutOfRange
+    cond (askable s) (formed (formOf (q .address) (q .parameter) (bareSize + dataBytes s) y) s y) OutOfRange
 
 -- document 01's numbers
 abbrev pub numberOf : Decoded → ℕ

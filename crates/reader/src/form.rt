@@ -1,5 +1,6 @@
 // Whether a reply is well formed, and what is wrong with it first.
 use frame::code;
+use frame::layout;
 ghost use mathlib.Core.Path.{_≡_};
 ghost use Rattle.reader.specs.Form.{formOf, headOf, lengthFor, functionFor};
 
@@ -18,19 +19,11 @@ pub enum Form {
     Faulty(Fault),
 }
 
-const FUNCTION: usize = 1;
-
-const PARAMETER: usize = 2;
-
-const RESULT: usize = 3;
-// A reply without data.
-const BARE_BYTES: usize = 6;
-
 // The form of a reply to a read of `parameter` sent to `address`, whose full reply has `full` bytes.
 pub fn form_of(address: u8, parameter: u8, full: usize, reply: &[u8]) -> Form
     ensures { λ r. ⌜ r ≡ formOf address parameter full (now (reply .entry)) ⌝ }
 {
-    let length = length_for(words::byte_at(reply, FUNCTION), full);
+    let length = length_for(words::byte_at(reply, layout::FUNCTION), full);
     if reply.len() != length {
         return Form::Faulty(Fault::Length);
     }
@@ -45,10 +38,10 @@ pub fn form_of(address: u8, parameter: u8, full: usize, reply: &[u8]) -> Form
 fn head_of(address: u8, parameter: u8, reply: &[u8]) -> Form
     ensures { λ r. ⌜ r ≡ headOf address parameter (now (reply .entry)) ⌝ }
 {
-    let sender = words::byte_at(reply, 0);
-    let function = words::byte_at(reply, FUNCTION);
-    let asked = words::byte_at(reply, PARAMETER);
-    let wanted = function_for(words::byte_at(reply, RESULT));
+    let sender = words::byte_at(reply, layout::ADDRESS);
+    let function = words::byte_at(reply, layout::FUNCTION);
+    let asked = words::byte_at(reply, layout::PARAMETER);
+    let wanted = function_for(words::byte_at(reply, layout::RESULT));
     if sender != address {
         return Form::Faulty(Fault::Address);
     }
@@ -65,7 +58,7 @@ fn length_for(function: u8, full: usize) -> usize
     ensures { λ r. ⌜ r ≡ lengthFor function full ⌝ }
 {
     if code::REFUSED <= function {
-        BARE_BYTES
+        layout::BARE_BYTES
     } else {
         full
     }

@@ -10,10 +10,12 @@ use figures::Powers;
 use figures::PowersAnswer;
 use figures::Telemetry;
 use frame::code;
+use frame::code::Parameter;
+use frame::layout;
 use request::Request;
 use request::Subject;
 ghost use mathlib.Core.Path.{_≡_};
-ghost use Rattle.reader.specs.Reply.{countsOf, powersFigure, powerFigure, figuresOf, repliedOf, decodedOf, numberOf};
+ghost use Rattle.reader.specs.Reply.{countsOf, powersFigure, powerFigure, phaseFigures, readFigures, figuresOf, repliedOf, decodedOf, numberOf};
 
 // The counts of one slice.
 pub struct Slice {
@@ -64,18 +66,12 @@ impl Decoded {
     }
 }
 
-const RESULT: usize = 3;
-
-const DATA: usize = 4;
-// A reply without data.
-const BARE_BYTES: usize = 6;
-
 pub fn decode(q: Request, reply: &[u8]) -> Decoded
     ensures { λ r. ⌜ r ≡ decodedOf q (now (reply .entry)) ⌝ }
 {
     let subject = request::subject_of(q, request::MOST_SLOTS);
     if request::is_askable(subject) {
-        let full = BARE_BYTES + request::data_bytes(subject);
+        let full = layout::BARE_BYTES + request::data_bytes(subject);
         match form_of(q.address, q.parameter, full, reply) {
             Form::WellFormed => replied(subject, reply),
             Form::Faulty(fault) => Decoded::Malformed(fault),
@@ -88,27 +84,49 @@ pub fn decode(q: Request, reply: &[u8]) -> Decoded
 fn replied(subject: Subject, reply: &[u8]) -> Decoded
     ensures { λ r. ⌜ r ≡ repliedOf subject (now (reply .entry)) ⌝ }
 {
-    let result = words::byte_at(reply, RESULT);
+    let result = words::byte_at(reply, layout::RESULT);
     if result != code::OK {
         return Decoded::MeterRefused(result);
     }
-    figures_of(subject, words::tail(reply, DATA))
+    figures_of(subject, words::tail(reply, layout::DATA))
 }
 
 fn figures_of(subject: Subject, bytes: &[u8]) -> Decoded
     ensures { λ r. ⌜ r ≡ figuresOf subject (now (bytes .entry)) ⌝ }
 {
     match subject {
-        Subject::Address => Decoded::Address(words::byte_at(bytes, 0)),
-        Subject::Telemetry => Decoded::Telemetry(figures::telemetry_of(bytes)),
-        Subject::DateTime => Decoded::DateTime(figures::date_time_of(bytes)),
-        Subject::DisplayMask => Decoded::DisplayMask(figures::display_mask(bytes)),
-        Subject::Powers => powers_figure(figures::powers_of(bytes)),
-        Subject::OnePower => power_figure(figures::power_of(bytes, 0)),
-        Subject::Slice => Decoded::Slice(counts_of(bytes)),
-        Subject::SixSlices => Decoded::SixSlices,
+        Subject::Figures(p, detail) => read_figures(p, detail, bytes),
         Subject::Nothing => Decoded::OutOfRange,
     }
+}
+
+fn read_figures(p: Parameter, detail: u8, bytes: &[u8]) -> Decoded
+    ensures { λ r. ⌜ r ≡ readFigures p detail (now (bytes .entry)) ⌝ }
+{
+    match p {
+        Parameter::ActivePower => phase_figures(detail, bytes),
+        Parameter::ReactivePower => phase_figures(detail, bytes),
+        Parameter::Address => Decoded::Address(words::byte_at(bytes, 0)),
+        Parameter::Telemetry => Decoded::Telemetry(figures::telemetry_of(bytes)),
+        Parameter::SummerDate => Decoded::DateTime(figures::date_time_of(bytes)),
+        Parameter::WinterDate => Decoded::DateTime(figures::date_time_of(bytes)),
+        Parameter::Clock => Decoded::DateTime(figures::date_time_of(bytes)),
+        Parameter::DisplayMask => Decoded::DisplayMask(figures::display_mask(bytes)),
+        Parameter::Slice => Decoded::Slice(counts_of(bytes)),
+        Parameter::SixSlices => Decoded::SixSlices,
+        Parameter::Password => Decoded::OutOfRange,
+        Parameter::Unknown => Decoded::OutOfRange,
+    }
+}
+
+// The total and the three phases, or one of them.
+fn phase_figures(detail: u8, bytes: &[u8]) -> Decoded
+    ensures { λ r. ⌜ r ≡ phaseFigures detail (now (bytes .entry)) ⌝ }
+{
+    if detail == 0 {
+        return powers_figure(figures::powers_of(bytes));
+    }
+    power_figure(figures::power_of(bytes, 0))
 }
 
 fn powers_figure(p: PowersAnswer) -> Decoded

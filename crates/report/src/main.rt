@@ -2,15 +2,15 @@
 // prints one line instead, with the refusal's number. What is right is decided in the libraries.
 ghost use mathlib.Core.Path.{_≡_};
 ghost use lib.ListN.{take};
+use dayreport::LINE_MOST;
+use dayreport::TextAnswer;
 use libc::STDIN_FILENO;
 use libc::STDOUT_FILENO;
 use log::Lent;
 use logfile::ReadAnswer;
-use report_text::LINE_MOST;
-use report_text::TextAnswer;
 
 // One byte more than the longest file has, so that a longer one shows.
-const FILE_ROOM: usize = 53585;
+const FILE_ROOM: usize = logfile::FILE_MOST + 1;
 
 // The program's own name.
 const ITS_WORDS: usize = 1;
@@ -46,7 +46,7 @@ fn report(image: &[u8]) {
 
 fn heading() {
     let mut text = [0u8; LINE_MOST];
-    let answer = report_text::put_heading(&mut text);
+    let answer = dayreport::put_heading(&mut text);
     tell(answer, &text);
 }
 
@@ -58,7 +58,7 @@ fn lines(image: &[u8], days: u8) {
 
 fn line(image: &[u8], day: u8) {
     let mut text = [0u8; LINE_MOST];
-    let answer = report_text::put_day(image, day, &mut text);
+    let answer = dayreport::put_day(image, day, &mut text);
     tell(answer, &text);
 }
 

@@ -1,4 +1,2 @@
 pub mod Subject
 pub mod Request
-pub mod RequestLaws
-pub mod Arm

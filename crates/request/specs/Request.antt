@@ -6,8 +6,10 @@ use Prim.Native.Nat.{ℕ}
 use lib.Dec.{ltb}
 use lib.ListN.{length}
 use Rattle.words.specs.Place.{written}
+use Rattle.refusal.specs.Outcome.{Outcome, outcome}
 use Rattle.frame.specs.Sealing.{framed}
 use Rattle.frame.specs.Code.{read}
+use Rattle.frame.specs.Layout.{readSize}
 use Rattle.request.specs.Subject.{subjectOf, askable, mostSlots}
 use Rattle.request.specs.declared.request.Request.{Request}
 use Rattle.request.specs.declared.request.RequestAnswer.{RequestAnswer}
@@ -17,19 +19,11 @@ use Rattle.request.specs.declared.request.RequestAnswer.the-variants.{Do
 unfoldable pub requestFrame : Request → List ℕ
 requestFrame q = framed (q .address ∷ read ∷ q .parameter ∷ q .offset ∷ q .tariff ∷ q .detail ∷ [])
 
--- an answer and what the lent output then holds
-pub record Outcome : Type 0 where
-  pub answer : RequestAnswer
-  pub bytes : List ℕ
-
-abbrev pub outcome : RequestAnswer → List ℕ → Outcome
-outcome a s = record { answer = a; bytes = s }
-
 -- making a request: 1, then 27, by the table's order
-unfoldable pub requested : Request → List ℕ → Outcome
+unfoldable pub requested : Request → List ℕ → Outcome RequestAnswer (List ℕ)
 unfolding subjectOf requestFrame
 requested q s =
-    cond (ltb (length s) 8) (outcome TooShort s)
+    cond (ltb (length s) readSize) (outcome TooShort s)
     (cond (askable (subjectOf q mostSlots)) (outcome Done (written s 0 (requestFrame q))) (outcome OutOfRange s))
 
 -- document 01's numbers

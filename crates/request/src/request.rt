@@ -3,8 +3,11 @@ use crate::subject::MOST_SLOTS;
 use crate::subject::is_askable;
 use crate::subject::subject_of;
 use frame::code;
+use frame::layout::CRC_BYTES;
+use frame::layout::READ_BYTES;
 ghost use mathlib.Core.Path.{_≡_};
-ghost use Rattle.request.specs.Request.{outcome, requested, numberOf};
+ghost use Rattle.refusal.specs.Outcome.{outcome};
+ghost use Rattle.request.specs.Request.{requested, numberOf};
 
 pub struct Request {
     pub address: u8,
@@ -33,16 +36,14 @@ impl RequestAnswer {
     }
 }
 
-// The bytes of a request's frame, and those before its CRC.
-const REQUEST_BYTES: usize = 8;
-
-const BODY_BYTES: usize = 6;
+// The bytes before the CRC.
+const BODY_BYTES: usize = READ_BYTES - CRC_BYTES;
 
 // Puts a request's frame to the front of a lent output.
 pub fn put_request(q: Request, out: &mut [u8]) -> RequestAnswer
     ensures { λ r. ⌜ outcome r (now (out .exit)) ≡ requested q (now (out .entry)) ⌝ }
 {
-    if out.len() < REQUEST_BYTES {
+    if out.len() < READ_BYTES {
         return RequestAnswer::TooShort;
     }
     if is_askable(subject_of(q, MOST_SLOTS)) {

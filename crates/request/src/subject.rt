@@ -1,22 +1,17 @@
 // What a request asks for.
 use crate::request::Request;
-use frame::code;
 use frame::code::Parameter;
+use frame::table;
+use frame::table::Fields;
 use slots::Key;
 ghost use mathlib.Core.Path.{_≡_};
 ghost use Prim.Native.Nat.{_-_};
-ghost use Rattle.request.specs.Subject.{keyOf, subjectOf, unusedOf, powerOf, sliceOf, askable, dataBytes};
+ghost use Rattle.request.specs.Subject.{keyOf, unused, isPhase, fieldsFit, subjectOf, askable, dataBytes};
 
 // What a request asks for; nothing, where the meter would not answer it with 0.
 pub enum Subject {
-    Address,
-    Telemetry,
-    DateTime,
-    DisplayMask,
-    Powers,
-    OnePower,
-    Slice,
-    SixSlices,
+    // The figures of a parameter, by the detail.
+    Figures(Parameter, u8),
     Nothing,
 }
 
@@ -31,54 +26,52 @@ const AFTER: u8 = 5;
 pub fn subject_of(q: Request, slots: u8) -> Subject
     ensures { λ r. ⌜ r ≡ subjectOf q slots ⌝ }
 {
-    match code::parameter_of(q.parameter) {
-        Parameter::ActivePower | Parameter::ReactivePower => power(q),
-        Parameter::Address => unused(q, Subject::Address),
-        Parameter::Telemetry => unused(q, Subject::Telemetry),
-        Parameter::SummerDate | Parameter::WinterDate | Parameter::Clock => unused(
-            q,
-            Subject::DateTime,
-        ),
-        Parameter::DisplayMask => unused(q, Subject::DisplayMask),
-        Parameter::Slice => slice(q, slots, Subject::Slice),
-        Parameter::SixSlices => slice(q, with_five_after(slots), Subject::SixSlices),
-        Parameter::Password | Parameter::Unknown => Subject::Nothing,
+    let p = table::parameter_of(q.parameter);
+    let row = table::row_of(p);
+    let fields = row.fields;
+    if row.readable {
+        if fields_fit(fields, q, slots) {
+            return Subject::Figures(p, q.detail);
+        }
+    }
+    Subject::Nothing
+}
+
+// Whether offset, tariff and detail are such as a read of the parameter has.
+fn fields_fit(fields: Fields, q: Request, slots: u8) -> bool
+    ensures { λ r. ⌜ r ≡ fieldsFit fields q slots ⌝ }
+{
+    match fields {
+        Fields::Unused => are_unused(q),
+        Fields::Phase => is_phase(q),
+        Fields::Slot => slots::is_legal(key_of(q), slots),
+        Fields::SixSlots => slots::is_legal(key_of(q), with_five_after(slots)),
     }
 }
 
-// A parameter that uses none of the three fields.
-fn unused(q: Request, subject: Subject) -> Subject
-    ensures { λ r. ⌜ r ≡ unusedOf q subject ⌝ }
+fn are_unused(q: Request) -> bool
+    ensures { λ r. ⌜ r ≡ unused q ⌝ }
 {
     if q.offset != 0 {
-        return Subject::Nothing;
+        return false;
     }
     if q.tariff != 0 {
-        return Subject::Nothing;
+        return false;
     }
-    if q.detail != 0 {
-        return Subject::Nothing;
-    }
-    subject
+    q.detail == 0
 }
 
-// A power: all phases and their total, or one phase.
-fn power(q: Request) -> Subject
-    ensures { λ r. ⌜ r ≡ powerOf q ⌝ }
+// The detail names all phases and their total, or one phase.
+fn is_phase(q: Request) -> bool
+    ensures { λ r. ⌜ r ≡ isPhase q ⌝ }
 {
     if q.offset != 0 {
-        return Subject::Nothing;
+        return false;
     }
     if q.tariff != 0 {
-        return Subject::Nothing;
+        return false;
     }
-    if q.detail == 0 {
-        return Subject::Powers;
-    }
-    if PHASES < q.detail {
-        return Subject::Nothing;
-    }
-    Subject::OnePower
+    q.detail <= PHASES
 }
 
 // The key of a slice: month, day and number stand in place of offset, tariff and detail.
@@ -89,17 +82,6 @@ pub fn key_of(q: Request) -> Key
         month: q.offset,
         day: q.tariff,
         number: q.detail,
-    }
-}
-
-// A slice, whose number is below `slots`.
-fn slice(q: Request, slots: u8, subject: Subject) -> Subject
-    ensures { λ r. ⌜ r ≡ sliceOf q slots subject ⌝ }
-{
-    if slots::is_legal(key_of(q), slots) {
-        subject
-    } else {
-        Subject::Nothing
     }
 }
 
@@ -118,14 +100,7 @@ pub fn is_askable(subject: Subject) -> bool
     ensures { λ r. ⌜ r ≡ askable subject ⌝ }
 {
     match subject {
-        Subject::Address => true,
-        Subject::Telemetry => true,
-        Subject::DateTime => true,
-        Subject::DisplayMask => true,
-        Subject::Powers => true,
-        Subject::OnePower => true,
-        Subject::Slice => true,
-        Subject::SixSlices => true,
+        Subject::Figures(_, _) => true,
         Subject::Nothing => false,
     }
 }
@@ -135,14 +110,7 @@ pub fn data_bytes(subject: Subject) -> usize
     ensures { λ r. ⌜ r ≡ dataBytes subject ⌝ }
 {
     match subject {
-        Subject::Address => 1,
-        Subject::Telemetry => 8,
-        Subject::DateTime => 6,
-        Subject::DisplayMask => 6,
-        Subject::Powers => 16,
-        Subject::OnePower => 4,
-        Subject::Slice => 8,
-        Subject::SixSlices => 48,
+        Subject::Figures(p, detail) => table::reply_bytes(p, detail),
         Subject::Nothing => 0,
     }
 }

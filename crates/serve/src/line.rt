@@ -1,4 +1,5 @@
 // The serial line: a frame is what one read gives, and its reply is written at once.
+use frame::layout::LONGEST;
 use libc::STDERR_FILENO;
 use meter_record::Record;
 
@@ -14,9 +15,6 @@ pub struct Served {
 
 // Longer than any frame, so that one which is too long is seen as that.
 const FRAME_ROOM: usize = 256;
-
-// A reply is no longer than a frame.
-const REPLY_ROOM: usize = 64;
 
 // Until the device is closed, or so many frames were read.
 pub fn serve(fd: i32, count: u64, store: &mut [u8], record: Record) {
@@ -47,7 +45,10 @@ fn turn(fd: i32, store: &mut [u8], s: Served) -> Served {
     }
     let n = io::count(got, &frame);
     let now = wall_clock();
-    let record = setting::seconds_later(s.record, setting::seconds_between(s.seen, now));
+    let record = console_setup::seconds_later(
+        s.record,
+        console_setup::seconds_between(s.seen, now),
+    );
     answer(
         fd,
         store,
@@ -61,7 +62,7 @@ fn turn(fd: i32, store: &mut [u8], s: Served) -> Served {
 }
 
 fn answer(fd: i32, store: &mut [u8], frame: &[u8], s: Served) -> Served {
-    let mut out = [0u8; REPLY_ROOM];
+    let mut out = [0u8; LONGEST];
     let record = s.record;
     let a = meter::answer(record, store, frame, &mut out);
     let length = a.length;

@@ -50,7 +50,7 @@ fn counted() {
 
 // The meter is made first, so that a script that stops leaves the device alone.
 fn made(count: u64) {
-    let mut store = [0u8; store::STORE_BYTES];
+    let mut store = [0u8; meter_store::STORE_BYTES];
     let mut path = io::buffer();
     let n = os::arg(SCRIPT, &mut path);
     match script::made_by(&path[..n], &mut store) {

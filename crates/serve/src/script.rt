@@ -1,9 +1,9 @@
 // The script: the console's lines that set the meter.
 use console_io::Rest;
+use console_setup::LineAnswer;
 use libc::STDERR_FILENO;
 use meter_record::Record;
 use meter_record::RecordAnswer;
-use setting::LineAnswer;
 
 pub enum Ready {
     Meter(Record),
@@ -12,7 +12,7 @@ pub enum Ready {
 }
 
 pub fn made_by(path: &[u8], store: &mut [u8]) -> Ready {
-    let RecordAnswer::Done(first) = setting::first() else {
+    let RecordAnswer::Done(first) = console_setup::first() else {
         return Ready::Stopped;
     };
     let fd = os::open_read(path);
@@ -51,7 +51,7 @@ fn walk(
         rest = taken.rest;
         let n = taken.length;
         let answer = set(console::part(line, n), store, record);
-        let RecordAnswer::Done(after) = told(answer, path, number) else {
+        let RecordAnswer::Done(after) = answered(answer, path, number) else {
             return Ready::Stopped;
         };
         record = after;
@@ -71,11 +71,11 @@ fn set(line: &[u8], store: &mut [u8], r: Record) -> LineAnswer {
     if console::place_of(console::word(line, 0), b"frame record shown inquire") < ASKING {
         return LineAnswer::Answered(RecordAnswer::Done(r));
     }
-    setting::set(line, store, r)
+    console_setup::set(line, store, r)
 }
 
-// What a line was answered; a line that was not done is told of on standard error.
-fn told(answer: LineAnswer, path: &[u8], number: u64) -> RecordAnswer {
+// What a line was answered; one that was not done is named on standard error.
+fn answered(answer: LineAnswer, path: &[u8], number: u64) -> RecordAnswer {
     match answer {
         LineAnswer::Answered(a) => {
             refused(path, number, a.number());

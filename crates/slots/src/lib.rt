@@ -2,6 +2,7 @@
 mod day;
 mod key;
 
+pub use day::SLOTS_MOST;
 pub use day::slots_of;
 pub use key::Key;
 pub use key::is_legal;

@@ -14,5 +14,4 @@ pub use hex::HexAnswer;
 pub use hex::hex_value;
 pub use hex::put_hex;
 pub use reading::NumberAnswer;
-pub use reading::decimal_at;
 pub use reading::number_of;

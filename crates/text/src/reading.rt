@@ -1,7 +1,5 @@
-// Numbers and hexadecimal digits read from text.
+// Numbers read from text.
 ghost use mathlib.Core.Path.{_≡_};
-ghost use Prim.Native.Nat.{_-_};
-ghost use lib.ListN.{take, drop};
 ghost use Rattle.text.specs.Reading.{numberOfText};
 
 pub enum NumberAnswer {
@@ -46,19 +44,4 @@ pub fn number_of(text: &[u8]) -> NumberAnswer
         i += 1;
     }
     NumberAnswer::Number(value)
-}
-
-// The number that the bytes from one place up to another are; past the end there are none.
-pub fn decimal_at(s: &[u8], from: usize, to: usize) -> NumberAnswer
-    ensures { λ r. ⌜ r ≡ numberOfText (take (to - from) (drop from (now (s .entry)))) ⌝ }
-{
-    let rest = words::tail(s, from);
-    if to <= from {
-        return NumberAnswer::NotANumber;
-    }
-    let n = to - from;
-    if n < rest.len() {
-        return number_of(&rest[..n]);
-    }
-    number_of(rest)
 }

@@ -1,7 +1,7 @@
 // Numbers of several bytes, lowest byte first, read from and written to any place of a byte slice.
 //
 // Every function is total: past the end a byte reads as 0 and nothing is stored. A lent part of a buffer (`&mut out[4..]`) is
-// written through the same functions, and `specs/Part.antt` says what the whole buffer then holds.
+// written through the same functions, and `proofs/Part.antt` says what the whole buffer then holds.
 ghost use mathlib.Core.Path.{_≡_};
 ghost use mathlib.Core.List.{[], _∷_};
 ghost use lib.ListN.{drop};

@@ -1,3 +1,4 @@
+-- `session` meets its contract: each call gives back what it was lent as long as it was, which the loop keeps, and it ends as `turns` shrinks.
 use native.Mathlib.Omega.{arith}
 use borrow.Author.Needs.{needs}
 use mathlib.Core.Path.{_≡_, _∙_}
@@ -52,13 +53,25 @@ on-meter-requires : tie.Need-on-meter-requires Inv-loop μ-loop
 on-meter-requires c κs = search needs
 
 sub-turns : tie.Need-sub-turns Inv-loop μ-loop
-sub-turns c = c .before .before .before .before .before .before .before .before .before .before .before .before .before .before .before .before .before .before .before .before .before .before .before .before .loop-test .taken
+sub-turns c =
+    let back = c .before .before .before .before .before .before .before .before .before .before .before .before in
+    let loop-test = back .before .before .before .before .before .before .before .before .before .before .before .before .loop-test in
+    loop-test .taken
 
 loop-less : tie.Need-loop-less Inv-loop μ-loop
-loop-less c = omega (arith, c .before .before .before .before .before .before .before .before .before .before .before .before .before .before .before .before .before .before .before .before .before .before .before .before .loop-test .taken)
+loop-less c =
+    let back = c .before .before .before .before .before .before .before .before .before .before .before .before in
+    let loop-test = back .before .before .before .before .before .before .before .before .before .before .before .before .loop-test in
+    omega (arith, loop-test .taken)
 
 loop-again : tie.Need-loop-again Inv-loop μ-loop
-loop-again c = let held = c .before .before .before .before .before .before .before .before .before .before .before .before .before .before .before .before .before .before .before .before .before .before .before .before .before .loop .inv in (c .before .before .before .before .before .before .before .before .before .before .before .before .before .before .before .before .before .before .line .given ∙ held .0, c .before .before .before .before .before .before .before .image .given ∙ held .1, c .before .store .given ∙ held .2, c .before .before .before .before .before .before .before .before .before .before .before .before .before .before .before .before .before .before .before .before .block .given ∙ held .3)
+loop-again c =
+    let back = c .before .before .before .before .before .before .before .before .before .before .before .before .before .before .before .before .before .before in
+    let block = back .before .before .block in
+    let line = back .line in
+    let image = c .before .before .before .before .before .before .before .image in
+    let held = back .before .before .before .before .before .before .before .loop .inv in
+    (line .given ∙ held .0, image .given ∙ held .1, c .before .store .given ∙ held .2, block .given ∙ held .3)
 
 same-length-5 : tie.Need-same-length-5 Inv-loop μ-loop
 same-length-5 c = search needs

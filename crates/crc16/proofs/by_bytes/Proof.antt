@@ -1,5 +1,4 @@
--- `crc16::by_bytes` meets its contract. The loop's invariant: what a stands for goes on over the bytes not yet passed to the register after
--- them all. The measure is what is left of the length.
+-- `by_bytes` meets its contract: the loop keeps that the CRC from `a` over the bytes not yet passed is the one asked for; it ends as they run out.
 use mathlib.Core.Path.{_≡_, refl, _∙_}
 use Prim.Native.Nat.{_-_, _≤_, _<_}
 use native.Mathlib.Numerals.{add-one}
@@ -35,10 +34,11 @@ loop-less c = omega arith
 loop-again : tie.Need-loop-again Inv-loop μ-loop
 unfolding crcFrom
 loop-again c =
+    let loop = c .before .before .before .loop in
     let bytes = c .before .before .before .before .before .args .bytes .now in
     let i = c .before .before .before .loop .i in
     let more : i < length bytes = omega arith in
-    rw (c .byte-more .ensures, add-one) (rw (drop-cons bytes i 0) at (c .before .before .before .loop .inv))
+    rw (c .byte-more .ensures, add-one) (rw (drop-cons bytes i 0) at (loop .inv))
 
 settled-requires : tie.Need-settled-requires Inv-loop μ-loop
 settled-requires c κs = tt

@@ -1,8 +1,9 @@
--- `crc16::by_half` meets its contract: the four bytes are passed by their number.
+-- `by_half` meets its contract: the CRC over four bytes and then the rest is the CRC over all (`crcFrom-number`); under four left, `by_bytes` has them.
 use mathlib.Core.Path.{_∙_}
 use native.Mathlib.Omega.{arith}
 use borrow.Author.Needs.{needs}
-use Rattle.crc16.specs.Word.{register, crcFrom-number}
+use Rattle.crc16.specs.Word.{register}
+use Rattle.crc16.proofs.WordLaws.{crcFrom-number}
 use Rattle.crc16.proofs.by_half.Statement.{statement}
 use Rattle.crc16.proofs.by_half.Tie as tie
 

@@ -1,6 +1,6 @@
--- `crc16::by_pairs` meets its contract. The loop's invariant: what the two words stand for goes on over the bytes not yet passed to the CRC of
--- them all. The measure is what is left of the length.
-use Rattle.crc16.specs.Word.{register, pairRegister, crcFrom-bytesOf, crcFrom-number}
+-- `by_pairs` meets its contract: the loop keeps that the CRC from the two words over the bytes not yet passed is the CRC of all; 16 fewer are left a turn.
+use Rattle.crc16.specs.Word.{register, pairRegister}
+use Rattle.crc16.proofs.WordLaws.{crcFrom-bytesOf, crcFrom-number}
 use Rattle.crc16.specs.Crc.{start, crcOf, crcFrom, times, bitStep}
 use Rattle.words.specs.Place.{numberAt}
 use Rattle.words.specs.Number.{bytesOf}
@@ -9,7 +9,7 @@ use lib.ListN.{length, drop}
 use native.Mathlib.Nat.{zero-add}
 use native.Mathlib.Omega.{arith}
 use Prim.Native.Nat.{ℕ, _+_, _-_, _^_, _≤_, _<_}
-use mathlib.Core.Path.{_≡_, refl, sym, ap, _∙_}
+use mathlib.Core.Path.{_≡_, sym, ap, _∙_}
 use Rattle.crc16.proofs.by_pairs.Statement.{statement}
 use Rattle.crc16.proofs.by_pairs.Tie as tie
 
@@ -55,14 +55,16 @@ loop-less : tie.Need-loop-less Inv-loop μ-loop
 loop-less c = omega arith
 
 loop-again : tie.Need-loop-again Inv-loop μ-loop
-loop-again c = let bytes = c .before .before .before .before .before .before .before .args .bytes .now in
+loop-again c =
+    let loop = c .before .before .before .before .loop in
+    let bytes = c .before .before .before .before .before .before .before .args .bytes .now in
     let known = c .before .before .before .before .before .before .shared-slice-known .given in
     let i = c .before .before .before .before .loop .i in
-    let r = pairRegister (c .before .before .before .before .loop .p .first) (c .before .before .before .before .loop .p .second) in
+    let r = pairRegister (loop .p .first) (loop .p .second) in
     let first = crcFrom-number 8 i r bytes (λ k. known k .fits) (omega arith) in
     let second = crcFrom-number 8 (i + 8) (crcFrom r (bytesOf 8 (numberAt bytes i 8))) bytes (λ k. known k .fits) (omega arith) in
     let both : i + 16 ≡ i + 8 + 8 = omega arith in
-    (omega arith, search needs, rw (c .pair-more .ensures, c .before .u64-at3 .ensures, c .before .before .u64-at2 .ensures, both) (second ∙ first ∙ c .before .before .before .before .loop .inv .2))
+    (omega arith, search needs, rw (c .pair-more .ensures, c .before .u64-at3 .ensures, c .before .before .u64-at2 .ensures, both) (second ∙ first ∙ loop .inv .2))
 
 word-more-requires : tie.Need-word-more-requires Inv-loop μ-loop
 word-more-requires c κs = tt
@@ -72,8 +74,10 @@ by-word-requires c κs = omega arith
 
 returns : tie.Need-returns Inv-loop μ-loop
 unfolding register
-returns c = let p = c .before .before .before .loop .p in
-    c .by-word .ensures ∙ (rw (c .before .word-more .ensures, crcFrom-bytesOf 8 (register (p .first)) (p .second) (search needs)) (c .before .before .before .loop .inv .2))
+returns c =
+    let loop = c .before .before .before .loop in
+    let p = c .before .before .before .loop .p in
+    c .by-word .ensures ∙ (rw (c .before .word-more .ensures, crcFrom-bytesOf 8 (register (loop .p .first)) (loop .p .second) (search needs)) (loop .inv .2))
 
 pub by-pairs-spec : {M : Type 1} → statement M
 by-pairs-spec =

@@ -1,8 +1,9 @@
--- `crc16::by_word` meets its contract: the eight bytes are passed by their number.
+-- `by_word` meets its contract: the CRC over eight bytes and then the rest is the CRC over all (`crcFrom-number`); under eight left, `by_half` has them.
 use mathlib.Core.Path.{_∙_}
 use native.Mathlib.Omega.{arith}
 use borrow.Author.Needs.{needs}
-use Rattle.crc16.specs.Word.{register, crcFrom-number}
+use Rattle.crc16.specs.Word.{register}
+use Rattle.crc16.proofs.WordLaws.{crcFrom-number}
 use Rattle.crc16.proofs.by_word.Statement.{statement}
 use Rattle.crc16.proofs.by_word.Tie as tie
 

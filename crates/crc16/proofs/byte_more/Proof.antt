@@ -1,4 +1,4 @@
--- `crc16::byte_more` meets its contract, by the rule of eight bits more.
+-- `byte_more` meets its contract: shifts are linear over xor, so `more-byte`, tested at each power of two, holds for every word and byte.
 use borrow.Author.Needs.{needs}
 use Rattle.crc16.specs.Crc.{byteStep, eightBits}
 use Rattle.crc16.proofs.Word.{more-byte}

@@ -1,9 +1,8 @@
--- `crc16::crc16` meets its contract, each length by its own way.
+-- `crc16` meets its contract: 64 shifts of START leave FFFF hex (computed), and each length goes its own way; few bytes come back from their number.
 use Rattle.crc16.specs.Word.{register}
-use Rattle.crc16.specs.Crc.{crcOf, crcFrom, times, bitStep}
-use Rattle.words.specs.Number.{number, bytesOf, bytesOf-number}
-use lib.ListN.{length}
-use mathlib.Core.Path.{_∙_, sym, ap, refl}
+use Rattle.crc16.specs.Crc.{crcOf, times, bitStep}
+use Rattle.words.proofs.NumberLaws.{bytesOf-number}
+use mathlib.Core.Path.{_∙_, ap}
 use borrow.Author.Needs.{needs}
 use Rattle.crc16.proofs.crc16.Statement.{statement}
 use Rattle.crc16.proofs.crc16.Tie as tie

@@ -1,5 +1,5 @@
--- `crc16::few` meets its contract: the first four bytes, and above them the rest of the last four.
-use Rattle.crc16.specs.Short.{few-number}
+-- `few` meets its contract: the last four bytes, shifted down past those that are among the first four, stand above them in the number (`few-number`).
+use Rattle.crc16.proofs.Short.{few-number}
 use borrow.Author.Needs.{needs}
 use Rattle.crc16.proofs.few.Statement.{statement}
 use Rattle.crc16.proofs.few.Tie as tie
@@ -32,9 +32,11 @@ add-result : tie.Need-add-result
 add-result c = search needs
 
 returns : tie.Need-returns
-returns c = let start = c .before .before .before .args in
+returns c =
+    let pre = c .before .before .before .pre in
+    let start = c .before .before .before .args in
     let known = c .before .before .shared-slice-known .given in
-    rw (c .u32-at2 .ensures, c .before .u32-at .ensures) (few-number (start .bytes .now) (λ i. known i .fits) (c .before .before .before .pre .0) (c .before .before .before .pre .1))
+    rw (c .u32-at2 .ensures, c .before .u32-at .ensures) (few-number (start .bytes .now) (λ i. known i .fits) (pre .0) (pre .1))
 
 pub few-spec : {M : Type 1} → statement M
 few-spec =

@@ -1,7 +1,8 @@
--- `crc16::half_more` meets its contract, by the rule of 32 bits more.
+-- `half_more` meets its contract: 32 shifts more are `more-half`'s fold of the word and the half, and those shifts are the CRC of the four bytes.
 use mathlib.Core.Path.{sym, _∙_}
 use borrow.Author.Needs.{needs}
-use Rattle.crc16.specs.Word.{crcFrom-bytesOf, register}
+use Rattle.crc16.specs.Word.{register}
+use Rattle.crc16.proofs.WordLaws.{crcFrom-bytesOf}
 use Rattle.crc16.proofs.Word.{more-half}
 use Rattle.crc16.proofs.half_more.Statement.{statement}
 use Rattle.crc16.proofs.half_more.Tie as tie

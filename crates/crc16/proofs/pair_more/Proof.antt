@@ -1,7 +1,8 @@
--- `crc16::pair_more` meets its contract, by the rule of 128 bits more.
+-- `pair_more` meets its contract: 128 shifts more are `more-pair`'s fold of the two words, once each word's shifts are taken apart (`shifts-apart`).
 use Rattle.crc16.proofs.Word.{more-pair, shifts-apart}
-use Rattle.crc16.specs.Word.{register, pairRegister, crcFrom-bytesOf}
-use Rattle.crc16.specs.Crc.{crcFrom, times, bitStep}
+use Rattle.crc16.specs.Word.{register, pairRegister}
+use Rattle.crc16.proofs.WordLaws.{crcFrom-bytesOf}
+use Rattle.crc16.specs.Crc.{crcFrom}
 use Rattle.words.specs.Number.{bytesOf}
 use lib.Bits.{bitXor}
 use Prim.Native.Nat.{ℕ}

@@ -1,5 +1,5 @@
--- `crc16::raised` meets its contract, by the rule of few bytes in one word.
-use Rattle.crc16.specs.Short.{raised-crc}
+-- `raised` meets its contract: what stands above zeros comes down to its own place, so 64 shifts leave the CRC of the n bytes (`raised-crc`).
+use Rattle.crc16.proofs.Short.{raised-crc}
 use borrow.Author.Needs.{needs}
 use Rattle.crc16.proofs.raised.Statement.{statement}
 use Rattle.crc16.proofs.raised.Tie as tie

@@ -1,4 +1,4 @@
--- `crc16::settled` meets its contract, by the rule of the last fold.
+-- `settled` meets its contract: the fold below Q, with Q xored in where the parity asks for it, is what 64 shifts leave (`settle`).
 use Prim.Native.Nat.{_*_, _/_, _%_, _^_}
 use native.Mathlib.Omega.{arith}
 use lib.Count.{ones}

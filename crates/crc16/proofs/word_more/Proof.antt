@@ -1,7 +1,8 @@
--- `crc16::word_more` meets its contract, by the rule of 64 bits more.
+-- `word_more` meets its contract: 64 shifts more are `more-word`'s fold of the word, xored with the next; those shifts are the CRC of its eight bytes.
 use mathlib.Core.Path.{sym, _∙_}
 use borrow.Author.Needs.{needs}
-use Rattle.crc16.specs.Word.{crcFrom-bytesOf, register}
+use Rattle.crc16.specs.Word.{register}
+use Rattle.crc16.proofs.WordLaws.{crcFrom-bytesOf}
 use Rattle.crc16.proofs.Word.{more-word}
 use Rattle.crc16.proofs.word_more.Statement.{statement}
 use Rattle.crc16.proofs.word_more.Tie as tie

@@ -1,4 +1,4 @@
--- `crc16_vectors::put_all` meets its contract: each index is within the frame. The measure is what is left of its length.
+-- `put_all` meets its contract: each index is within the frame, and the loop ends as what is left of the frame's length shrinks.
 use Prim.Native.Nat.{_-_, _≤_}
 use lib.ListN.{length}
 use borrow.Author.Needs.{needs}

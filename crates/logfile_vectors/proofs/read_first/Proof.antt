@@ -1,3 +1,4 @@
+-- `read_first` meets its contract: `n` was tested to be at most the file's 449 bytes, so the part that is lent has `n` bytes.
 use mathlib.Core.Path.{sym}
 use native.Mathlib.Omega.{arith}
 use lib.Seq.{length-take-le}
@@ -9,7 +10,9 @@ array-share-prefix-file : tie.Need-array-share-prefix-file
 array-share-prefix-file c = search needs
 
 slice-aggregate-read : tie.Need-slice-aggregate-read
-slice-aggregate-read c = sym (length-take-le (c .before .before .before .args .n) (c .before .before .before .args .t1) (omega (arith, c .before .before .before .good)))
+slice-aggregate-read c =
+    let args = c .before .before .before .args in
+    sym (length-take-le (args .n) (args .t1) (omega (arith, c .before .before .before .good)))
 
 read-requires : tie.Need-read-requires
 read-requires c κs = search needs

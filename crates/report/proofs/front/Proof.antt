@@ -1,3 +1,4 @@
+-- `front` meets its contract: `n` was tested to lie below the length where the slice is cut; where it does not, `take n` is all the bytes.
 use lib.Seq.{length-take-le, take-all}
 use mathlib.Core.Path.{sym}
 use native.Mathlib.Omega.{arith}
@@ -6,7 +7,9 @@ use Rattle.report.proofs.front.Statement.{statement}
 use Rattle.report.proofs.front.Tie as tie
 
 slice-aggregate-result : tie.Need-slice-aggregate-result
-slice-aggregate-result c = sym (length-take-le (c .before .before .args .n) (c .before .before .args .bytes .now) (omega (arith, c .before .if1 .taken)))
+slice-aggregate-result c =
+    let args = c .before .before .args in
+    sym (length-take-le (args .n) (args .bytes .now) (omega (arith, c .before .if1 .taken)))
 
 returns : tie.Need-returns
 returns c = search needs

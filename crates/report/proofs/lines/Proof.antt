@@ -1,3 +1,4 @@
+-- `lines` meets its contract: a day that is added to is below `days`, so one more fits a byte, and the loop ends as `days - day` shrinks.
 use Prim.Native.Nat.{_-_, _≤_}
 use borrow.Author.Needs.{needs}
 use Rattle.report.proofs.lines.Statement.{statement}

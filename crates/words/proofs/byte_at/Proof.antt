@@ -1,4 +1,4 @@
--- Past the end a byte reads as 0.
+-- `byte_at` meets its contract: before the end it reads the byte itself, and past the end the definition's default is 0.
 use mathlib.Core.Path.{sym}
 use lib.ListN.{List·getD-eq-default}
 use borrow.Author.Needs.{needs}

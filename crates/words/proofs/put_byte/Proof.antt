@@ -1,6 +1,7 @@
--- Past the end nothing is stored.
+-- `put_byte` meets its contract: one store is `written` of one byte, and past the end `written` stores nothing.
 use mathlib.Core.Path.{refl, sym}
-use Rattle.words.specs.Place.{written, written-past}
+use Rattle.words.specs.Place.{written}
+use Rattle.words.proofs.PlaceLaws.{written-past}
 use borrow.Author.Needs.{needs}
 use Rattle.words.proofs.put_byte.Statement.{statement}
 use Rattle.words.proofs.put_byte.Tie as tie

@@ -1,13 +1,13 @@
--- The invariant: what is left of the bytes, written from the next place on, gives what all of them give.
+-- `put_bytes` meets its contract: the loop keeps that writing the bytes left at the next place gives the whole result; it ends as the bytes run out.
 use mathlib.Core.Path.{_≡_, refl, sym, ap, _∙_}
-use mathlib.Core.List.{List, []}
-use Prim.Native.Nat.{ℕ, suc, _+_, _-_, _≤_}
+use Prim.Native.Nat.{_+_, _-_, _≤_}
 use native.Mathlib.Nat.{add-zero, add-suc}
 use native.Mathlib.Numerals.{add-one}
 use native.Mathlib.Omega.{arith}
-use lib.ListN.{length, getD, drop, length-set, drop-of-length-le}
+use lib.ListN.{length, drop, length-set, drop-of-length-le}
 use lib.Seq.{drop-cons}
-use Rattle.words.specs.Place.{written, written-past}
+use Rattle.words.specs.Place.{written}
+use Rattle.words.proofs.PlaceLaws.{written-past}
 use Rattle.words.proofs.put_bytes.Statement.{statement}
 use Rattle.words.proofs.put_bytes.Tie as tie
 
@@ -25,7 +25,9 @@ loop-holds : tie.Need-loop-holds Inv-loop μ-loop
 loop-holds c = (omega arith, refl, rw add-zero)
 
 same-length : tie.Need-same-length Inv-loop μ-loop
-same-length c = c .before .before .loop .inv .1
+same-length c =
+    let loop = c .before .before .loop in
+    loop .inv .1
 
 returns : tie.Need-returns Inv-loop μ-loop
 returns c =

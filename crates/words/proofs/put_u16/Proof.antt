@@ -1,10 +1,11 @@
--- Two bytes written one after the other are the bytes of the number.
+-- `put_u16` meets its contract: remainder and quotient by 256 are the number's two bytes, stored one behind the other (`written-split`).
 use mathlib.Core.Path.{sym, ap, ap₂, _∙_}
 use mathlib.Core.List.{List}
 use Prim.Native.Nat.{ℕ, _+_, _/_, _%_}
 use native.Mathlib.Omega.{arith}
-use Rattle.words.specs.Number.{bytesOf-one}
-use Rattle.words.specs.Place.{written, written-past, written-split}
+use Rattle.words.proofs.NumberLaws.{bytesOf-one}
+use Rattle.words.specs.Place.{written}
+use Rattle.words.proofs.PlaceLaws.{written-past, written-split}
 use borrow.Author.Needs.{needs}
 use Rattle.words.proofs.put_u16.Statement.{statement}
 use Rattle.words.proofs.put_u16.Tie as tie
@@ -29,13 +30,14 @@ same-length c = search needs
 
 returns : tie.Need-returns
 returns c =
+    let put-byte = c .before .before .before .before .before .before .put-byte in
     let start = c .before .before .before .before .before .before .before .before .before .before in
     let s = start .args .out .now in
     let at = start .args .at in
     let n = start .args .n in
     c .before .before .put-byte2 .ensures
     ∙ ap₂ (λ (x y : List ℕ). written x (at + 1) y)
-    (c .before .before .before .before .before .before .put-byte .ensures ∙ ap (written s at) (sym (bytesOf-one (n % 256) (omega arith))))
+    (put-byte .ensures ∙ ap (written s at) (sym (bytesOf-one (n % 256) (omega arith))))
     (sym (bytesOf-one (n / 256) (omega (arith, start .fits .n))))
     ∙ written-split s at 1 1 n
 

@@ -1,9 +1,10 @@
--- Two halves written one after the other are the bytes of the number.
+-- `put_u32` meets its contract: the two low bytes and, behind them, the two high ones are the number's four (`written-split`); past the end nothing.
 use mathlib.Core.Path.{sym, ap, _∙_}
 use mathlib.Core.List.{List}
 use Prim.Native.Nat.{ℕ, _+_, _/_}
 use Rattle.words.specs.Number.{bytesOf}
-use Rattle.words.specs.Place.{written, written-past, written-split}
+use Rattle.words.specs.Place.{written}
+use Rattle.words.proofs.PlaceLaws.{written-past, written-split}
 use borrow.Author.Needs.{needs}
 use Rattle.words.proofs.put_u32.Statement.{statement}
 use Rattle.words.proofs.put_u32.Tie as tie
@@ -28,11 +29,12 @@ same-length c = search needs
 
 returns : tie.Need-returns
 returns c =
+    let put-u16 = c .before .before .before .before .before .before .put-u16 in
     let start = c .before .before .before .before .before .before .before .before .before .before in
     let at = start .args .at in
     let n = start .args .n in
     c .before .before .put-u162 .ensures
-    ∙ ap (λ (x : List ℕ). written x (at + 2) (bytesOf 2 (n / 65536))) (c .before .before .before .before .before .before .put-u16 .ensures)
+    ∙ ap (λ (x : List ℕ). written x (at + 2) (bytesOf 2 (n / 65536))) (put-u16 .ensures)
     ∙ written-split (start .args .out .now) at 2 2 n
 
 returns-2 : tie.Need-returns-2

@@ -1,5 +1,6 @@
+-- `tail` meets its contract: the part up to the length takes all of what `drop` leaves; at or past the end `drop` leaves nothing.
 use native.Mathlib.Omega.{arith}
-use Prim.Native.Nat.{_-_, _≤_}
+use Prim.Native.Nat.{_-_}
 use lib.Seq.{take-all}
 use lib.ListN.{length, drop, length-drop, drop-of-length-le}
 use mathlib.Core.Path.{sym}

@@ -1,8 +1,8 @@
--- The number of twice the bytes is the two halves, the higher above the lower.
+-- `u16_at` meets its contract: a number of two bytes is the second byte times 256 and the first (`numberAt-split`); past the end it is 0.
 use mathlib.Core.Path.{sym}
 use Prim.Native.Nat.{_+_}
 use native.Mathlib.Omega.{arith}
-use Rattle.words.specs.Place.{numberAt-split, numberAt-past, numberAt-one}
+use Rattle.words.proofs.PlaceLaws.{numberAt-split, numberAt-past, numberAt-one}
 use borrow.Author.Needs.{needs}
 use Rattle.words.proofs.u16_at.Statement.{statement}
 use Rattle.words.proofs.u16_at.Tie as tie

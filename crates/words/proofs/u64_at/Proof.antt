@@ -1,8 +1,7 @@
--- The number of twice the bytes is the two halves, the higher above the lower.
+-- `u64_at` meets its contract: a number of eight bytes is the upper four times 2^32 and the lower four (`numberAt-split`); past the end it is 0.
 use mathlib.Core.Path.{sym}
-use Prim.Native.Nat.{_+_}
 use native.Mathlib.Omega.{arith}
-use Rattle.words.specs.Place.{numberAt-split, numberAt-past}
+use Rattle.words.proofs.PlaceLaws.{numberAt-split, numberAt-past}
 use borrow.Author.Needs.{needs}
 use Rattle.words.proofs.u64_at.Statement.{statement}
 use Rattle.words.proofs.u64_at.Tie as tie

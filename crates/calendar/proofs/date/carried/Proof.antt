@@ -1,11 +1,10 @@
--- `calendar::date::carried` meets its contract: the days up to the month reached and the rest are as many as at the start. The
--- measure is the months left.
+-- `carried` meets its contract: the loop keeps that the days before month `at` and those left are the days asked for; it ends as the months run out.
 use Prim.Native.Nat.{_+_, _-_}
 use mathlib.Core.Path.{_≡_, refl, sym, _∙_, ap}
 use native.Mathlib.Omega.{arith}
 use borrow.Author.Needs.{needs}
 use Rattle.calendar.specs.Date.{daysBefore, dateOn}
-use Rattle.calendar.specs.DateLaws.{length-range, date-found, month-carried, date-past}
+use Rattle.calendar.proofs.DateLaws.{length-range, date-found, month-carried, date-past}
 use Rattle.calendar.specs.declared.date.DateAnswer.the-variants.{On}
 use Rattle.calendar.proofs.date.carried.Statement.{statement}
 use Rattle.calendar.proofs.date.carried.Tie as tie
@@ -23,10 +22,16 @@ length-of-requires : tie.Need-length-of-requires Inv-loop μ-loop
 length-of-requires c κs = search needs
 
 date-at-requires : tie.Need-date-at-requires Inv-loop μ-loop
-date-at-requires c κs = let l = length-range (c .before .before .before .loop .at) (c .before .before .loop-test .taken) in omega arith
+date-at-requires c κs =
+    let loop = c .before .before .before .loop in
+    let l = length-range (loop .at) (c .before .before .loop-test .taken) in
+    omega arith
 
 returns : tie.Need-returns Inv-loop μ-loop
-returns c = let s = c .before .before .before .before in ap On (c .date-at .ensures) ∙ sym (date-found (s .loop .at) (s .loop .left) (c .before .before .before .loop-test .taken) (omega arith)) ∙ ap dateOn (s .loop .inv)
+returns c =
+    let loop-test = c .before .before .before .loop-test in
+    let s = c .before .before .before .before in
+    ap On (c .date-at .ensures) ∙ sym (date-found (s .loop .at) (s .loop .left) (loop-test .taken) (omega arith)) ∙ ap dateOn (s .loop .inv)
 
 add-at : tie.Need-add-at Inv-loop μ-loop
 add-at c = omega arith

@@ -1,5 +1,4 @@
--- `calendar::date::date_at` meets its contract: the date is the definition's own, and its three numbers fit a byte. Assumes
--- nothing.
+-- `date_at` meets its contract: the date is the one that `dateAt` names, and with 1,200 months and 31 days each number fits a byte.
 use mathlib.Core.Path.{refl}
 use borrow.Author.Needs.{needs}
 use Rattle.calendar.specs.Date.{dateAt}

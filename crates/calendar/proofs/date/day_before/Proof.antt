@@ -1,9 +1,9 @@
--- `calendar::date::day_before` meets its contract: either the day before is of the same month, or the date is the first of one.
+-- `day_before` meets its contract: past the first, the day before is in the month; on the first, the days before are those before the month.
 use mathlib.Core.Path.{sym, _∙_, ap}
 use native.Mathlib.Omega.{arith}
 use borrow.Author.Needs.{needs}
 use Rattle.calendar.specs.Date.{daysBefore, dayNumber, dateBack}
-use Rattle.calendar.specs.DateLaws.{first-of-month, ranges, back-in-month}
+use Rattle.calendar.proofs.DateLaws.{first-of-month, ranges, back-in-month}
 use Rattle.calendar.proofs.date.day_before.Statement.{statement}
 use Rattle.calendar.proofs.date.day_before.Tie as tie
 
@@ -21,7 +21,9 @@ last-day-before-requires c κs = let s = c .before .before .before in let r = ra
 
 returns-2 : tie.Need-returns-2
 unfolding dayNumber
-returns-2 c = let s = c .before .before .before .before in c .last-day-before .ensures ∙ ap (λ n. dateBack n 1) (ap daysBefore (c .before .month-number .ensures) ∙ first-of-month (s .args .d) (s .pre) (c .before .before .if1 .left))
+returns-2 c =
+    let s = c .before .before .before .before in
+    c .last-day-before .ensures ∙ ap (λ n. dateBack n 1) (ap daysBefore (c .before .month-number .ensures) ∙ first-of-month (s .args .d) (s .pre) (c .before .before .if1 .left))
 
 pub day-before-spec : {M : Type 1} → statement M
 day-before-spec =

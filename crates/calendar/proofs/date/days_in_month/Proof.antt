@@ -1,10 +1,9 @@
--- `calendar::date::days_in_month` meets its contract: a year or month outside the calendar has no days, and in it 31 and 30 days
--- take turns but for February.
+-- `days_in_month` meets its contract: no month outside the calendar has days (`no-month`); inside, 31 and 30 take turns (`turns`) but for February.
 use mathlib.Core.Path.{_∙_, sym, ap}
 use native.Mathlib.Omega.{arith}
 use borrow.Author.Needs.{needs}
 use Rattle.calendar.specs.Date.{daysInMonth}
-use Rattle.calendar.specs.DateLaws.{no-month, turns}
+use Rattle.calendar.proofs.DateLaws.{no-month, turns}
 use Rattle.calendar.proofs.date.days_in_month.Statement.{statement}
 use Rattle.calendar.proofs.date.days_in_month.Tie as tie
 
@@ -21,7 +20,9 @@ february-requires : tie.Need-february-requires
 february-requires c κs = search needs
 
 returns-4 : tie.Need-returns-4
-returns-4 c = c .february .ensures ∙ ap (daysInMonth (c .before .before .before .before .before .args .year)) (sym (c .before .if4 .taken))
+returns-4 c =
+    let args = c .before .before .before .before .before .args in
+    c .february .ensures ∙ ap (daysInMonth (args .year)) (sym (c .before .if4 .taken))
 
 add-result : tie.Need-add-result
 add-result c = search needs
@@ -30,7 +31,8 @@ add-result-2 : tie.Need-add-result-2
 add-result-2 c = search needs
 
 returns-5 : tie.Need-returns-5
-returns-5 c = let s = c .before .before .before .before in sym (turns (s .args .year) (s .args .month) (record { year-below = omega arith; month-from = omega arith; month-to = omega arith }) (c .if4 .left))
+returns-5 c =
+    let s = c .before .before .before .before in sym (turns (s .args .year) (s .args .month) (record { year-below = omega arith; month-from = omega arith; month-to = omega arith }) (c .if4 .left))
 
 pub days-in-month-spec : {M : Type 1} → statement M
 days-in-month-spec =

@@ -1,9 +1,9 @@
--- `calendar::date::days_later` meets its contract: a date's days are those before its month and those before it in the month.
+-- `days_later` meets its contract: a date's day number is the days before its month and the days before it in the month, and `carried` adds n.
 use mathlib.Core.Path.{sym, _∙_, ap}
 use native.Mathlib.Nat.{add-assoc}
 use borrow.Author.Needs.{needs}
 use Rattle.calendar.specs.Date.{dateOn, daysLater, dayNumber}
-use Rattle.calendar.specs.DateLaws.{ranges}
+use Rattle.calendar.proofs.DateLaws.{ranges}
 use Rattle.calendar.proofs.date.days_later.Statement.{statement}
 use Rattle.calendar.proofs.date.days_later.Tie as tie
 
@@ -17,7 +17,10 @@ cast-carried : tie.Need-cast-carried
 cast-carried c = search needs
 
 sub-carried : tie.Need-sub-carried
-sub-carried c = ranges (c .before .before .before .before .args .d) (sym (c .before .before .before .is-date .ensures) ∙ c .before .before .if1 .taken) .day-from
+sub-carried c =
+    let args = c .before .before .before .before .args in
+    let is-date = c .before .before .before .is-date in
+    ranges (args .d) (sym (is-date .ensures) ∙ c .before .before .if1 .taken) .day-from
 
 add-carried : tie.Need-add-carried
 add-carried c = search needs
@@ -27,7 +30,10 @@ carried-requires c κs = search needs
 
 returns : tie.Need-returns
 unfolding daysLater dayNumber
-returns c = rw (sym (c .before .before .before .before .is-date .ensures), c .before .before .before .if1 .taken) (c .carried .ensures ∙ rw (c .before .before .month-number .ensures) (ap dateOn (sym (add-assoc _ _ _))))
+returns c =
+    let is-date = c .before .before .before .before .is-date in
+    let if1 = c .before .before .before .if1 in
+    rw (sym (is-date .ensures), if1 .taken) (c .carried .ensures ∙ rw (c .before .before .month-number .ensures) (ap dateOn (sym (add-assoc _ _ _))))
 
 returns-2 : tie.Need-returns-2
 unfolding daysLater dayNumber

@@ -1,6 +1,6 @@
--- `calendar::date::february` meets its contract: the year is below 100, so the fourth years are the leap years.
+-- `february` meets its contract: of the hundred years every fourth is a leap year and no other (the law `february`).
 use borrow.Author.Tests.{eq-eqb, ne-eqb}
-use Rattle.calendar.specs.DateLaws.{february}
+use Rattle.calendar.proofs.DateLaws.{february}
 use Rattle.calendar.proofs.date.february.Statement.{statement}
 use Rattle.calendar.proofs.date.february.Tie as tie
 

@@ -1,12 +1,11 @@
--- `calendar::date::is_date` meets its contract: no month has a day 0, and only a month of the calendar has days at all. Assumes
--- nothing.
+-- `is_date` meets its contract: a day of at least 1 within its month's days is a date, since a month that does not exist has none (`day-of-month`).
 use mathlib.Core.Bool.{and-false}
 use mathlib.Core.Path.{_∙_, ap}
 use native.Mathlib.Omega.{arith}
 use lib.Dec.{leb}
 use borrow.Author.Needs.{needs}
 use Rattle.calendar.specs.Date.{isDate}
-use Rattle.calendar.specs.DateLaws.{day-of-month}
+use Rattle.calendar.proofs.DateLaws.{day-of-month}
 use Rattle.calendar.proofs.date.is_date.Statement.{statement}
 use Rattle.calendar.proofs.date.is_date.Tie as tie
 

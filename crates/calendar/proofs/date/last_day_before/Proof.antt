@@ -1,10 +1,9 @@
--- `calendar::date::last_day_before` meets its contract: the month before ends a day earlier, and the first month has none before
--- it.
+-- `last_day_before` meets its contract: the day before the first is the last of the month before (`back-over-month`); the first month has none.
 use Prim.Native.Nat.{_-_}
 use mathlib.Core.Path.{sym, _∙_, ap}
 use native.Mathlib.Omega.{arith}
 use borrow.Author.Needs.{needs}
-use Rattle.calendar.specs.DateLaws.{length-range, back-over-month, back-past-start}
+use Rattle.calendar.proofs.DateLaws.{length-range, back-over-month, back-past-start}
 use Rattle.calendar.specs.declared.date.DateAnswer.the-variants.{On}
 use Rattle.calendar.proofs.date.last_day_before.Statement.{statement}
 use Rattle.calendar.proofs.date.last_day_before.Tie as tie

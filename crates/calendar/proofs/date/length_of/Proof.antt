@@ -1,5 +1,4 @@
--- `calendar::date::length_of` meets its contract: the month of a number is that of its year and its place in the year. Assumes
--- nothing.
+-- `length_of` meets its contract: quotient and remainder by 12 are the year and month that `lengthOf` asks `daysInMonth` for, and fit a byte.
 use borrow.Author.Needs.{needs}
 use Rattle.calendar.specs.Date.{lengthOf}
 use Rattle.calendar.proofs.date.length_of.Statement.{statement}

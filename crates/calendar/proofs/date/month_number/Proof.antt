@@ -1,6 +1,6 @@
--- `calendar::date::month_number` meets its contract: a date's month counts from 1.
+-- `month_number` meets its contract: the sum is the definition's own, and a date's month is at least 1, so taking 1 off is safe.
 use borrow.Author.Needs.{needs}
-use Rattle.calendar.specs.DateLaws.{ranges}
+use Rattle.calendar.proofs.DateLaws.{ranges}
 use Rattle.calendar.proofs.date.month_number.Statement.{statement}
 use Rattle.calendar.proofs.date.month_number.Tie as tie
 

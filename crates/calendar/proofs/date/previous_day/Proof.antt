@@ -1,4 +1,4 @@
--- `calendar::date::previous_day` meets its contract: the answer of `day_before` is for dates alone.
+-- `previous_day` meets its contract: `is_date` settles the case of `daysEarlier`, and of a date `day_before` gives the answer.
 use mathlib.Core.Path.{sym, _∙_}
 use borrow.Author.Needs.{needs}
 use Rattle.calendar.specs.Date.{daysEarlier}

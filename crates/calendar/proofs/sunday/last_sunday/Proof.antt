@@ -1,4 +1,4 @@
--- `calendar::sunday::last_sunday` meets its contract: the entry at twice the year and the column is that of the year and the month.
+-- `last_sunday` meets its contract: entry 2 * year + column has the year as its half and, by its parity, the month that the column stands for.
 use Prim.Native.Nat.{_+_, _*_, _/_, _%_}
 use mathlib.Core.Path.{_≡_}
 use native.Mathlib.Omega.{arith}

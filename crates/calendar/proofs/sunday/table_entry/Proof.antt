@@ -1,5 +1,4 @@
--- `calendar::sunday::table_entry` meets its contract: antt walks along the months once, and where a March or an October begins it
--- compares the month's last Sunday with the table.
+-- `table_entry` meets its contract: a computed walk over the 1,200 months compares each March's and October's last Sunday with the table.
 use Prim.Native.Nat.{ℕ, _+_, _*_, _-_, _/_, _%_, _<_}
 use native.Mathlib.Omega.{arith}
 use mathlib.Core.Bool.{Bool, true, cond}
@@ -9,11 +8,12 @@ use lib.Dec.{T, eqb}
 use lib.ListN.{getD}
 use borrow.Author.Needs.{needs}
 use borrow.Author.Tests.{eqb-true}
-use Rattle.calendar.specs.Count.{starts, everyPiece, at-piece}
+use Rattle.calendar.specs.Count.{starts}
+use Rattle.calendar.proofs.CountLaws.{everyPiece, at-piece}
 use Rattle.calendar.specs.Date.{leap, monthLengths, daysInMonth, lengthOf, dayNumber}
-use Rattle.calendar.specs.DateLaws.{length-of-month}
+use Rattle.calendar.proofs.DateLaws.{length-of-month}
 use Rattle.calendar.specs.Sunday.{weekday, lastSunday}
-use Rattle.decide.specs.Test.{passed}
+use Rattle.case_laws.proofs.Test.{passed}
 use Rattle.calendar.proofs.sunday.table_entry.Statement.{statement}
 use Rattle.calendar.proofs.sunday.table_entry.Tie as tie
 

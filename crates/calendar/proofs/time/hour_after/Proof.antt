@@ -1,10 +1,10 @@
--- `calendar::time::hour_after` meets its contract: an hour is 3,600 seconds, on the same day or over midnight.
+-- `hour_after` meets its contract: 3,600 seconds on is the next hour of the day, or after 23 o'clock the next day at 0 with minute and second kept.
 use Prim.Native.Nat.{_+_}
 use mathlib.Core.Path.{sym, _∙_, ap}
 use native.Mathlib.Omega.{arith}
 use borrow.Author.Needs.{needs}
 use Rattle.calendar.specs.Steps.{onDay}
-use Rattle.calendar.specs.TimeLaws.{time-ranges, later-that-day, later-next-day}
+use Rattle.calendar.proofs.TimeLaws.{time-ranges, later-that-day, later-next-day}
 use Rattle.calendar.proofs.time.hour_after.Statement.{statement}
 use Rattle.calendar.proofs.time.hour_after.Tie as tie
 

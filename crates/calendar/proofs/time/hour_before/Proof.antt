@@ -1,11 +1,10 @@
--- `calendar::time::hour_before` meets its contract: an hour is 3,600 seconds, on the same day or back over midnight. Assumes
--- nothing.
+-- `hour_before` meets its contract: 3,600 seconds back is the hour before, or from 0 o'clock the day before at 23 with minute and second kept.
 use Prim.Native.Nat.{_-_}
 use mathlib.Core.Path.{sym, _∙_, ap}
 use native.Mathlib.Omega.{arith}
 use borrow.Author.Needs.{needs}
 use Rattle.calendar.specs.Steps.{onDay}
-use Rattle.calendar.specs.TimeLaws.{time-ranges, earlier-that-day, earlier-day-before}
+use Rattle.calendar.proofs.TimeLaws.{time-ranges, earlier-that-day, earlier-day-before}
 use Rattle.calendar.proofs.time.hour_before.Statement.{statement}
 use Rattle.calendar.proofs.time.hour_before.Tie as tie
 

@@ -1,4 +1,4 @@
--- `calendar::time::hour_earlier` meets its contract: the answer of `hour_before` is for times alone.
+-- `hour_earlier` meets its contract: `is_time` settles the case of `secondsEarlier`, and of a time `hour_before` gives the answer.
 use mathlib.Core.Path.{sym, _∙_}
 use borrow.Author.Needs.{needs}
 use Rattle.calendar.specs.Time.{secondsEarlier}

@@ -1,4 +1,4 @@
--- `calendar::time::hour_later` meets its contract: the answer of `hour_after` is for times alone.
+-- `hour_later` meets its contract: `is_time` settles the case of `secondsLater`, and of a time `hour_after` gives the answer.
 use mathlib.Core.Path.{sym, _∙_}
 use borrow.Author.Needs.{needs}
 use Rattle.calendar.specs.Time.{secondsLater}

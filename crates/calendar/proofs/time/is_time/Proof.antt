@@ -1,4 +1,4 @@
--- `calendar::time::is_time` meets its contract: each test that fails is one of the definition's.
+-- `is_time` meets its contract: each test that fails makes one factor of `isTime` false; where all hold, what is left is `isDate`.
 use mathlib.Core.Bool.{and-false, and-true}
 use native.Mathlib.Omega.{arith}
 use borrow.Author.Needs.{needs}
@@ -24,7 +24,9 @@ is-date-requires c κs = search needs
 
 returns-4 : tie.Need-returns-4
 unfolding isTime
-returns-4 c = let s = c .before .before .before .before .before .before .before in simp (lt-ltb (s .args .t .hour) 24 (omega arith), lt-ltb (s .args .t .minute) 60 (omega arith), lt-ltb (s .args .t .second) 60 (omega arith), and-true) (c .is-date .ensures)
+returns-4 c =
+    let s = c .before .before .before .before .before .before .before in
+    simp (lt-ltb (s .args .t .hour) 24 (omega arith), lt-ltb (s .args .t .minute) 60 (omega arith), lt-ltb (s .args .t .second) 60 (omega arith), and-true) (c .is-date .ensures)
 
 pub is-time-spec : {M : Type 1} → statement M
 is-time-spec = tie.close (tie.spec returns returns-2 returns-3 is-date-requires returns-4)

@@ -1,4 +1,4 @@
--- `calendar::time::next_second` meets its contract: the answer of `second_after` is for times alone.
+-- `next_second` meets its contract: `is_time` settles the case of `secondsLater`, and of a time `second_after` gives the answer.
 use mathlib.Core.Path.{sym, _∙_}
 use borrow.Author.Needs.{needs}
 use Rattle.calendar.specs.Time.{secondsLater}

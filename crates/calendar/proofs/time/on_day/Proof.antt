@@ -1,4 +1,4 @@
--- `calendar::time::on_day` meets its contract: by the cases of the answer.
+-- `on_day` meets its contract: each of the date's three answers is a case of `onDay`.
 use borrow.Author.Needs.{needs}
 use Rattle.calendar.specs.Steps.{onDay}
 use Rattle.calendar.proofs.time.on_day.Statement.{statement}

@@ -1,11 +1,10 @@
--- `calendar::time::second_after` meets its contract: a second later on the same day; where the minute and the second are the last
--- of the hour, an hour after the hour began.
+-- `second_after` meets its contract: one second on stays in the day, or is as many seconds as an hour from the hour's start (`same-sum`).
 use Prim.Native.Nat.{_+_}
 use mathlib.Core.Path.{sym, _∙_}
 use native.Mathlib.Omega.{arith}
 use borrow.Author.Needs.{needs}
 use Rattle.calendar.specs.Time.{secondNumber}
-use Rattle.calendar.specs.TimeLaws.{time-ranges, is-time, later-that-day, same-sum}
+use Rattle.calendar.proofs.TimeLaws.{time-ranges, hour-began, later-that-day, same-sum}
 use Rattle.calendar.proofs.time.second_after.Statement.{statement}
 use Rattle.calendar.proofs.time.second_after.Tie as tie
 
@@ -24,13 +23,12 @@ returns-2 c = let s = c .before .before .before .before .before .before in let t
     sym (later-that-day t 1 (t .hour) (t .minute + 1) 0 (s .pre) (r .hour-below) (omega arith) (omega arith) (omega arith))
 
 hour-after-requires : tie.Need-hour-after-requires
-hour-after-requires c κs = let s = c .before .before .before .before .before in let r = time-ranges (s .args .t) (s .pre) in
-    is-time _ (record { date = r .date; hour-below = r .hour-below; minute-below = omega arith; second-below = omega arith })
+hour-after-requires c κs = let s = c .before .before .before .before .before in hour-began (s .args .t) (s .pre)
 
 returns-3 : tie.Need-returns-3
 unfolding secondNumber
 returns-3 c = let s = c .before .before .before .before .before .before in let t = s .args .t in let r = time-ranges t (s .pre) in
-    c .hour-after .ensures ∙ sym (same-sum t _ 1 3600 (s .pre) (is-time _ (record { date = r .date; hour-below = r .hour-below; minute-below = omega arith; second-below = omega arith })) (omega arith))
+    c .hour-after .ensures ∙ sym (same-sum t _ 1 3600 (s .pre) (hour-began t (s .pre)) (omega arith))
 
 pub second-after-spec : {M : Type 1} → statement M
 second-after-spec =

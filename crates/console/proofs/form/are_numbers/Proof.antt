@@ -1,4 +1,6 @@
-use Rattle.console.specs.Form.{areNumbers, isUpTo, numbers-on, numbers-off, numbers-done}
+-- `are_numbers` meets its contract: in the loop, the test of what is left from word `i + 1` on is the test of all; a word that fails it makes it false.
+use Rattle.console.specs.Form.{areNumbers, isUpTo}
+use Rattle.console.proofs.FormLaws.{numbers-on, numbers-off, numbers-done}
 use native.Mathlib.Omega.{arith}
 use borrow.Author.Needs.{needs}
 use mathlib.Core.Path.{_≡_, refl, sym, ap, _∙_}
@@ -38,10 +40,18 @@ loop-less : tie.Need-loop-less Inv-loop μ-loop
 loop-less c = search needs
 
 loop-again : tie.Need-loop-again Inv-loop μ-loop
-loop-again c = (omega arith, numbers-on _ _ _ (c .before .before .before .before .loop-test .taken) (sym (c .before .is-up-to .ensures ∙ ap (isUpTo _) (c .before .before .before .number-word .ensures)) ∙ c .if1 .taken) ∙ c .before .before .before .before .before .loop .inv .1)
+loop-again c =
+    let loop = c .before .before .before .before .before .loop in
+    let loop-test = c .before .before .before .before .loop-test in
+    let number-word = c .before .before .before .number-word in
+    (omega arith, numbers-on _ _ _ (loop-test .taken) (sym (c .before .is-up-to .ensures ∙ ap (isUpTo _) (number-word .ensures)) ∙ c .if1 .taken) ∙ loop .inv .1)
 
 returns : tie.Need-returns Inv-loop μ-loop
-returns c = numbers-off _ _ _ (c .before .before .before .before .loop-test .taken) (sym (c .before .is-up-to .ensures ∙ ap (isUpTo _) (c .before .before .before .number-word .ensures)) ∙ c .if1 .left) ∙ c .before .before .before .before .before .loop .inv .1
+returns c =
+    let loop = c .before .before .before .before .before .loop in
+    let loop-test = c .before .before .before .before .loop-test in
+    let number-word = c .before .before .before .number-word in
+    numbers-off _ _ _ (loop-test .taken) (sym (c .before .is-up-to .ensures ∙ ap (isUpTo _) (number-word .ensures)) ∙ c .if1 .left) ∙ loop .inv .1
 
 returns-2 : tie.Need-returns-2 Inv-loop μ-loop
 returns-2 c = numbers-done _ _ _ (c .loop-test .left) ∙ c .before .loop .inv .1

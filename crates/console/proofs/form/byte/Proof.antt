@@ -1,5 +1,6 @@
-use mathlib.Core.Path.{sym, _∙_}
-use Rattle.console.specs.Form.{byteOr0}
+-- `byte` meets its contract: each arm is the clause of `byteOr0` for what `byte_word` ensures of that word.
+use mathlib.Core.Path.{sym, ap, _∙_}
+use Rattle.console.proofs.FormLaws.{byteOr0, byte-or-0}
 use borrow.Author.Needs.{needs}
 use Rattle.console.proofs.form.byte.Statement.{statement}
 use Rattle.console.proofs.form.byte.Tie as tie
@@ -15,11 +16,13 @@ enum-told c = search needs
 
 returns : tie.Need-returns
 unfolding byteOr0
-returns c = rw (sym (c .before .before .before .byte-word .ensures) ∙ c .before .n .given .1)
+returns c =
+    let byte-word = c .before .before .before .byte-word in
+    ap byteOr0 (sym (c .before .n .given .1) ∙ byte-word .ensures) ∙ byte-or-0 _
 
 returns-2 : tie.Need-returns-2
 unfolding byteOr0
-returns-2 c = rw (sym (c .before .before .byte-word .ensures) ∙ c .enum-told .given .1)
+returns-2 c = ap byteOr0 (sym (c .enum-told .given .1) ∙ c .before .before .byte-word .ensures) ∙ byte-or-0 _
 
 pub byte-spec : {M : Type 1} → statement M
 byte-spec = tie.close (tie.spec byte-word-requires enum-known-n enum-told returns returns-2)

@@ -1,3 +1,4 @@
+-- `is_form` meets its contract: `spaces` counts `spacesIn` the line, and where that is how many numbers there are, the answer is what `are_numbers` ensures.
 use mathlib.Core.Path.{sym, _∙_}
 use borrow.Author.Tests.{eq-eqb, ne-eqb}
 use Rattle.console.specs.Form.{isForm}

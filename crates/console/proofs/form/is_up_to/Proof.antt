@@ -1,6 +1,7 @@
+-- `is_up_to` meets its contract: `isUpTo` tells apart a number that fits, one too large and no number, and each return is one of the three laws of `upTo`.
 use mathlib.Core.Path.{refl}
 use Rattle.console.specs.Form.{isUpTo}
-use Rattle.console.specs.Value.{fits, too-large, no-number}
+use Rattle.console.proofs.ValueLaws.{fits, too-large, no-number}
 use borrow.Author.Needs.{needs}
 use Rattle.console.proofs.form.is_up_to.Statement.{statement}
 use Rattle.console.proofs.form.is_up_to.Tie as tie
@@ -13,11 +14,15 @@ enum-told c = search needs
 
 returns : tie.Need-returns
 unfolding isUpTo
-returns c = fits _ _ _ _ _ refl (c .before .before .a .given .1) (c .if1 .taken)
+returns c =
+    let a = c .before .before .a in
+    fits _ _ _ _ _ refl (a .given .1) (c .if1 .taken)
 
 returns-2 : tie.Need-returns-2
 unfolding isUpTo
-returns-2 c = too-large _ _ _ _ _ refl (c .before .before .a .given .1) (c .if1 .left)
+returns-2 c =
+    let a = c .before .before .a in
+    too-large _ _ _ _ _ refl (a .given .1) (c .if1 .left)
 
 returns-3 : tie.Need-returns-3
 unfolding isUpTo

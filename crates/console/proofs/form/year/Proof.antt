@@ -1,3 +1,4 @@
+-- `year` meets its contract: each return is the branch of `yearOf` that its two bounds pick, so that year - 2000 fits a byte.
 use mathlib.Core.Path.{sym}
 use borrow.Author.Tests.{lt-ltb, le-ltb}
 use Rattle.console.specs.Form.{yearOf}

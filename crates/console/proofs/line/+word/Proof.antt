@@ -1,6 +1,8 @@
+-- `word` meets its contract: word 0 is the first word, and word k is word k - 1 of what follows the first space; the measure is k.
 use native.Mathlib.Omega.{arith}
 use mathlib.Core.Path.{ap, _∙_}
-use Rattle.console.specs.Line.{wordAt, word-first, word-rest}
+use Rattle.console.specs.Line.{wordAt}
+use Rattle.console.proofs.LineLaws.{word-first, word-rest}
 use Prim.Native.Nat.{ℕ, _<_}
 use borrow.Fn.Kinds.{In}
 use borrow.Fn.PlainCycle.{Measures, is, falls, and}
@@ -69,7 +71,9 @@ word-word-requires : (t : ℕ) → word-lts.Need-word-requires (
   word-below t,
   word.Post,
 ) (word-at t) word.Post
-word-word-requires t c κs = (omega (arith, c .before .before .before .pre .0), tt)
+word-word-requires t c κs =
+    let pre = c .before .before .before .pre in
+    (omega (arith, pre .0), tt)
 
 word-returns-2 : (t : ℕ) → word-lts.Need-returns-2 (
   first-word-reads.Asked,

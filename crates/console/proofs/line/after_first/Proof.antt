@@ -1,4 +1,5 @@
-use Rattle.console.specs.Line.{rest-found, rest-none}
+-- `after_first` meets its contract: `find` ensures the index of the first space; what is behind it is `afterFirst`, nothing where there is no space.
+use Rattle.console.proofs.LineLaws.{rest-found, rest-none}
 use mathlib.Core.Path.{sym, ap, _∙_}
 use native.Mathlib.Omega.{arith}
 use borrow.Author.Needs.{needs}
@@ -21,13 +22,17 @@ part-result-end : tie.Need-part-result-end
 part-result-end c = search needs
 
 returns : tie.Need-returns
-returns c = rest-found _ _ (c .before .before .find .ensures .0)
+returns c =
+    let find = c .before .before .find in
+    rest-found _ _ (find .ensures .0)
 
 slice-aggregate-result : tie.Need-slice-aggregate-result
 slice-aggregate-result c = search needs
 
 returns-2 : tie.Need-returns-2
-returns-2 c = rest-none _ _ (c .before .before .find .ensures .0) (c .before .if1 .left)
+returns-2 c =
+    let find = c .before .before .find in
+    rest-none _ _ (find .ensures .0) (c .before .if1 .left)
 
 pub after-first-spec : {M : Type 1} → statement M
 after-first-spec =

@@ -1,4 +1,5 @@
-use Rattle.console.specs.Line.{first-found}
+-- `first_word` meets its contract: `find` ensures the index of the first space, at most the length, and the bytes before it are `firstWord`.
+use Rattle.console.proofs.LineLaws.{first-found}
 use mathlib.Core.Path.{sym, ap, _∙_}
 use lib.Seq.{length-take-le}
 use borrow.Author.Needs.{needs}

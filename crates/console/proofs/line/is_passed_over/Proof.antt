@@ -1,3 +1,4 @@
+-- `is_passed_over` meets its contract: each return is the branch of `isPassedOver` that the test for no byte picks, with byte 0 as `byte_at` reads it.
 use mathlib.Core.Path.{sym}
 use borrow.Author.Tests.{eq-eqb, ne-eqb}
 use Rattle.console.specs.Line.{isPassedOver}

@@ -1,3 +1,4 @@
+-- `part` meets its contract: each return is the branch of `partOf` that the test of `n` against the length picks, and where `n` fits the part has `n` bytes.
 use Rattle.console.specs.Line.{partOf}
 use borrow.Author.Tests.{le-leb, lt-leb}
 use mathlib.Core.Path.{sym}
@@ -7,7 +8,9 @@ use Rattle.console.proofs.line.part.Statement.{statement}
 use Rattle.console.proofs.line.part.Tie as tie
 
 slice-aggregate-result : tie.Need-slice-aggregate-result
-slice-aggregate-result c = sym (length-take-le (c .before .before .args .n) (c .before .before .args .s .now) (c .before .if1 .taken))
+slice-aggregate-result c =
+    let args = c .before .before .args in
+    sym (length-take-le (args .n) (args .s .now) (c .before .if1 .taken))
 
 returns : tie.Need-returns
 unfolding partOf

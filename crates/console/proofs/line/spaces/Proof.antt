@@ -1,4 +1,6 @@
-use Rattle.console.specs.Line.{spacesIn, a-space, no-space, none-left}
+-- `spaces` meets its contract: the loop keeps `n` and the spaces from `i` on equal to the spaces of all, and ends as what is left of the line shrinks.
+use Rattle.console.specs.Line.{spacesIn}
+use Rattle.console.proofs.LineLaws.{a-space, no-space, none-left}
 use lib.ListN.{length, drop, drop-of-length-le}
 use Prim.Native.Nat.{_+_, _-_, _≤_}
 use mathlib.Core.Logic.{⊎-elim}
@@ -29,10 +31,17 @@ loop-less : tie.Need-loop-less Inv-loop μ-loop
 loop-less c = omega arith
 
 loop-again : tie.Need-loop-again Inv-loop μ-loop
-loop-again c = let turn = c .before .before .before in let line = turn .before .args .line .now in let read = c .before .before .loop-test .taken in ⊎-elim (λ w. (omega arith, omega arith, omega (arith, a-space line (turn .loop .i) read (w .0 .taken)))) (λ w. (omega arith, omega arith, omega (arith, no-space line (turn .loop .i) read (w .0 .left)))) (c .if1 .came)
+loop-again c =
+    let turn = c .before .before .before in
+    let line = turn .before .args .line .now in
+    let read = c .before .before .loop-test .taken in
+    ⊎-elim (λ w. (omega arith, omega arith, omega (arith, a-space line (turn .loop .i) read (w .0 .taken))))
+    (λ w. (omega arith, omega arith, omega (arith, no-space line (turn .loop .i) read (w .0 .left)))) (c .if1 .came)
 
 returns : tie.Need-returns Inv-loop μ-loop
-returns c = omega (arith, none-left (c .before .before .args .line .now) (c .before .loop .i) (c .loop-test .left))
+returns c =
+    let args = c .before .before .args in
+    omega (arith, none-left (args .line .now) (c .before .loop .i) (c .loop-test .left))
 
 pub spaces-spec : {M : Type 1} → statement M
 spaces-spec =

@@ -1,3 +1,4 @@
+-- `number_word` meets its contract: `number_of` ensures `numberOfText` of what it is given, and `word` ensures that this is the word.
 use mathlib.Core.Path.{ap, _∙_}
 use Rattle.text.specs.Reading.{numberOfText}
 use borrow.Author.Needs.{needs}

@@ -1,3 +1,4 @@
+-- `pair` meets its contract: the answers of `hex_value` and the tests that both are below 16 pick the clause of `pairOf` and `lowOf` of each return.
 use Rattle.console.specs.Value.{pairOf, lowOf}
 use borrow.Author.Tests.{lt-ltb, le-ltb}
 use mathlib.Core.Path.{sym, _∙_}
@@ -29,7 +30,10 @@ enum-told-2 c = search needs
 
 returns-2 : tie.Need-returns-2
 unfolding pairOf lowOf
-returns-2 c = simp (sym (c .before .before .before .before .before .before .hex-value .ensures) ∙ c .before .before .before .before .h .given .1, sym (c .before .before .hex-value2 .ensures) ∙ c .enum-told2 .given .1)
+returns-2 c =
+    let hex-value = c .before .before .before .before .before .before .hex-value in
+    let h = c .before .before .before .before .h in
+    simp (sym (hex-value .ensures) ∙ h .given .1, sym (c .before .before .hex-value2 .ensures) ∙ c .enum-told2 .given .1)
 
 mul-t9 : tie.Need-mul-t9
 mul-t9 c = search needs
@@ -39,15 +43,32 @@ add-t10 c = search needs
 
 returns-3 : tie.Need-returns-3
 unfolding pairOf lowOf
-returns-3 c = simp (sym (c .before .before .before .before .before .before .before .before .before .hex-value .ensures) ∙ c .before .before .before .before .before .before .before .h .given .1, sym (c .before .before .before .before .before .hex-value2 .ensures) ∙ c .before .before .before .l .given .1, lt-ltb _ _ (c .before .if1 .taken), lt-ltb _ _ (c .if2 .taken))
+returns-3 c =
+    let back = c .before .before .before .before .before in
+    let hex-value = back .before .before .before .before .hex-value in
+    let h = back .before .before .h in
+    let hex-value2 = back .hex-value2 in
+    let l = c .before .before .before .l in
+    simp (sym (hex-value .ensures) ∙ h .given .1, sym (hex-value2 .ensures) ∙ l .given .1, lt-ltb _ _ (c .before .if1 .taken), lt-ltb _ _ (c .if2 .taken))
 
 returns-4 : tie.Need-returns-4
 unfolding pairOf lowOf
-returns-4 c = simp (sym (c .before .before .before .before .before .before .before .before .before .hex-value .ensures) ∙ c .before .before .before .before .before .before .before .h .given .1, sym (c .before .before .before .before .before .hex-value2 .ensures) ∙ c .before .before .before .l .given .1, lt-ltb _ _ (c .before .if1 .taken), le-ltb _ _ (c .if2 .left))
+returns-4 c =
+    let back = c .before .before .before .before .before in
+    let hex-value = back .before .before .before .before .hex-value in
+    let h = back .before .before .h in
+    let hex-value2 = back .hex-value2 in
+    let l = c .before .before .before .l in
+    simp (sym (hex-value .ensures) ∙ h .given .1, sym (hex-value2 .ensures) ∙ l .given .1, lt-ltb _ _ (c .before .if1 .taken), le-ltb _ _ (c .if2 .left))
 
 returns-5 : tie.Need-returns-5
 unfolding pairOf lowOf
-returns-5 c = simp (sym (c .before .before .before .before .before .before .before .before .hex-value .ensures) ∙ c .before .before .before .before .before .before .h .given .1, sym (c .before .before .before .before .hex-value2 .ensures) ∙ c .before .before .l .given .1, le-ltb _ _ (c .if1 .left))
+returns-5 c =
+    let hex-value = c .before .before .before .before .before .before .before .before .hex-value in
+    let h = c .before .before .before .before .before .before .h in
+    let hex-value2 = c .before .before .before .before .hex-value2 in
+    let l = c .before .before .l in
+    simp (sym (hex-value .ensures) ∙ h .given .1, sym (hex-value2 .ensures) ∙ l .given .1, le-ltb _ _ (c .if1 .left))
 
 pub pair-spec : {M : Type 1} → statement M
 pair-spec =

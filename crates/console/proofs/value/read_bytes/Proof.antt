@@ -1,6 +1,8 @@
+-- `read_bytes` meets its contract: in the loop, reading on from pair `i` into what is written gives what reading all gives, and it ends as `pairs - i` shrinks.
 use Prim.Native.Nat.{_+_}
 use Prim.Native.Nat.{_/_}
-use Rattle.console.specs.Value.{bytesRead, readFrom, pairOf, pairAt, half-a-byte, no-bytes, some-bytes, read-on, read-stops, read-ends, told}
+use Rattle.console.specs.Value.{bytesRead, readFrom, pairOf, pairAt}
+use Rattle.console.proofs.ValueLaws.{half-a-byte, no-bytes, some-bytes, read-on, read-stops, read-ends, told}
 use lib.ListN.{length}
 use Prim.Native.Nat.{_-_, _≤_}
 use mathlib.Core.Path.{_≡_, refl, sym, ap, _∙_}
@@ -55,7 +57,12 @@ same-length : tie.Need-same-length Inv-loop μ-loop
 same-length c = search needs
 
 returns-3 : tie.Need-returns-3 Inv-loop μ-loop
-returns-3 c = read-stops _ _ _ _ (c .before .before .before .before .before .loop-test .taken) (told _ _ _ _ _ _ (c .before .before .before .before .byte-at .ensures) (c .before .before .before .byte-at2 .ensures) (c .before .before .pair .ensures) (c .enum-told .given .1)) ∙ c .before .before .before .before .before .before .loop .inv .2
+returns-3 c =
+    let loop = c .before .before .before .before .before .before .loop in
+    let loop-test = c .before .before .before .before .before .loop-test in
+    let byte-at = c .before .before .before .before .byte-at in
+    let byte-at2 = c .before .before .before .byte-at2 in
+    read-stops _ _ _ _ (loop-test .taken) (told _ _ _ _ _ _ (byte-at .ensures) (byte-at2 .ensures) (c .before .before .pair .ensures) (c .enum-told .given .1)) ∙ loop .inv .2
 
 add-i : tie.Need-add-i Inv-loop μ-loop
 add-i c = search needs
@@ -64,7 +71,20 @@ loop-less : tie.Need-loop-less Inv-loop μ-loop
 loop-less c = search needs
 
 loop-again : tie.Need-loop-again Inv-loop μ-loop
-loop-again c = (search needs, search needs, ap (readFrom _ _ _ _) (c .before .before .put-byte .ensures) ∙ read-on _ _ _ _ _ (c .before .before .before .before .before .before .before .before .before .before .loop-test .taken) (told _ _ _ _ _ _ (c .before .before .before .before .before .before .before .before .before .byte-at .ensures) (c .before .before .before .before .before .before .before .before .byte-at2 .ensures) (c .before .before .before .before .before .before .before .pair .ensures) (c .before .before .before .before .before .byte .given .1)) ∙ c .before .before .before .before .before .before .before .before .before .before .before .loop .inv .2)
+loop-again c =
+    let back = c .before .before .before .before .before .before .before in
+    let loop = back .before .before .before .before .loop in
+    let loop-test = back .before .before .before .loop-test in
+    let byte-at = back .before .before .byte-at in
+    let byte-at2 = back .before .byte-at2 in
+    let pair = back .pair in
+    let byte = c .before .before .before .before .before .byte in (
+      search needs,
+      search needs,
+      ap (readFrom _ _ _ _) (c .before .before .put-byte .ensures)
+          ∙ read-on _ _ _ _ _ (loop-test .taken) (told _ _ _ _ _ _ (byte-at .ensures) (byte-at2 .ensures) (pair .ensures) (byte .given .1))
+          ∙ loop .inv .2,
+    )
 
 same-length-2 : tie.Need-same-length-2 Inv-loop μ-loop
 same-length-2 c = search needs

@@ -1,3 +1,4 @@
+-- `next_line` meets its contract: the loop keeps the lengths of `block` and `line`, which must stay as they were, and it ends as `turns` shrinks.
 use borrow.Author.Needs.{needs}
 use mathlib.Core.Path.{_≡_, refl}
 use lib.ListN.{length}

@@ -1,3 +1,4 @@
+-- `put_row` meets its contract: seven stores from the front on are the row's numbers, with the rest behind them as it was (`sets-eq`).
 use Rattle.dayreport.specs.Tallies.{rowOf}
 use lib.Seq.{sets-eq}
 use lib.ListN.{length-set}

@@ -1,10 +1,12 @@
+-- `report_in` meets its contract: the day's bound is `reportIn`'s test, and what `tally` says of the day's cells settles the row or 28.
 use Prim.Native.Nat.{_≤_}
 use native.Mathlib.Omega.{arith}
 use native.Mathlib.Nat.{mul-le-mul}
 use mathlib.Core.Path.{sym, ap, _∙_}
 use borrow.Author.Tests.{le-ltb, lt-ltb}
-use Rattle.dayreport.specs.Tallies.{report-all, report-bad, day-tallied}
-use Rattle.dayreport.specs.Report.{reportIn, outcome}
+use Rattle.refusal.specs.Outcome.{outcome}
+use Rattle.dayreport.proofs.TalliesLaws.{report-all, report-bad, day-tallied}
+use Rattle.dayreport.specs.Report.{reportIn}
 use borrow.Author.Needs.{needs}
 use Rattle.dayreport.proofs.report.report_in.Statement.{statement}
 use Rattle.dayreport.proofs.report.report_in.Tie as tie
@@ -44,10 +46,11 @@ same-length c = search needs
 returns-2 : tie.Need-returns-2
 unfolding reportIn
 returns-2 c =
+    let t = c .before .before .before .before .before .t in
     let walked = c .before .before .before .before .before .before .before in
     let start = walked .before .before .before .before .before .before in
     let day = day-tallied (start .args .log .now) (start .args .h) (start .args .day) _ (walked .before .slots-of .ensures) in
-    let cells = day ∙ sym (walked .tally .ensures) ∙ c .before .before .before .before .before .t .given .1 in
+    let cells = day ∙ sym (walked .tally .ensures) ∙ t .given .1 in
     simp (lt-ltb _ _ (walked .before .before .if1 .left)) (ap (outcome _) (c .before .before .put-row .ensures) ∙ sym (report-all _ (start .args .row .now) _ cells))
 
 returns-3 : tie.Need-returns-3

@@ -1,6 +1,6 @@
--- The product of 32 and 16 bits fits 64.
+-- `energy` meets its contract: the answer is the product that `energyOf` names, and 32 bits times 16 bits fit 64 (`product-below`).
 use native.Mathlib.Nat.{lt-of-lt-of-le}
-use Rattle.energy.specs.Energy.{product-below}
+use Rattle.energy.proofs.EnergyLaws.{product-below}
 use borrow.Author.Needs.{needs}
 use Rattle.energy.proofs.Counts.energy.Statement.{statement}
 use Rattle.energy.proofs.Counts.energy.Tie as tie

@@ -1,4 +1,4 @@
--- Each answer is what the test on the way to it says.
+-- `plus` meets its contract: summed in 64 bits nothing is lost, and the test against 2^32 is the test of `sumOf`.
 use borrow.Author.Tests.{lt-ltb, le-ltb}
 use Rattle.energy.specs.Energy.{sumOf}
 use borrow.Author.Needs.{needs}

@@ -1,3 +1,4 @@
+-- `date_time_of` meets its contract: each field is the byte at the place that `dateTimeOf` names.
 use Rattle.figures.specs.Clock.{dateTimeOf}
 use borrow.Author.Needs.{needs}
 use Rattle.figures.proofs.clock.date_time_of.Statement.{statement}
@@ -23,7 +24,11 @@ byte-at-requires-6 c κs = search needs
 
 returns : tie.Need-returns
 unfolding dateTimeOf
-returns c = simp (c .byte-at6 .ensures, c .before .byte-at5 .ensures, c .before .before .byte-at4 .ensures, c .before .before .before .byte-at3 .ensures, c .before .before .before .before .byte-at2 .ensures, c .before .before .before .before .before .byte-at .ensures)
+returns c =
+    let byte-at = c .before .before .before .before .before .byte-at in
+    let byte-at2 = c .before .before .before .before .byte-at2 in
+    let byte-at3 = c .before .before .before .byte-at3 in
+    simp (c .byte-at6 .ensures, c .before .byte-at5 .ensures, c .before .before .byte-at4 .ensures, byte-at3 .ensures, byte-at2 .ensures, byte-at .ensures)
 
 pub date-time-of-spec : {M : Type 1} → statement M
 date-time-of-spec =

@@ -1,3 +1,4 @@
+-- `put_date_time` meets its contract: the six bytes that are put stand in the order of `dateTimeBytes`.
 use Rattle.figures.specs.Clock.{dateTimeBytes}
 use borrow.Author.Needs.{needs}
 use Rattle.figures.proofs.clock.put_date_time.Statement.{statement}

@@ -1,3 +1,4 @@
+-- `display_mask` meets its contract: each field is the number or byte at the place that `maskOf` names.
 use Rattle.figures.specs.Mask.{maskOf}
 use borrow.Author.Needs.{needs}
 use Rattle.figures.proofs.mask.display_mask.Statement.{statement}

@@ -1,6 +1,6 @@
-use Rattle.words.specs.Place.{written-append, written-cons}
-use Rattle.words.specs.Place.{written, written-append}
-use Rattle.words.specs.Number.{length-bytesOf}
+-- `put_display_mask` meets its contract: four bytes and two single ones, put one behind the other, are `maskBytes` (`written-append`).
+use Rattle.words.proofs.PlaceLaws.{written-append, written-cons}
+use Rattle.words.proofs.NumberLaws.{length-bytesOf}
 use Rattle.figures.specs.Mask.{maskBytes}
 use borrow.Author.Needs.{needs}
 use Rattle.figures.proofs.mask.put_display_mask.Statement.{statement}
@@ -20,7 +20,10 @@ same-length c = search needs
 
 returns : tie.Need-returns
 unfolding maskBytes
-returns c = simp (c .before .before .put-byte2 .ensures, c .before .before .before .before .before .before .put-byte .ensures, c .before .before .before .before .before .before .before .before .before .before .put-u32 .ensures, written-append, length-bytesOf, written-cons)
+returns c =
+    let put-u32 = c .before .before .before .before .before .before .before .before .before .before .put-u32 in
+    let put-byte = c .before .before .before .before .before .before .put-byte in
+    simp (c .before .before .put-byte2 .ensures, put-byte .ensures, put-u32 .ensures, written-append, length-bytesOf, written-cons)
 
 pub put-display-mask-spec : {M : Type 1} → statement M
 put-display-mask-spec =

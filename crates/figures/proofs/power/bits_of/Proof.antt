@@ -1,6 +1,8 @@
-use Rattle.figures.specs.Power.{same-number, bitsOf}
+-- `bits_of` meets its contract: only what is no number differs from itself, and its bits are NO_NUMBER; any other is a number (`same-number`).
+use Rattle.figures.specs.Power.{bitsOf}
+use Rattle.figures.proofs.PowerLaws.{same-number}
 use lib.Ieee.Compare.{differs-from-itself}
-use lib.Ieee.{toBits, binary32}
+use lib.Ieee.{toBits}
 use lib.Dec.{T}
 use mathlib.Core.Path.{sym, ap, subst}
 use borrow.Author.Needs.{needs}

@@ -1,4 +1,6 @@
-use Rattle.figures.specs.Power.{powerOf, floatAt, finite-bits}
+-- `power_of` meets its contract: a float is finite exactly where its bits without the sign are below the infinity's (`finite-bits`).
+use Rattle.figures.specs.Power.{powerOf, floatAt}
+use Rattle.figures.proofs.PowerLaws.{finite-bits}
 use native.Mathlib.Nat.{le-of-lt}
 use lib.Arith.{le→nltb}
 use lib.Ieee.Bits.{nanBits-above}

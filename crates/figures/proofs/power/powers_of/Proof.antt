@@ -1,5 +1,6 @@
-use Rattle.figures.specs.Power.{powersOf}
-use mathlib.Core.Path.{sym, _∙_}
+-- `powers_of` meets its contract: the total is read first, the phases from the fifth byte on.
+use mathlib.Core.Path.{sym, ap, _∙_}
+use Rattle.figures.specs.Power.{phasesOf, powersOf}
 use borrow.Author.Needs.{needs}
 use Rattle.figures.proofs.power.powers_of.Statement.{statement}
 use Rattle.figures.proofs.power.powers_of.Tie as tie
@@ -17,48 +18,38 @@ returns : tie.Need-returns
 unfolding powersOf
 returns c = simp (sym (c .before .before .power-of .ensures) ∙ c .enum-told .given .1)
 
-power-of-requires-2 : tie.Need-power-of-requires-2
-power-of-requires-2 c κs = search needs
+tail-requires : tie.Need-tail-requires
+tail-requires c κs = search needs
 
-enum-known-a : tie.Need-enum-known-a
-enum-known-a c = search needs
+phases-of-requires : tie.Need-phases-of-requires
+phases-of-requires c κs = search needs
+
+enum-known-phases : tie.Need-enum-known-phases
+enum-known-phases c = search needs
 
 enum-told-2 : tie.Need-enum-told-2
 enum-told-2 c = search needs
 
 returns-2 : tie.Need-returns-2
 unfolding powersOf
-returns-2 c = simp (sym (c .before .before .before .before .before .before .power-of .ensures) ∙ c .before .before .before .before .total .given .1, sym (c .before .before .power-of2 .ensures) ∙ c .enum-told2 .given .1)
-
-power-of-requires-3 : tie.Need-power-of-requires-3
-power-of-requires-3 c κs = search needs
-
-enum-known-b : tie.Need-enum-known-b
-enum-known-b c = search needs
-
-enum-told-3 : tie.Need-enum-told-3
-enum-told-3 c = search needs
+returns-2 c =
+    let phases = c .before .before in
+    let first = phases .before .before .before in
+    simp (
+      sym (first .before .before .power-of .ensures) ∙ first .total .given .1,
+      ap phasesOf (sym (phases .before .tail .ensures)) ∙ sym (phases .phases-of .ensures) ∙ c .enum-told2 .given .1,
+    )
 
 returns-3 : tie.Need-returns-3
 unfolding powersOf
-returns-3 c = simp (sym (c .before .before .before .before .before .before .before .before .before .before .power-of .ensures) ∙ c .before .before .before .before .before .before .before .before .total .given .1, sym (c .before .before .before .before .before .before .power-of2 .ensures) ∙ c .before .before .before .before .a .given .1, sym (c .before .before .power-of3 .ensures) ∙ c .enum-told3 .given .1)
-
-power-of-requires-4 : tie.Need-power-of-requires-4
-power-of-requires-4 c κs = search needs
-
-enum-known-c : tie.Need-enum-known-c
-enum-known-c c = search needs
-
-enum-told-4 : tie.Need-enum-told-4
-enum-told-4 c = search needs
-
-returns-4 : tie.Need-returns-4
-unfolding powersOf
-returns-4 c = simp (sym (c .before .before .before .before .before .before .before .before .before .before .before .before .before .before .power-of .ensures) ∙ c .before .before .before .before .before .before .before .before .before .before .before .before .total .given .1, sym (c .before .before .before .before .before .before .before .before .before .before .power-of2 .ensures) ∙ c .before .before .before .before .before .before .before .before .a .given .1, sym (c .before .before .before .before .before .before .power-of3 .ensures) ∙ c .before .before .before .before .b .given .1, sym (c .before .before .power-of4 .ensures) ∙ c .enum-told4 .given .1)
-
-returns-5 : tie.Need-returns-5
-unfolding powersOf
-returns-5 c = simp (sym (c .before .before .before .before .before .before .before .before .before .before .before .before .before .before .before .power-of .ensures) ∙ c .before .before .before .before .before .before .before .before .before .before .before .before .before .total .given .1, sym (c .before .before .before .before .before .before .before .before .before .before .before .power-of2 .ensures) ∙ c .before .before .before .before .before .before .before .before .before .a .given .1, sym (c .before .before .before .before .before .before .before .power-of3 .ensures) ∙ c .before .before .before .before .before .b .given .1, sym (c .before .before .before .power-of4 .ensures) ∙ c .before .c .given .1)
+returns-3 c =
+    let read = c .before in
+    let phases = read .before .before in
+    let first = phases .before .before .before in
+    simp (
+      sym (first .before .before .power-of .ensures) ∙ first .total .given .1,
+      ap phasesOf (sym (phases .before .tail .ensures)) ∙ sym (phases .phases-of .ensures) ∙ read .phases .given .1,
+    )
 
 pub powers-of-spec : {M : Type 1} → statement M
 powers-of-spec =
@@ -68,16 +59,9 @@ powers-of-spec =
     enum-known-total
     enum-told
     returns
-    power-of-requires-2
-    enum-known-a
+    tail-requires
+    phases-of-requires
+    enum-known-phases
     enum-told-2
     returns-2
-    power-of-requires-3
-    enum-known-b
-    enum-told-3
-    returns-3
-    power-of-requires-4
-    enum-known-c
-    enum-told-4
-    returns-4
-    returns-5)
+    returns-3)

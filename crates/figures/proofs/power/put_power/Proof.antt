@@ -1,3 +1,4 @@
+-- `put_power` meets its contract: the four bytes put are those of the number that `bits_of` gives, which is `powerBytes`.
 use Rattle.figures.specs.Power.{powerBytes}
 use Rattle.words.specs.Place.{written}
 use Rattle.words.specs.Number.{bytesOf}
@@ -18,7 +19,10 @@ same-length c = search needs
 
 returns : tie.Need-returns
 unfolding powerBytes
-returns c = c .before .before .put-u32 .ensures ∙ ap (λ (n : ℕ). written (c .before .before .before .before .before .before .args .out .now) (c .before .before .before .before .before .before .args .at) (bytesOf 4 n)) (c .before .before .before .bits-of .ensures)
+returns c =
+    let args = c .before .before .before .before .before .before .args in
+    let bits-of = c .before .before .before .bits-of in
+    c .before .before .put-u32 .ensures ∙ ap (λ (n : ℕ). written (args .out .now) (args .at) (bytesOf 4 n)) (bits-of .ensures)
 
 pub put-power-spec : {M : Type 1} → statement M
 put-power-spec = tie.close (tie.spec bits-of-requires put-u32-requires same-length returns)

@@ -1,9 +1,10 @@
-use Rattle.figures.specs.Power.{powerBytes, written-powers}
+-- `put_powers` meets its contract: the phases are written behind the four bytes of the total.
+use mathlib.Core.Path.{ap, _∙_}
 use Rattle.words.specs.Place.{written}
+use Rattle.words.proofs.PlaceLaws.{onward}
+use Rattle.figures.specs.Power.{powerBytes, powersBytes}
+use Rattle.figures.proofs.PowerLaws.{length-powerBytes}
 use lib.Ieee.{Float}
-use Prim.Native.Nat.{ℕ}
-use mathlib.Core.List.{List}
-use mathlib.Core.Path.{ap, ap₂, _∙_}
 use borrow.Author.Needs.{needs}
 use Rattle.figures.proofs.power.put_powers.Statement.{statement}
 use Rattle.figures.proofs.power.put_powers.Tie as tie
@@ -14,36 +15,23 @@ total-requires c κs = search needs
 put-power-requires : tie.Need-put-power-requires
 put-power-requires c κs = search needs
 
-put-power-requires-2 : tie.Need-put-power-requires-2
-put-power-requires-2 c κs = search needs
-
-put-power-requires-3 : tie.Need-put-power-requires-3
-put-power-requires-3 c κs = search needs
-
-put-power-requires-4 : tie.Need-put-power-requires-4
-put-power-requires-4 c κs = search needs
+put-phases-requires : tie.Need-put-phases-requires
+put-phases-requires c κs = search needs
 
 same-length : tie.Need-same-length
 same-length c = search needs
 
 returns : tie.Need-returns
-returns c = c .before .before .put-power4 .ensures
-    ∙ ap (λ (s : List ℕ). written s 12 (powerBytes (c .before .before .before .before .before .before .before .before .before .before .before .before .before .before .before .before .before .before .args .p .c)))
-    (c .before .before .before .before .before .before .put-power3 .ensures
-    ∙ ap (λ (s : List ℕ). written s 8 (powerBytes (c .before .before .before .before .before .before .before .before .before .before .before .before .before .before .before .before .before .before .args .p .b)))
-    (c .before .before .before .before .before .before .before .before .before .before .put-power2 .ensures
-    ∙ ap (λ (s : List ℕ). written s 4 (powerBytes (c .before .before .before .before .before .before .before .before .before .before .before .before .before .before .before .before .before .before .args .p .a)))
-    (c .before .before .before .before .before .before .before .before .before .before .before .before .before .before .put-power .ensures ∙ ap (λ (x : Float). written (c .before .before .before .before .before .before .before .before .before .before .before .before .before .before .before .before .before .before .args .out .now) 0 (powerBytes x)) (c .before .before .before .before .before .before .before .before .before .before .before .before .before .before .before .total .ensures))))
-    ∙ written-powers (c .before .before .before .before .before .before .before .before .before .before .before .before .before .before .before .before .before .before .args .out .now) (c .before .before .before .before .before .before .before .before .before .before .before .before .before .before .before .before .before .before .args .p)
+unfolding powersBytes
+returns c =
+    let phases = c .before .before in
+    let total = phases .before .before .before .before in
+    let start = total .before .before .before .before in
+    onward (start .args .out .now) _ _ 0 4 _ _
+    (total .put-power .ensures ∙ ap (λ (x : Float). written (start .args .out .now) 0 (powerBytes x)) (total .before .total .ensures))
+    (phases .put-phases .ensures)
+    (simp length-powerBytes)
 
 pub put-powers-spec : {M : Type 1} → statement M
 put-powers-spec =
-    tie.close
-    (tie.spec
-    total-requires
-    put-power-requires
-    put-power-requires-2
-    put-power-requires-3
-    put-power-requires-4
-    same-length
-    returns)
+    tie.close (tie.spec total-requires put-power-requires put-phases-requires same-length returns)

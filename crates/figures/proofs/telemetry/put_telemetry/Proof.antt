@@ -1,5 +1,6 @@
-use Rattle.words.specs.Place.{written-append}
-use Rattle.words.specs.Number.{length-bytesOf}
+-- `put_telemetry` meets its contract: numbers of four, two and two bytes, put one behind the other, are `telemetryBytes` (`written-append`).
+use Rattle.words.proofs.PlaceLaws.{written-append}
+use Rattle.words.proofs.NumberLaws.{length-bytesOf}
 use Rattle.figures.specs.Telemetry.{telemetryBytes}
 use borrow.Author.Needs.{needs}
 use Rattle.figures.proofs.telemetry.put_telemetry.Statement.{statement}
@@ -19,7 +20,10 @@ same-length c = search needs
 
 returns : tie.Need-returns
 unfolding telemetryBytes
-returns c = simp (c .before .before .put-u162 .ensures, c .before .before .before .before .before .before .put-u16 .ensures, c .before .before .before .before .before .before .before .before .before .before .put-u32 .ensures, written-append, length-bytesOf)
+returns c =
+    let put-u32 = c .before .before .before .before .before .before .before .before .before .before .put-u32 in
+    let put-u16 = c .before .before .before .before .before .before .put-u16 in
+    simp (c .before .before .put-u162 .ensures, put-u16 .ensures, put-u32 .ensures, written-append, length-bytesOf)
 
 pub put-telemetry-spec : {M : Type 1} → statement M
 put-telemetry-spec =

@@ -1,3 +1,4 @@
+-- `telemetry_of` meets its contract: each field is the number at the place that `telemetryOf` names.
 use Rattle.figures.specs.Telemetry.{telemetryOf}
 use borrow.Author.Needs.{needs}
 use Rattle.figures.proofs.telemetry.telemetry_of.Statement.{statement}

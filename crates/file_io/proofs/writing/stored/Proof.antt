@@ -1,3 +1,4 @@
+-- `stored` meets its contract: `name_length` ensures at most the buffer's 4096 bytes, so the part of it that is lent has that length.
 use lib.Seq.{length-take-le}
 use native.Mathlib.Omega.{arith}
 use mathlib.Core.Path.{sym}

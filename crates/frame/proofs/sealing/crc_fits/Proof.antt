@@ -1,3 +1,4 @@
+-- `crc_fits` meets its contract: under two bytes the length's test of `crcFits` fails; else the number read and the CRC taken are those it compares.
 use Rattle.frame.specs.Sealing.{crcFits}
 use borrow.Author.Tests.{le-leb, lt-leb}
 use native.Mathlib.Omega.{arith}
@@ -17,7 +18,9 @@ sub-n : tie.Need-sub-n
 sub-n c = search needs
 
 slice-aggregate-crc16 : tie.Need-slice-aggregate-crc16
-slice-aggregate-crc16 c = sym (length-take-le (length (c .before .before .before .args .frame .now) - 2) (c .before .before .before .args .frame .now) (omega arith))
+slice-aggregate-crc16 c =
+    let args = c .before .before .before .args in
+    sym (length-take-le (length (args .frame .now) - 2) (args .frame .now) (omega arith))
 
 crc16-requires : tie.Need-crc16-requires
 crc16-requires c κs = search needs
@@ -27,7 +30,9 @@ u16-at-requires c κs = search needs
 
 returns-2 : tie.Need-returns-2
 unfolding crcFits
-returns-2 c = simp (c .u16-at .ensures, c .before .crc16 .ensures, le-leb _ _ (c .before .before .before .if1 .left))
+returns-2 c =
+    let if1 = c .before .before .before .if1 in
+    simp (c .u16-at .ensures, c .before .crc16 .ensures, le-leb _ _ (if1 .left))
 
 pub crc-fits-spec : {M : Type 1} → statement M
 crc-fits-spec =

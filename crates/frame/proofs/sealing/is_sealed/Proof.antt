@@ -1,3 +1,4 @@
+-- `is_sealed` meets its contract: each length test that fails is one of `isSealed`'s; where both hold, what is left is `crcFits`.
 use Rattle.frame.specs.Sealing.{isSealed}
 use borrow.Author.Tests.{le-leb, lt-leb}
 use borrow.Author.Needs.{needs}

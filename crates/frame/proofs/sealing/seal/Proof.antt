@@ -1,9 +1,11 @@
+-- `seal` meets its contract: the part read is the first n bytes, so the CRC put at n is `sealed`'s; where n is past the end nothing is written.
 use mathlib.Core.Path.{sym, ap, _∙_}
 use Prim.Native.Nat.{ℕ}
 use native.Mathlib.Omega.{arith}
 use lib.Seq.{length-take-le}
 use Rattle.words.specs.Number.{bytesOf}
-use Rattle.words.specs.Place.{written, written-past}
+use Rattle.words.specs.Place.{written}
+use Rattle.words.proofs.PlaceLaws.{written-past}
 use Rattle.frame.specs.Sealing.{sealed}
 use borrow.Author.Needs.{needs}
 use Rattle.frame.proofs.sealing.seal.Statement.{statement}
@@ -13,7 +15,9 @@ slice-reshare-prefix-crc16 : tie.Need-slice-reshare-prefix-crc16
 slice-reshare-prefix-crc16 c = search needs
 
 slice-aggregate-crc16 : tie.Need-slice-aggregate-crc16
-slice-aggregate-crc16 c = sym (length-take-le (c .before .before .before .args .n) (c .before .before .before .args .out .now) (omega arith))
+slice-aggregate-crc16 c =
+    let args = c .before .before .before .args in
+    sym (length-take-le (args .n) (args .out .now) (omega arith))
 
 crc16-requires : tie.Need-crc16-requires
 crc16-requires c κs = search needs
@@ -26,7 +30,10 @@ same-length c = search needs
 
 returns : tie.Need-returns
 unfolding sealed
-returns c = c .before .before .put-u16 .ensures ∙ ap (λ (x : ℕ). written (c .before .before .before .before .before .before .before .before .args .out .now) (c .before .before .before .before .before .before .before .before .args .n) (bytesOf 2 x)) (c .before .before .before .before .crc16 .ensures)
+returns c =
+    let args = c .before .before .before .before .before .before .before .before .args in
+    let crc16 = c .before .before .before .before .crc16 in
+    c .before .before .put-u16 .ensures ∙ ap (λ (x : ℕ). written (args .out .now) (args .n) (bytesOf 2 x)) (crc16 .ensures)
 
 returns-2 : tie.Need-returns-2
 unfolding sealed

@@ -1,3 +1,4 @@
+-- `cell_of` meets its contract: another length than nine makes `cellOf` bad; else kind and counts are those that it hands to `kindCell`.
 use mathlib.Core.Path.{sym}
 use borrow.Author.Tests.{eq-eqb, ne-eqb}
 use Rattle.log.specs.Cell.{cellOf}
@@ -30,7 +31,19 @@ kind-cell-requires c κs = search needs
 returns-2 : tie.Need-returns-2
 unfolding cellOf
 returns-2 c =
-    simp (eq-eqb _ _ (c .before .before .before .before .before .before .if1 .left), sym (c .before .before .before .before .before .byte-at .ensures), sym (c .before .before .before .before .u16-at .ensures), sym (c .before .before .before .u16-at2 .ensures), sym (c .before .before .u16-at3 .ensures), sym (c .before .u16-at4 .ensures), c .kind-cell .ensures)
+    let if1 = c .before .before .before .before .before .before .if1 in
+    let byte-at = c .before .before .before .before .before .byte-at in
+    let u16-at = c .before .before .before .before .u16-at in
+    let u16-at2 = c .before .before .before .u16-at2 in
+    simp (
+      eq-eqb _ _ (if1 .left),
+      sym (byte-at .ensures),
+      sym (u16-at .ensures),
+      sym (u16-at2 .ensures),
+      sym (c .before .before .u16-at3 .ensures),
+      sym (c .before .u16-at4 .ensures),
+      c .kind-cell .ensures,
+    )
 
 pub cell-of-spec : {M : Type 1} → statement M
 cell-of-spec =

@@ -1,3 +1,4 @@
+-- `kind_cell` meets its contract: with no counts the kind may be 0 or 1, with some it must be 2, as in `kindCell`; any other kind is bad.
 use mathlib.Core.Path.{sym}
 use borrow.Author.Tests.{ne-eqb}
 use Rattle.log.specs.Cell.{kindCell}
@@ -14,11 +15,15 @@ returns c = simp (sym (c .before .before .no-counts .ensures), c .before .if1 .t
 
 returns-2 : tie.Need-returns-2
 unfolding kindCell
-returns-2 c = simp (sym (c .before .before .before .no-counts .ensures), c .before .before .if1 .taken, c .if3 .taken)
+returns-2 c =
+    let no-counts = c .before .before .before .no-counts in
+    simp (sym (no-counts .ensures), c .before .before .if1 .taken, c .if3 .taken)
 
 returns-3 : tie.Need-returns-3
 unfolding kindCell
-returns-3 c = simp (sym (c .before .before .before .no-counts .ensures), c .before .before .if1 .taken, ne-eqb _ _ (c .before .if2 .left), ne-eqb _ _ (c .if3 .left))
+returns-3 c =
+    let no-counts = c .before .before .before .no-counts in
+    simp (sym (no-counts .ensures), c .before .before .if1 .taken, ne-eqb _ _ (c .before .if2 .left), ne-eqb _ _ (c .if3 .left))
 
 returns-4 : tie.Need-returns-4
 unfolding kindCell

@@ -1,3 +1,4 @@
+-- `no_counts` meets its contract: the first count above zero makes `noCounts` false; past three zeros the last one decides.
 use mathlib.Core.Bool.{and-false}
 use borrow.Author.Tests.{ne-eqb}
 use Rattle.log.specs.Cell.{noCounts}

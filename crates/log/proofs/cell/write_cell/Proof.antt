@@ -1,3 +1,4 @@
+-- `write_cell` meets its contract: each kind's arm writes the kind and the counts that `cellBytes` names for it.
 use mathlib.Core.Path.{_∙_}
 use Rattle.log.specs.Cell.{cellBytes}
 use borrow.Author.Needs.{needs}
@@ -27,21 +28,27 @@ same-length c = search needs
 
 returns : tie.Need-returns
 unfolding cellBytes
-returns c = c .before .before .write-kind .ensures ∙ rw (c .before .before .before .before .enum-told .given .1)
+returns c =
+    let arm = c .before .before .before .before .enum-told in
+    c .before .before .write-kind .ensures ∙ rw (arm .given .1)
 
 same-length-2 : tie.Need-same-length-2
 same-length-2 c = search needs
 
 returns-2 : tie.Need-returns-2
 unfolding cellBytes
-returns-2 c = c .before .before .write-kind2 .ensures ∙ rw (c .before .before .before .before .enum-told2 .given .1)
+returns-2 c =
+    let arm2 = c .before .before .before .before .enum-told2 in
+    c .before .before .write-kind2 .ensures ∙ rw (arm2 .given .1)
 
 same-length-3 : tie.Need-same-length-3
 same-length-3 c = search needs
 
 returns-3 : tie.Need-returns-3
 unfolding cellBytes
-returns-3 c = c .before .before .write-kind3 .ensures ∙ rw (c .before .before .before .before .before .c .given .1)
+returns-3 c =
+    let the-c = c .before .before .before .before .before .c in
+    c .before .before .write-kind3 .ensures ∙ rw (the-c .given .1)
 
 pub write-cell-spec : {M : Type 1} → statement M
 write-cell-spec =

@@ -1,5 +1,6 @@
+-- `write_kind` meets its contract: the kind and the four counts, put one behind the other, are `kindBytes` (`onward`).
 use mathlib.Core.Path.{refl}
-use Rattle.words.specs.Place.{onward}
+use Rattle.words.proofs.PlaceLaws.{onward}
 use Rattle.words.specs.Number.{bytesOf}
 use Rattle.log.specs.Cell.{kindBytes}
 use borrow.Author.Needs.{needs}

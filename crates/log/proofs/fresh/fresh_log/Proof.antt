@@ -1,7 +1,9 @@
+-- `fresh_log` meets its contract: `is_header` and the room are the cases of `freshOf`; a header and gaps behind it are the image (`fresh-written`).
 use mathlib.Core.Path.{sym, ap}
 use borrow.Author.Tests.{le-leb, lt-leb}
-use Rattle.log.specs.FreshLaws.{fresh-written}
-use Rattle.log.specs.Fresh.{freshOf, outcome}
+use Rattle.refusal.specs.Outcome.{outcome}
+use Rattle.log.proofs.FreshLaws.{fresh-written}
+use Rattle.log.specs.Fresh.{freshOf}
 use borrow.Author.Needs.{needs}
 use Rattle.log.proofs.fresh.fresh_log.Statement.{statement}
 use Rattle.log.proofs.fresh.fresh_log.Tie as tie
@@ -14,7 +16,9 @@ length-of-requires c κs = search needs
 
 returns : tie.Need-returns
 unfolding freshOf
-returns c = simp (sym (c .before .before .before .is-header .ensures), c .before .before .if1 .taken, sym (c .before .length-of .ensures), lt-leb _ _ (c .if2 .taken))
+returns c =
+    let is-header = c .before .before .before .is-header in
+    simp (sym (is-header .ensures), c .before .before .if1 .taken, sym (c .before .length-of .ensures), lt-leb _ _ (c .if2 .taken))
 
 write-header-requires : tie.Need-write-header-requires
 write-header-requires c κs = search needs
@@ -31,12 +35,14 @@ same-length c = search needs
 returns-2 : tie.Need-returns-2
 unfolding freshOf
 returns-2 c =
+    let write-header = c .before .before .before .before .before .before .before .write-header in
+    let cells-of = c .before .before .before .cells-of in
     let tested = c .before .before .before .before .before .before .before .before .before in
     let start = tested .before .before .before .before .before in
     let right = tested .before .before .before .is-header .ensures in
     let image =
-    fresh-written (start .args .out .now) _ _ (start .args .h) _ (c .before .before .before .cells-of .ensures)
-    (c .before .before .before .before .before .before .before .write-header .ensures) (c .before .before .write-gaps .ensures) in
+    fresh-written (start .args .out .now) _ _ (start .args .h) _ (cells-of .ensures)
+    (write-header .ensures) (c .before .before .write-gaps .ensures) in
     simp (sym right, tested .before .before .if1 .taken, sym (tested .before .length-of .ensures), le-leb _ _ (tested .if2 .left)) (ap (outcome _) image)
 
 returns-3 : tie.Need-returns-3

@@ -1,13 +1,15 @@
+-- `write_gaps` meets its contract: the loop keeps that the gaps left, written from cell i on, give the whole result; it ends as they run out.
 use mathlib.Core.List.{List}
 use borrow.Author.Needs.{needs}
-use Rattle.log.specs.ImageLaws.{length-putCell}
+use Rattle.log.proofs.ImageLaws.{length-putCell}
 use native.Mathlib.Nat.{sub-zero}
-use Rattle.log.specs.FreshLaws.{gap-put}
+use Rattle.log.proofs.FreshLaws.{gap-put}
 use lib.ListN.{length}
 use Prim.Native.Nat.{ℕ, suc, _+_, _-_, _≤_}
 use mathlib.Core.Path.{_≡_, refl, sym, ap, _∙_}
 use native.Mathlib.Omega.{arith}
 use Rattle.log.specs.Fresh.{gaps}
+use Rattle.log.specs.Header.{headerSize}
 use Rattle.log.specs.Image.{cellStart, cellsBytes}
 use Rattle.words.specs.Place.{written}
 use Rattle.log.proofs.fresh.write_gaps.Statement.{statement}
@@ -15,7 +17,7 @@ use Rattle.log.proofs.fresh.write_gaps.Tie as tie
 
 abbrev Inv-loop : tie.InvT-loop
 Inv-loop out₀ cells i₀ out i =
-    (i ≤ cells) × (length out ≡ length out₀) × (written out (cellStart i) (cellsBytes (gaps (cells - i))) ≡ written out₀ 14 (cellsBytes (gaps cells)))
+    (i ≤ cells) × (length out ≡ length out₀) × (written out (cellStart i) (cellsBytes (gaps (cells - i))) ≡ written out₀ headerSize (cellsBytes (gaps cells)))
 
 abbrev μ-loop : tie.MeasureT-loop
 μ-loop out₀ cells i₀ out i = cells - i

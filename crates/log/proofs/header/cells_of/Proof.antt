@@ -1,3 +1,4 @@
+-- `cells_of` meets its contract: the product of days and slots is `cellsOf`'s own, and two bytes' product fits.
 use Prim.Native.Nat.{_≤_}
 use native.Mathlib.Nat.{mul-le-mul}
 use native.Mathlib.Omega.{arith}

@@ -1,3 +1,4 @@
+-- `fitted` meets its contract: a right header and whether the length is its own are the cases of `fittedTo`.
 use Rattle.log.specs.Header.{fittedTo}
 use mathlib.Core.Path.{sym}
 use borrow.Author.Tests.{eq-eqb, ne-eqb}
@@ -16,11 +17,15 @@ enum-told c = search needs
 
 returns : tie.Need-returns
 unfolding fittedTo
-returns c = simp (c .before .before .before .answer .given .1, sym (c .before .length-of .ensures), eq-eqb _ _ (c .if1 .taken))
+returns c =
+    let answer = c .before .before .before .answer in
+    simp (answer .given .1, sym (c .before .length-of .ensures), eq-eqb _ _ (c .if1 .taken))
 
 returns-2 : tie.Need-returns-2
 unfolding fittedTo
-returns-2 c = simp (c .before .before .before .answer .given .1, sym (c .before .length-of .ensures), ne-eqb _ _ (c .if1 .left))
+returns-2 c =
+    let answer = c .before .before .before .answer in
+    simp (answer .given .1, sym (c .before .length-of .ensures), ne-eqb _ _ (c .if1 .left))
 
 returns-3 : tie.Need-returns-3
 unfolding fittedTo

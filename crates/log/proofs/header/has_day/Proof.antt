@@ -1,4 +1,5 @@
-use Rattle.log.specs.HeaderLaws.{isOn, has-date}
+-- `has_day` meets its contract: a date so many days later exists exactly where the start is a date and the century has that day (`has-date`).
+use Rattle.log.proofs.HeaderLaws.{isOn, has-date}
 use mathlib.Core.Path.{sym, ap, _∙_}
 use borrow.Author.Needs.{needs}
 use Rattle.log.proofs.header.has_day.Statement.{statement}

@@ -1,3 +1,4 @@
+-- `header_at` meets its contract: each field is the byte or number at the place that `headerAt` names.
 use Rattle.log.specs.Header.{headerAt}
 use borrow.Author.Needs.{needs}
 use Rattle.log.proofs.header.header_at.Statement.{statement}
@@ -24,7 +25,10 @@ u16-at-requires c κs = search needs
 returns : tie.Need-returns
 unfolding headerAt
 returns c =
-    simp (c .u16-at .ensures, c .before .byte-at5 .ensures, c .before .before .byte-at4 .ensures, c .before .before .before .byte-at3 .ensures, c .before .before .before .before .byte-at2 .ensures, c .before .before .before .before .before .byte-at .ensures)
+    let byte-at = c .before .before .before .before .before .byte-at in
+    let byte-at2 = c .before .before .before .before .byte-at2 in
+    let byte-at3 = c .before .before .before .byte-at3 in
+    simp (c .u16-at .ensures, c .before .byte-at5 .ensures, c .before .before .byte-at4 .ensures, byte-at3 .ensures, byte-at2 .ensures, byte-at .ensures)
 
 pub header-at-spec : {M : Type 1} → statement M
 header-at-spec =

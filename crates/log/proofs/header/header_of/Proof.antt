@@ -1,3 +1,4 @@
+-- `header_of` meets its contract: the two reserved bytes and `is_header` of the fields are `headerOf`'s tests.
 use Rattle.log.specs.Header.{headerOf, fieldsRight}
 use mathlib.Core.Bool.{and-false}
 use mathlib.Core.Path.{sym}
@@ -22,12 +23,16 @@ is-header-requires c κs = search needs
 returns-2 : tie.Need-returns-2
 unfolding headerOf fieldsRight
 returns-2 c =
-    simp (sym (c .before .before .before .u16-at .ensures), eq-eqb _ _ (c .before .before .if1 .left), sym (c .before .before .before .before .header-at .ensures), sym (c .before .is-header .ensures), c .if2 .taken)
+    let header-at = c .before .before .before .before .header-at in
+    let u16-at = c .before .before .before .u16-at in
+    simp (sym (u16-at .ensures), eq-eqb _ _ (c .before .before .if1 .left), sym (header-at .ensures), sym (c .before .is-header .ensures), c .if2 .taken)
 
 returns-3 : tie.Need-returns-3
 unfolding headerOf fieldsRight
 returns-3 c =
-    simp (sym (c .before .before .before .u16-at .ensures), sym (c .before .before .before .before .header-at .ensures), sym (c .before .is-header .ensures), c .if2 .left)
+    let header-at = c .before .before .before .before .header-at in
+    let u16-at = c .before .before .before .u16-at in
+    simp (sym (u16-at .ensures), sym (header-at .ensures), sym (c .before .is-header .ensures), c .if2 .left)
 
 pub header-of-spec : {M : Type 1} → statement M
 header-of-spec =

@@ -1,6 +1,7 @@
+-- `is_header` meets its contract: each test that fails makes one factor of `isHeader` false; where all hold, the last day's date is left.
 use native.Mathlib.Omega.{arith}
 use mathlib.Core.Bool.{and-true}
-use Rattle.slots.specs.Day.{no-minutes, some-minutes}
+use Rattle.slots.proofs.DayLaws.{no-minutes, some-minutes}
 use Rattle.log.specs.Header.{isHeader, daysRight}
 use mathlib.Core.Bool.{and-false}
 use mathlib.Core.Path.{_∙_}
@@ -37,9 +38,11 @@ has-day-requires c κs = search needs
 returns-5 : tie.Need-returns-5
 unfolding isHeader daysRight
 returns-5 c =
+    let slots-of = c .before .before .before .before .slots-of in
+    let if4 = c .before .before .before .if4 in
     let start = c .before .before .before .before .before .before .before .before .before .before .before in
     let h = start .args .h in
-    let minutes = some-minutes _ _ (c .before .before .before .before .slots-of .ensures) (c .before .before .before .if4 .left) in
+    let minutes = some-minutes _ _ (slots-of .ensures) (if4 .left) in
     c .has-day .ensures
     ∙ simp (le-leb 1 (h .days) (omega arith), le-leb (h .days) 62 (omega arith), minutes, le-leb 1 (h .ke) (omega arith), le-leb (h .ke) 65535 (search needs), and-true)
 

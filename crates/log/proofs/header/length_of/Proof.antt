@@ -1,4 +1,5 @@
-use Rattle.log.specs.HeaderLaws.{cells-at-most}
+-- `length_of` meets its contract: the sum is `lengthOf`'s own, and there are so few cells that it fits (`cells-at-most`).
+use Rattle.log.proofs.HeaderLaws.{cells-at-most}
 use Prim.Native.Nat.{_<_}
 use native.Mathlib.Omega.{arith}
 use Rattle.log.specs.Header.{lengthOf}

@@ -1,3 +1,4 @@
+-- `mark_right` meets its contract: the three bytes are compared in `markRight`'s order, and the first that differs settles it.
 use Rattle.log.specs.Header.{markRight}
 use borrow.Author.Tests.{eq-eqb, ne-eqb}
 use mathlib.Core.Path.{sym}
@@ -18,7 +19,8 @@ byte-at-requires-2 c κs = search needs
 returns-2 : tie.Need-returns-2
 unfolding markRight
 returns-2 c =
-    simp (sym (c .before .before .before .byte-at .ensures), eq-eqb _ _ (c .before .before .if1 .left), sym (c .before .byte-at2 .ensures), ne-eqb _ _ (c .if2 .taken))
+    let byte-at = c .before .before .before .byte-at in
+    simp (sym (byte-at .ensures), eq-eqb _ _ (c .before .before .if1 .left), sym (c .before .byte-at2 .ensures), ne-eqb _ _ (c .if2 .taken))
 
 byte-at-requires-3 : tie.Need-byte-at-requires-3
 byte-at-requires-3 c κs = search needs
@@ -26,7 +28,9 @@ byte-at-requires-3 c κs = search needs
 returns-3 : tie.Need-returns-3
 unfolding markRight
 returns-3 c =
-    simp (sym (c .before .before .before .before .byte-at .ensures), eq-eqb _ _ (c .before .before .before .if1 .left), sym (c .before .before .byte-at2 .ensures), eq-eqb _ _ (c .before .if2 .left), sym (c .byte-at3 .ensures))
+    let byte-at = c .before .before .before .before .byte-at in
+    let if1 = c .before .before .before .if1 in
+    simp (sym (byte-at .ensures), eq-eqb _ _ (if1 .left), sym (c .before .before .byte-at2 .ensures), eq-eqb _ _ (c .before .if2 .left), sym (c .byte-at3 .ensures))
 
 pub mark-right-spec : {M : Type 1} → statement M
 mark-right-spec =

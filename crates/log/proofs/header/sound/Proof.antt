@@ -1,3 +1,4 @@
+-- `sound` meets its contract: mark and version are `soundOf`'s tests, and where both are right the header decides by the length.
 use Rattle.log.specs.Header.{soundOf}
 use mathlib.Core.Bool.{and-false}
 use mathlib.Core.Path.{sym}
@@ -20,7 +21,10 @@ fitted-requires c κs = search needs
 returns : tie.Need-returns
 unfolding soundOf
 returns c =
-    simp (sym (c .before .before .before .before .before .mark-right .ensures), c .before .before .before .before .if1 .taken, sym (c .before .before .before .version-right .ensures), c .before .before .if2 .taken, sym (c .before .header-of .ensures), c .fitted .ensures)
+    let mark-right = c .before .before .before .before .before .mark-right in
+    let if1 = c .before .before .before .before .if1 in
+    let version-right = c .before .before .before .version-right in
+    simp (sym (mark-right .ensures), if1 .taken, sym (version-right .ensures), c .before .before .if2 .taken, sym (c .before .header-of .ensures), c .fitted .ensures)
 
 returns-2 : tie.Need-returns-2
 unfolding soundOf

@@ -1,3 +1,4 @@
+-- `version_right` meets its contract: the number read is the one that `versionRight` compares.
 use Rattle.log.specs.Header.{versionRight}
 use borrow.Author.Needs.{needs}
 use Rattle.log.proofs.header.version_right.Statement.{statement}

@@ -1,5 +1,6 @@
+-- `write_date` meets its contract: year, month and day, put one behind the other, are `dateBytes` (`onward`).
 use mathlib.Core.Path.{refl}
-use Rattle.words.specs.Place.{onward}
+use Rattle.words.proofs.PlaceLaws.{onward}
 use Rattle.log.specs.Header.{dateBytes}
 use borrow.Author.Needs.{needs}
 use Rattle.log.proofs.header.write_date.Statement.{statement}

@@ -1,8 +1,8 @@
+-- `write_header` meets its contract: the seven parts, put one behind the other, are `headerBytes` (`onward`).
 use mathlib.Core.Path.{refl}
-use Rattle.words.specs.Place.{onward}
+use Rattle.words.proofs.PlaceLaws.{onward}
 use Rattle.words.specs.Number.{bytesOf}
-use Rattle.log.specs.Header.{dateBytes}
-use Rattle.log.specs.Header.{headerBytes}
+use Rattle.log.specs.Header.{dateBytes, headerBytes}
 use borrow.Author.Needs.{needs}
 use Rattle.log.proofs.header.write_header.Statement.{statement}
 use Rattle.log.proofs.header.write_header.Tie as tie

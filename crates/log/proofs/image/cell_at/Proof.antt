@@ -1,16 +1,20 @@
+-- `cell_at` meets its contract: the part lent is the cell's nine bytes; a cell that ends past the image is bad (`cellAt-past`), and no sum wraps.
 use lib.ListN.{take, drop}
 use Prim.Native.Nat.{ℕ, _+_, _*_, _-_}
 use mathlib.Core.Path.{_≡_, sym, ap, _∙_}
 use native.Mathlib.Omega.{arith}
-use Rattle.log.specs.ImageLaws.{cellAt-past}
-use Rattle.log.specs.Cell.{cellOf}
+use Rattle.log.proofs.ImageLaws.{cellAt-past}
+use Rattle.log.specs.Cell.{cellSize, cellOf}
+use Rattle.log.specs.Header.{headerSize}
 use Rattle.log.specs.Image.{cellAt}
 use borrow.Author.Needs.{needs}
 use Rattle.log.proofs.image.cell_at.Statement.{statement}
 use Rattle.log.proofs.image.cell_at.Tie as tie
 
 returns : tie.Need-returns
-returns c = sym (cellAt-past (c .before .before .args .log .now) (c .before .before .args .i) (omega arith))
+returns c =
+    let args = c .before .before .args in
+    sym (cellAt-past (args .log .now) (args .i) (omega arith))
 
 mul-from : tie.Need-mul-from
 mul-from c = search needs
@@ -22,7 +26,9 @@ add-to : tie.Need-add-to
 add-to c = search needs
 
 returns-2 : tie.Need-returns-2
-returns-2 c = sym (cellAt-past (c .before .before .before .args .log .now) (c .before .before .before .args .i) (omega arith))
+returns-2 c =
+    let args = c .before .before .before .args in
+    sym (cellAt-past (args .log .now) (args .i) (omega arith))
 
 sub-cell-of : tie.Need-sub-cell-of
 sub-cell-of c = search needs
@@ -38,8 +44,11 @@ cell-of-requires c κs = search needs
 
 returns-3 : tie.Need-returns-3
 unfolding cellAt
-returns-3 c = let i = c .before .before .before .before .before .args .i in let e : 14 + 9 * i + 9 - (14 + 9 * i) ≡ 9 = omega arith in
-    c .cell-of .ensures ∙ ap (λ (n : ℕ). cellOf (take n (drop (14 + 9 * i) (c .before .before .before .before .before .args .log .now)))) e
+returns-3 c =
+    let args = c .before .before .before .before .before .args in
+    let i = c .before .before .before .before .before .args .i in
+    let e : headerSize + cellSize * i + cellSize - (headerSize + cellSize * i) ≡ cellSize = omega arith in
+    c .cell-of .ensures ∙ ap (λ (n : ℕ). cellOf (take n (drop (headerSize + cellSize * i) (args .log .now)))) e
 
 pub cell-at-spec : {M : Type 1} → statement M
 cell-at-spec =

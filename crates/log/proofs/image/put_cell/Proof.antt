@@ -1,7 +1,8 @@
+-- `put_cell` meets its contract: what is written to the front of the part is written at the cell's place (`putCell-part`); past the end nothing.
 use mathlib.Core.Path.{sym}
 use native.Mathlib.Omega.{arith}
-use Rattle.words.specs.Place.{written-past}
-use Rattle.log.specs.ImageLaws.{putCell-part}
+use Rattle.words.proofs.PlaceLaws.{written-past}
+use Rattle.log.proofs.ImageLaws.{putCell-part}
 use Rattle.log.specs.Image.{putCell}
 use borrow.Author.Needs.{needs}
 use Rattle.log.proofs.image.put_cell.Statement.{statement}
@@ -9,7 +10,9 @@ use Rattle.log.proofs.image.put_cell.Tie as tie
 
 returns : tie.Need-returns
 unfolding putCell
-returns c = sym (written-past (c .before .before .args .log .now) _ _ (omega arith))
+returns c =
+    let args = c .before .before .args in
+    sym (written-past (args .log .now) _ _ (omega arith))
 
 mul-from : tie.Need-mul-from
 mul-from c = search needs
@@ -39,7 +42,9 @@ returns-2 c =
 
 returns-3 : tie.Need-returns-3
 unfolding putCell
-returns-3 c = sym (written-past (c .before .before .before .args .log .now) _ _ (c .if2 .left))
+returns-3 c =
+    let args = c .before .before .before .args in
+    sym (written-past (args .log .now) _ _ (c .if2 .left))
 
 pub put-cell-spec : {M : Type 1} → statement M
 put-cell-spec =

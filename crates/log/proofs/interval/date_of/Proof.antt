@@ -1,3 +1,4 @@
+-- `date_of` meets its contract: the day's bound and the calendar's answer are the cases of `dayDate`.
 use mathlib.Core.Path.{sym, _∙_}
 use borrow.Author.Tests.{le-ltb, lt-ltb}
 use Rattle.log.specs.Interval.{dayDate}
@@ -23,15 +24,22 @@ enum-told-2 c = search needs
 
 returns-2 : tie.Need-returns-2
 unfolding dayDate
-returns-2 c = simp (lt-ltb _ _ (c .before .before .before .before .before .if1 .left), sym (c .before .before .before .days-later .ensures) ∙ c .before .date .given .1)
+returns-2 c =
+    let if1 = c .before .before .before .before .before .if1 in
+    let days-later = c .before .before .before .days-later in
+    simp (lt-ltb _ _ (if1 .left), sym (days-later .ensures) ∙ c .before .date .given .1)
 
 returns-3 : tie.Need-returns-3
 unfolding dayDate
-returns-3 c = simp (lt-ltb _ _ (c .before .before .before .before .if1 .left), sym (c .before .before .days-later .ensures) ∙ c .enum-told .given .1)
+returns-3 c =
+    let if1 = c .before .before .before .before .if1 in
+    simp (lt-ltb _ _ (if1 .left), sym (c .before .before .days-later .ensures) ∙ c .enum-told .given .1)
 
 returns-4 : tie.Need-returns-4
 unfolding dayDate
-returns-4 c = simp (lt-ltb _ _ (c .before .before .before .before .if1 .left), sym (c .before .before .days-later .ensures) ∙ c .enum-told2 .given .1)
+returns-4 c =
+    let if1 = c .before .before .before .before .if1 in
+    simp (lt-ltb _ _ (if1 .left), sym (c .before .before .days-later .ensures) ∙ c .enum-told2 .given .1)
 
 pub date-of-spec : {M : Type 1} → statement M
 date-of-spec =

@@ -1,4 +1,5 @@
-use Rattle.logfile.specs.FileLaws.{length-at-most}
+-- `file_length` meets its contract: two bytes more than the image, and no image is so long that the sum leaves a word (`length-at-most`).
+use Rattle.logfile.proofs.FileLaws.{length-at-most}
 use Rattle.logfile.specs.File.{fileLength}
 use native.Mathlib.Omega.{arith}
 use Prim.Native.Nat.{_<_}

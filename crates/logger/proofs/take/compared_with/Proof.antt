@@ -1,3 +1,4 @@
+-- `compared_with` meets its contract: zeros and then the same counts are the tests of `compared`, in its order.
 use Rattle.logger.specs.Take.{compared}
 use mathlib.Core.Path.{sym, _∙_}
 use borrow.Author.Needs.{needs}
@@ -14,10 +15,14 @@ same-counts-requires : tie.Need-same-counts-requires
 same-counts-requires c κs = search needs
 
 returns-2 : tie.Need-returns-2
-returns-2 c = simp (sym (c .before .before .before .no-counts .ensures) ∙ c .before .before .if1 .left, sym (c .before .same-counts .ensures) ∙ c .if2 .taken)
+returns-2 c =
+    let no-counts = c .before .before .before .no-counts in
+    simp (sym (no-counts .ensures) ∙ c .before .before .if1 .left, sym (c .before .same-counts .ensures) ∙ c .if2 .taken)
 
 returns-3 : tie.Need-returns-3
-returns-3 c = simp (sym (c .before .before .before .no-counts .ensures) ∙ c .before .before .if1 .left, sym (c .before .same-counts .ensures) ∙ c .if2 .left)
+returns-3 c =
+    let no-counts = c .before .before .before .no-counts in
+    simp (sym (no-counts .ensures) ∙ c .before .before .if1 .left, sym (c .before .same-counts .ensures) ∙ c .if2 .left)
 
 pub compared-with-spec : {M : Type 1} → statement M
 compared-with-spec =

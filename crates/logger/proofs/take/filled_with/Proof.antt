@@ -1,3 +1,4 @@
+-- `filled_with` meets its contract: `no_counts` is the test of `filled`.
 use Rattle.logger.specs.Take.{filled}
 use mathlib.Core.Path.{sym, _∙_}
 use borrow.Author.Needs.{needs}

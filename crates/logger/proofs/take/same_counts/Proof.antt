@@ -1,3 +1,4 @@
+-- `same_counts` meets its contract: the counts are compared in `sameCounts`'s order, and the first that differs settles it.
 use Rattle.logger.specs.Take.{sameCounts}
 use borrow.Author.Tests.{eq-eqb, ne-eqb}
 use Rattle.logger.proofs.take.same_counts.Statement.{statement}

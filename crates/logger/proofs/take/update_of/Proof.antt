@@ -1,3 +1,4 @@
+-- `update_of` meets its contract: each kind of cell is a clause of `updateOf`.
 use Rattle.logger.specs.Take.{updateOf}
 use borrow.Author.Needs.{needs}
 use Rattle.logger.proofs.take.update_of.Statement.{statement}
@@ -31,7 +32,9 @@ returns-2 c = simp (c .before .enum-told2 .given .1, c .filled-with2 .ensures)
 
 returns-3 : tie.Need-returns-3
 unfolding updateOf
-returns-3 c = simp (c .before .before .cell .given .1, c .compared-with .ensures)
+returns-3 c =
+    let cell = c .before .before .cell in
+    simp (cell .given .1, c .compared-with .ensures)
 
 pub update-of-spec : {M : Type 1} → statement M
 update-of-spec =

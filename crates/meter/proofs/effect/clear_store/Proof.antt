@@ -1,3 +1,4 @@
+-- `clear_store` meets its contract: `clears` is the test of `storeAfter`; where it fails the store stays.
 use Rattle.meter.specs.Effect.{storeAfter}
 use mathlib.Core.Path.{sym, _∙_}
 use borrow.Author.Needs.{needs}
@@ -15,7 +16,10 @@ same-length c = search needs
 
 returns : tie.Need-returns
 unfolding storeAfter
-returns c = simp (sym (c .before .before .before .before .before .clears .ensures) ∙ c .before .before .before .before .if1 .taken) (c .before .before .clear .ensures)
+returns c =
+    let clears = c .before .before .before .before .before .clears in
+    let if1 = c .before .before .before .before .if1 in
+    simp (sym (clears .ensures) ∙ if1 .taken) (c .before .before .clear .ensures)
 
 returns-2 : tie.Need-returns-2
 unfolding storeAfter

@@ -1,3 +1,4 @@
+-- `clears` meets its contract: only a zeroing looks at the parameter; each other function's arm is false, as in the definition.
 use Rattle.meter.specs.Effect.{clears}
 use mathlib.Core.Path.{sym, _∙_}
 use borrow.Author.Needs.{needs}
@@ -33,7 +34,10 @@ enum-told-6 c = search needs
 
 returns : tie.Need-returns
 unfolding clears
-returns c = simp (sym (c .before .before .before .before .function-in .ensures) ∙ c .before .before .enum-told .given .1) (c .is-slice .ensures ∙ rw (c .before .parameter-in .ensures))
+returns c =
+    let function-in = c .before .before .before .before .function-in in
+    let arm = c .before .before .enum-told in
+    simp (sym (function-in .ensures) ∙ arm .given .1) (c .is-slice .ensures ∙ rw (c .before .parameter-in .ensures))
 
 returns-2 : tie.Need-returns-2
 unfolding clears

@@ -1,3 +1,4 @@
+-- `record_after` meets its contract: each function's arm leaves the record that `afterOf` names for it.
 use Rattle.meter.specs.Effect.{afterOf}
 use mathlib.Core.Path.{sym, _∙_}
 use borrow.Author.Needs.{needs}
@@ -54,19 +55,39 @@ enum-told-6 c = search needs
 
 returns : tie.Need-returns
 unfolding afterOf
-returns c = simp (sym (c .before .before .before .before .function-in .ensures) ∙ c .before .before .enum-told .given .1) (c .renewed .ensures ∙ rw (c .before .changed .ensures, c .before .before .before .before .before .parameter-in .ensures))
+returns c =
+    let parameter-in = c .before .before .before .before .before .parameter-in in
+    let function-in = c .before .before .before .before .function-in in
+    let arm = c .before .before .enum-told in
+    simp (sym (function-in .ensures) ∙ arm .given .1) (c .renewed .ensures ∙ rw (c .before .changed .ensures, parameter-in .ensures))
 
 returns-2 : tie.Need-returns-2
 unfolding afterOf
-returns-2 c = simp (sym (c .before .before .before .before .function-in .ensures) ∙ c .before .before .enum-told2 .given .1) (c .renewed2 .ensures ∙ rw (c .before .zeroed .ensures, c .before .before .before .before .before .parameter-in .ensures))
+returns-2 c =
+    let parameter-in = c .before .before .before .before .before .parameter-in in
+    let function-in = c .before .before .before .before .function-in in
+    let arm2 = c .before .before .enum-told2 in
+    simp (sym (function-in .ensures) ∙ arm2 .given .1) (c .renewed2 .ensures ∙ rw (c .before .zeroed .ensures, parameter-in .ensures))
 
 returns-3 : tie.Need-returns-3
 unfolding afterOf
-returns-3 c = simp (sym (c .before .before .before .before .before .before .before .before .before .before .before .function-in .ensures) ∙ c .before .before .before .before .before .before .before .before .before .enum-told3 .given .1, c .before .before .before .before .before .before .opened .ensures, c .before .before .before .before .before .before .before .level-for .ensures, c .before .before .before .before .before .before .before .before .byte-at .ensures)
+returns-3 c =
+    let back = c .before .before .before .before .before .before in
+    let function-in = back .before .before .before .before .before .function-in in
+    let arm3 = back .before .before .before .enum-told3 in
+    let byte-at = back .before .before .byte-at in
+    let level-for = back .before .level-for in
+    let opened = back .opened in
+    simp (sym (function-in .ensures) ∙ arm3 .given .1, opened .ensures, level-for .ensures, byte-at .ensures)
 
 returns-4 : tie.Need-returns-4
 unfolding afterOf
-returns-4 c = simp (sym (c .before .before .before .before .before .before .before .before .before .function-in .ensures) ∙ c .before .before .before .before .before .before .before .enum-told4 .given .1, c .before .before .before .before .before .before .shut .ensures)
+returns-4 c =
+    let back = c .before .before .before .before .before .before in
+    let function-in = back .before .before .before .function-in in
+    let arm4 = back .before .enum-told4 in
+    let shut = back .shut in
+    simp (sym (function-in .ensures) ∙ arm4 .given .1, shut .ensures)
 
 returns-5 : tie.Need-returns-5
 unfolding afterOf

@@ -1,3 +1,4 @@
+-- `answer` meets its contract: room, soundness and `is_heard` are tested in `answerOf`'s order; only a frame that is heard goes to `replied`.
 use Rattle.meter.specs.Reply.{answerOf, heard}
 use borrow.Author.Tests.{lt-ltb, le-ltb}
 use mathlib.Core.Path.{sym, _∙_}
@@ -26,21 +27,34 @@ same-length-2 c = search needs
 
 returns-2 : tie.Need-returns-2
 unfolding answerOf heard
-returns-2 c = simp (le-ltb _ _ (c .before .before .before .before .before .before .before .before .before .before .before .before .if1 .left), sym (c .before .before .before .before .before .before .before .before .before .before .is-sound .ensures) ∙ c .before .before .before .before .before .before .before .before .before .if2 .taken, sym (c .before .before .before .before .before .before .before .before .is-heard .ensures) ∙ c .before .before .before .before .before .before .before .if3 .taken) (c .before .before .before .before .replied .ensures)
+returns-2 c =
+    let back = c .before .before .before .before .before .before .before in
+    let if1 = back .before .before .before .before .before .if1 in
+    let is-sound = back .before .before .before .is-sound in
+    let if2 = back .before .before .if2 in
+    let is-heard = back .before .is-heard in
+    let if3 = back .if3 in
+    let replied = c .before .before .before .before .replied in
+    simp (le-ltb _ _ (if1 .left), sym (is-sound .ensures) ∙ if2 .taken, sym (is-heard .ensures) ∙ if3 .taken) (replied .ensures)
 
 same-length-3 : tie.Need-same-length-3
 same-length-3 c = search needs
 
 returns-3 : tie.Need-returns-3
 unfolding answerOf heard
-returns-3 c = simp (le-ltb _ _ (c .before .before .before .before .before .if1 .left), sym (c .before .before .before .is-sound .ensures) ∙ c .before .before .if2 .taken, sym (c .before .is-heard .ensures) ∙ c .if3 .left)
+returns-3 c =
+    let if1 = c .before .before .before .before .before .if1 in
+    let is-sound = c .before .before .before .is-sound in
+    simp (le-ltb _ _ (if1 .left), sym (is-sound .ensures) ∙ c .before .before .if2 .taken, sym (c .before .is-heard .ensures) ∙ c .if3 .left)
 
 same-length-4 : tie.Need-same-length-4
 same-length-4 c = search needs
 
 returns-4 : tie.Need-returns-4
 unfolding answerOf
-returns-4 c = simp (le-ltb _ _ (c .before .before .before .if1 .left), sym (c .before .is-sound .ensures) ∙ c .if2 .left)
+returns-4 c =
+    let if1 = c .before .before .before .if1 in
+    simp (le-ltb _ _ (if1 .left), sym (c .before .is-sound .ensures) ∙ c .if2 .left)
 
 pub answer-spec : {M : Type 1} → statement M
 answer-spec =

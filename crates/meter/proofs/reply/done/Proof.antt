@@ -1,4 +1,5 @@
-use Rattle.meter.specs.ReplyLaws.{data-small}
+-- `done` meets its contract: data, seal, store and record are `filled`'s, each by its own call; at most 48 data bytes, so the sums fit.
+use Rattle.meter.proofs.ReplyLaws.{data-small}
 use mir.Facts.{fits-le, fits-lit}
 use native.Mathlib.Nat.{add-le-add, le-refl}
 use borrow.Author.Needs.{needs}
@@ -12,7 +13,9 @@ fill-requires : tie.Need-fill-requires
 fill-requires c κs = search needs
 
 add-seal : tie.Need-add-seal
-add-seal c = fits-le (add-le-add {d = 48} (le-refl 4) (rw (c .before .before .before .before .before .before .data-size .ensures) (data-small _))) (fits-lit tt)
+add-seal c =
+    let data-size = c .before .before .before .before .before .before .data-size in
+    fits-le (add-le-add {d = 48} (le-refl 4) (rw (data-size .ensures) (data-small _))) (fits-lit tt)
 
 seal-requires : tie.Need-seal-requires
 seal-requires c κs = search needs
@@ -21,7 +24,9 @@ clear-store-requires : tie.Need-clear-store-requires
 clear-store-requires c κs = search needs
 
 add-t14 : tie.Need-add-t14
-add-t14 c = fits-le (add-le-add {d = 48} (le-refl 6) (rw (c .before .before .before .before .before .before .before .before .before .before .before .before .before .data-size .ensures) (data-small _))) (fits-lit tt)
+add-t14 c =
+    let data-size = c .before .before .before .before .before .before .before .before .before .before .before .before .before .data-size in
+    fits-le (add-le-add {d = 48} (le-refl 6) (rw (data-size .ensures) (data-small _))) (fits-lit tt)
 
 record-after-requires : tie.Need-record-after-requires
 record-after-requires c κs = search needs
@@ -33,7 +38,13 @@ same-length-2 : tie.Need-same-length-2
 same-length-2 c = search needs
 
 returns : tie.Need-returns
-returns c = rw (c .record-after .ensures, c .before .before .before .clear-store .ensures, c .before .before .before .before .before .before .before .seal .ensures, c .before .before .before .before .before .before .before .before .before .before .before .fill .ensures, c .before .before .before .before .before .before .before .before .before .before .before .before .before .before .data-size .ensures)
+returns c =
+    let back = c .before .before .before .before .before .before .before in
+    let data-size = back .before .before .before .before .before .before .before .data-size in
+    let fill = back .before .before .before .before .fill in
+    let seal = back .seal in
+    let clear-store = c .before .before .before .clear-store in
+    rw (c .record-after .ensures, clear-store .ensures, seal .ensures, fill .ensures, data-size .ensures)
 
 pub done-spec : {M : Type 1} → statement M
 done-spec =

@@ -1,4 +1,5 @@
-use Rattle.meter.specs.ReplyLaws.{part-filled}
+-- `fill` meets its contract: what is written to the front of the part from the fifth byte on is written at 4 in the whole (`part-filled`).
+use Rattle.meter.proofs.ReplyLaws.{part-filled}
 use borrow.Author.Needs.{needs}
 use Rattle.meter.proofs.reply.fill.Statement.{statement}
 use Rattle.meter.proofs.reply.fill.Tie as tie
@@ -19,7 +20,9 @@ same-length : tie.Need-same-length
 same-length c = search needs
 
 returns : tie.Need-returns
-returns c = part-filled (c .before .before .before .before .before .before .before .args .out .now) _ _ (c .before .before .put-data .ensures)
+returns c =
+    let args = c .before .before .before .before .before .before .before .args in
+    part-filled (args .out .now) _ _ (c .before .before .put-data .ensures)
 
 pub fill-spec : {M : Type 1} → statement M
 fill-spec =

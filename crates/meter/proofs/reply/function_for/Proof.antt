@@ -1,3 +1,4 @@
+-- `function_for` meets its contract: `is_done` and the top bit are `functionFor`'s two tests, so 128 is added only where it is not set.
 use Rattle.meter.specs.Reply.{functionFor}
 use mathlib.Core.Path.{sym, _∙_}
 use borrow.Author.Tests.{le-leb, lt-leb}

@@ -1,3 +1,4 @@
+-- `is_heard` meets its contract: the seal and then address 0 are the tests of `heardAt`; past both, whether the address is the meter's own is left.
 use borrow.Author.Tests.{eq-eqb, ne-eqb}
 use mathlib.Core.Path.{sym, _∙_}
 use borrow.Author.Needs.{needs}
@@ -11,10 +12,14 @@ is-sealed-requires : tie.Need-is-sealed-requires
 is-sealed-requires c κs = search needs
 
 returns : tie.Need-returns
-returns c = simp (sym (c .before .before .is-sealed .ensures) ∙ c .before .if1 .taken, sym (c .before .before .before .byte-at .ensures), eq-eqb _ _ (c .if2 .taken))
+returns c =
+    let byte-at = c .before .before .before .byte-at in
+    simp (sym (c .before .before .is-sealed .ensures) ∙ c .before .if1 .taken, sym (byte-at .ensures), eq-eqb _ _ (c .if2 .taken))
 
 returns-2 : tie.Need-returns-2
-returns-2 c = simp (sym (c .before .before .is-sealed .ensures) ∙ c .before .if1 .taken, sym (c .before .before .before .byte-at .ensures), ne-eqb _ _ (c .if2 .left))
+returns-2 c =
+    let byte-at = c .before .before .before .byte-at in
+    simp (sym (c .before .before .is-sealed .ensures) ∙ c .before .if1 .taken, sym (byte-at .ensures), ne-eqb _ _ (c .if2 .left))
 
 returns-3 : tie.Need-returns-3
 returns-3 c = simp (sym (c .before .is-sealed .ensures) ∙ c .if1 .left)

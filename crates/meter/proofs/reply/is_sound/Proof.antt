@@ -1,3 +1,4 @@
+-- `is_sound` meets its contract: a store of another length makes `isSound` false, and with the right one `isWithin` is left.
 use Rattle.meter.specs.Reply.{isSound}
 use borrow.Author.Tests.{eq-eqb, ne-eqb}
 use borrow.Author.Needs.{needs}

@@ -1,3 +1,4 @@
+-- `put_head` meets its contract: the four bytes put are those of `headOf`, in its order.
 use Rattle.meter.specs.Reply.{headOf}
 use mathlib.Core.Path.{_∙_}
 use borrow.Author.Needs.{needs}
@@ -30,7 +31,14 @@ same-length c = search needs
 
 returns : tie.Need-returns
 unfolding headOf
-returns c = c .before .before .put-bytes .ensures ∙ rw (c .before .before .before .before .before .before .before .before .before .byte-at .ensures, c .before .before .before .before .before .before .before .function-for .ensures, c .before .before .before .before .before .before .before .before .byte-at2 .ensures, c .before .before .before .before .before .before .parameter-byte .ensures, c .before .before .before .before .before .result-of .ensures)
+returns c =
+    let back = c .before .before .before .before .before in
+    let byte-at = back .before .before .before .before .byte-at in
+    let byte-at2 = back .before .before .before .byte-at2 in
+    let function-for = back .before .before .function-for in
+    let parameter-byte = back .before .parameter-byte in
+    let result-of = back .result-of in
+    c .before .before .put-bytes .ensures ∙ rw (byte-at .ensures, function-for .ensures, byte-at2 .ensures, parameter-byte .ensures, result-of .ensures)
 
 pub put-head-spec : {M : Type 1} → statement M
 put-head-spec =

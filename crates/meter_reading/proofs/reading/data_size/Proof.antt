@@ -1,3 +1,4 @@
+-- `data_size` meets its contract: only a read has data, and then the size is that of its parameter and detail, as in `dataSize`.
 use Rattle.meter_reading.specs.Reading.{dataSize}
 use mathlib.Core.Path.{sym, _∙_}
 use borrow.Author.Needs.{needs}
@@ -13,12 +14,15 @@ request-in-requires c κs = search needs
 parameter-in-requires : tie.Need-parameter-in-requires
 parameter-in-requires c κs = search needs
 
-figure-bytes-requires : tie.Need-figure-bytes-requires
-figure-bytes-requires c κs = search needs
+reply-bytes-requires : tie.Need-reply-bytes-requires
+reply-bytes-requires c κs = search needs
 
 returns : tie.Need-returns
 unfolding dataSize
-returns c = simp (sym (c .before .before .before .before .is-read .ensures) ∙ c .before .before .before .if1 .taken) (c .figure-bytes .ensures ∙ rw (c .before .parameter-in .ensures, c .before .before .request-in .ensures))
+returns c =
+    let is-read = c .before .before .before .before .is-read in
+    let if1 = c .before .before .before .if1 in
+    simp (sym (is-read .ensures) ∙ if1 .taken) (c .reply-bytes .ensures ∙ rw (c .before .parameter-in .ensures, c .before .before .request-in .ensures))
 
 returns-2 : tie.Need-returns-2
 unfolding dataSize
@@ -31,6 +35,6 @@ data-size-spec =
     is-read-requires
     request-in-requires
     parameter-in-requires
-    figure-bytes-requires
+    reply-bytes-requires
     returns
     returns-2)

@@ -1,3 +1,4 @@
+-- `is_read` meets its contract: each function's arm is its row of `isRead`.
 use mathlib.Core.Path.{sym, _∙_}
 use borrow.Author.Needs.{needs}
 use Rattle.meter_reading.proofs.reading.is_read.Statement.{statement}

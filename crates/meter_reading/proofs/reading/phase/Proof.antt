@@ -1,3 +1,4 @@
+-- `phase` meets its contract: at details 1 and 2 both sides compute, and in the last arm the detail is neither.
 use Rattle.meter_reading.specs.Reading.{phase}
 use borrow.Author.Tests.{ne-eqb}
 use Rattle.meter_reading.proofs.reading.phase.Statement.{statement}

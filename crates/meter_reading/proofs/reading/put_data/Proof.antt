@@ -1,3 +1,4 @@
+-- `put_data` meets its contract: only a read has data, those of its parameter and request; for any other command nothing is written.
 use Rattle.meter_reading.specs.Reading.{dataOf}
 use Rattle.words.specs.Place.{written}
 use mathlib.Core.Path.{sym, _∙_}
@@ -22,7 +23,12 @@ same-length c = search needs
 
 returns : tie.Need-returns
 unfolding dataOf written
-returns c = simp (sym (c .before .before .before .before .before .before .before .is-read .ensures) ∙ c .before .before .before .before .before .before .if1 .taken) (c .before .before .put-figures .ensures ∙ rw (c .before .before .before .before .before .parameter-in .ensures, c .before .before .before .request-in .ensures))
+returns c =
+    let is-read = c .before .before .before .before .before .before .before .is-read in
+    let if1 = c .before .before .before .before .before .before .if1 in
+    let parameter-in = c .before .before .before .before .before .parameter-in in
+    let request-in = c .before .before .before .request-in in
+    simp (sym (is-read .ensures) ∙ if1 .taken) (c .before .before .put-figures .ensures ∙ rw (parameter-in .ensures, request-in .ensures))
 
 returns-2 : tie.Need-returns-2
 unfolding dataOf written

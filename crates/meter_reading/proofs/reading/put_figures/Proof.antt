@@ -1,3 +1,4 @@
+-- `put_figures` meets its contract: each parameter's arm writes its row of `figuresOf`; the two that cannot be read write nothing.
 use Rattle.words.specs.Place.{written}
 use mathlib.Core.Path.{_∙_}
 use borrow.Author.Needs.{needs}
@@ -93,70 +94,96 @@ same-length c = search needs
 
 returns : tie.Need-returns
 unfolding written
-returns c = simp (c .before .before .before .before .enum-told .given .1) (c .before .before .put-power .ensures)
+returns c =
+    let arm = c .before .before .before .before .enum-told in
+    simp (arm .given .1) (c .before .before .put-power .ensures)
 
 same-length-2 : tie.Need-same-length-2
 same-length-2 c = search needs
 
 returns-2 : tie.Need-returns-2
 unfolding written
-returns-2 c = simp (c .before .before .before .before .enum-told2 .given .1) (c .before .before .put-power2 .ensures)
+returns-2 c =
+    let arm2 = c .before .before .before .before .enum-told2 in
+    simp (arm2 .given .1) (c .before .before .put-power2 .ensures)
 
 same-length-3 : tie.Need-same-length-3
 same-length-3 c = search needs
 
 returns-3 : tie.Need-returns-3
 unfolding written
-returns-3 c = simp (c .before .before .before .before .enum-told3 .given .1) (c .before .before .put-byte .ensures)
+returns-3 c =
+    let arm3 = c .before .before .before .before .enum-told3 in
+    simp (arm3 .given .1) (c .before .before .put-byte .ensures)
 
 same-length-4 : tie.Need-same-length-4
 same-length-4 c = search needs
 
 returns-4 : tie.Need-returns-4
 unfolding written
-returns-4 c = simp (c .before .before .before .before .enum-told4 .given .1) (c .before .before .put-telemetry .ensures)
+returns-4 c =
+    let arm4 = c .before .before .before .before .enum-told4 in
+    simp (arm4 .given .1) (c .before .before .put-telemetry .ensures)
 
 same-length-5 : tie.Need-same-length-5
 same-length-5 c = search needs
 
 returns-5 : tie.Need-returns-5
 unfolding written
-returns-5 c = simp (c .before .before .before .before .before .enum-told5 .given .1) (c .before .before .put-date-time .ensures ∙ rw (c .before .before .before .summer-shown .ensures))
+returns-5 c =
+    let arm5 = c .before .before .before .before .before .enum-told5 in
+    let summer-shown = c .before .before .before .summer-shown in
+    simp (arm5 .given .1) (c .before .before .put-date-time .ensures ∙ rw (summer-shown .ensures))
 
 same-length-6 : tie.Need-same-length-6
 same-length-6 c = search needs
 
 returns-6 : tie.Need-returns-6
 unfolding written
-returns-6 c = simp (c .before .before .before .before .before .enum-told6 .given .1) (c .before .before .put-date-time2 .ensures ∙ rw (c .before .before .before .winter-shown .ensures))
+returns-6 c =
+    let arm6 = c .before .before .before .before .before .enum-told6 in
+    let winter-shown = c .before .before .before .winter-shown in
+    simp (arm6 .given .1) (c .before .before .put-date-time2 .ensures ∙ rw (winter-shown .ensures))
 
 same-length-7 : tie.Need-same-length-7
 same-length-7 c = search needs
 
 returns-7 : tie.Need-returns-7
 unfolding written
-returns-7 c = simp (c .before .before .before .before .enum-told7 .given .1) (c .before .before .put-date-time3 .ensures)
+returns-7 c =
+    let arm7 = c .before .before .before .before .enum-told7 in
+    simp (arm7 .given .1) (c .before .before .put-date-time3 .ensures)
 
 same-length-8 : tie.Need-same-length-8
 same-length-8 c = search needs
 
 returns-8 : tie.Need-returns-8
 unfolding written
-returns-8 c = simp (c .before .before .before .before .enum-told8 .given .1) (c .before .before .put-display-mask .ensures)
+returns-8 c =
+    let arm8 = c .before .before .before .before .enum-told8 in
+    simp (arm8 .given .1) (c .before .before .put-display-mask .ensures)
 
 same-length-9 : tie.Need-same-length-9
 same-length-9 c = search needs
 
 returns-9 : tie.Need-returns-9
 unfolding written
-returns-9 c = simp (c .before .before .before .before .before .before .enum-told9 .given .1) (c .before .before .put-row .ensures ∙ rw (c .before .before .before .slice-of .ensures, c .before .before .before .before .key-of .ensures))
+returns-9 c =
+    let arm9 = c .before .before .before .before .before .before .enum-told9 in
+    let key-of = c .before .before .before .before .key-of in
+    let slice-of = c .before .before .before .slice-of in
+    simp (arm9 .given .1) (c .before .before .put-row .ensures ∙ rw (slice-of .ensures, key-of .ensures))
 
 same-length-10 : tie.Need-same-length-10
 same-length-10 c = search needs
 
 returns-10 : tie.Need-returns-10
 unfolding written
-returns-10 c = simp (c .before .before .before .before .before .before .enum-told10 .given .1) (c .before .before .put-six .ensures ∙ rw (c .before .before .before .six-of .ensures, c .before .before .before .before .key-of2 .ensures))
+returns-10 c =
+    let arm10 = c .before .before .before .before .before .before .enum-told10 in
+    let key-of2 = c .before .before .before .before .key-of2 in
+    let six-of = c .before .before .before .six-of in
+    simp (arm10 .given .1) (c .before .before .put-six .ensures ∙ rw (six-of .ensures, key-of2 .ensures))
 
 returns-11 : tie.Need-returns-11
 unfolding written

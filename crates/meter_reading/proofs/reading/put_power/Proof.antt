@@ -1,3 +1,4 @@
+-- `put_power` meets its contract: detail 0 is `powerData`'s own test, between all four powers and the one phase.
 use Rattle.meter_reading.specs.Reading.{powerData}
 use mathlib.Core.Path.{_∙_}
 use borrow.Author.Tests.{eq-eqb, ne-eqb}
@@ -19,14 +20,19 @@ same-length c = search needs
 
 returns : tie.Need-returns
 unfolding powerData
-returns c = simp (eq-eqb _ _ (c .before .before .before .before .if1 .taken)) (c .before .before .put-powers .ensures)
+returns c =
+    let if1 = c .before .before .before .before .if1 in
+    simp (eq-eqb _ _ (if1 .taken)) (c .before .before .put-powers .ensures)
 
 same-length-2 : tie.Need-same-length-2
 same-length-2 c = search needs
 
 returns-2 : tie.Need-returns-2
 unfolding powerData
-returns-2 c = simp (ne-eqb _ _ (c .before .before .before .before .before .if1 .left)) (c .before .before .put-power .ensures ∙ rw (c .before .before .before .phase .ensures))
+returns-2 c =
+    let if1 = c .before .before .before .before .before .if1 in
+    let phase = c .before .before .before .phase in
+    simp (ne-eqb _ _ (if1 .left)) (c .before .before .put-power .ensures ∙ rw (phase .ensures))
 
 pub put-power-spec : {M : Type 1} → statement M
 put-power-spec =

@@ -1,6 +1,7 @@
+-- `put_six` meets its contract: six rows of eight bytes, put one behind the other, are `sixBytes` (`onward`).
 use Rattle.meter_reading.specs.Reading.{sixBytes}
-use Rattle.store.specs.Store.{rowBytes}
-use Rattle.words.specs.Place.{onward}
+use Rattle.meter_store.specs.Store.{rowBytes}
+use Rattle.words.proofs.PlaceLaws.{onward}
 use Rattle.words.specs.Number.{bytesOf}
 use mathlib.Core.Path.{refl}
 use borrow.Author.Needs.{needs}
@@ -48,10 +49,18 @@ same-length c = search needs
 
 returns : tie.Need-returns
 unfolding sixBytes rowBytes bytesOf
-returns c = let two = onward _ _ _ _ _ _ _ (c .before .before .before .before .before .before .before .before .before .before .before .before .before .before .before .before .before .before .before .before .before .before .before .before .before .before .before .put-row .ensures) (c .before .before .before .before .before .before .before .before .before .before .before .before .before .before .before .before .before .before .before .before .before .before .put-row2 .ensures) refl in
-    let three = onward _ _ _ _ _ _ _ two (c .before .before .before .before .before .before .before .before .before .before .before .before .before .before .before .before .before .put-row3 .ensures) refl in
-    let four = onward _ _ _ _ _ _ _ three (c .before .before .before .before .before .before .before .before .before .before .before .before .put-row4 .ensures) refl in
-    let five = onward _ _ _ _ _ _ _ four (c .before .before .before .before .before .before .before .put-row5 .ensures) refl in
+returns c =
+    let back = c .before .before .before .before .before .before .before .before .before .before .before .before in
+    let farther = back .before .before .before .before .before .before .before .before .before .before in
+    let put-row = farther .before .before .before .before .before .put-row in
+    let put-row2 = farther .put-row2 in
+    let put-row3 = back .before .before .before .before .before .put-row3 in
+    let put-row4 = back .put-row4 in
+    let put-row5 = c .before .before .before .before .before .before .before .put-row5 in
+    let two = onward _ _ _ _ _ _ _ (put-row .ensures) (put-row2 .ensures) refl in
+    let three = onward _ _ _ _ _ _ _ two (put-row3 .ensures) refl in
+    let four = onward _ _ _ _ _ _ _ three (put-row4 .ensures) refl in
+    let five = onward _ _ _ _ _ _ _ four (put-row5 .ensures) refl in
     onward _ _ _ _ _ _ _ five (c .before .before .put-row6 .ensures) refl
 
 pub put-six-spec : {M : Type 1} → statement M

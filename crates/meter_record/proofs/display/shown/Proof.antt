@@ -1,5 +1,7 @@
+-- `shown` meets its contract: the bits set are `shownOf`'s, and a byte with its first bit set is still a byte (`first-byte`).
 use mir.Facts.{fits-le, fits-lit}
-use Rattle.meter_record.specs.Display.{shownOf, first-byte}
+use Rattle.meter_record.specs.Display.{shownOf}
+use Rattle.meter_record.proofs.DisplayLaws.{first-byte}
 use borrow.Author.Needs.{needs}
 use Rattle.meter_record.proofs.display.shown.Statement.{statement}
 use Rattle.meter_record.proofs.display.shown.Tie as tie
@@ -17,11 +19,15 @@ with-first-requires-2 : tie.Need-with-first-requires-2
 with-first-requires-2 c κs = search needs
 
 cast-t6 : tie.Need-cast-t6
-cast-t6 c = rw (c .with-first2 .ensures) (fits-le (first-byte (c .before .before .before .before .args .m .directions) (search needs)) (fits-lit tt))
+cast-t6 c =
+    let args = c .before .before .before .before .args in
+    rw (c .with-first2 .ensures) (fits-le (first-byte (args .m .directions) (search needs)) (fits-lit tt))
 
 returns : tie.Need-returns
 unfolding shownOf
-returns c = rw (c .with-first2 .ensures, c .before .before .with-last .ensures, c .before .before .before .with-first .ensures)
+returns c =
+    let with-first = c .before .before .before .with-first in
+    rw (c .with-first2 .ensures, c .before .before .with-last .ensures, with-first .ensures)
 
 pub shown-spec : {M : Type 1} → statement M
 shown-spec =

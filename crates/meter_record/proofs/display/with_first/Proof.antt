@@ -1,4 +1,5 @@
-use Rattle.meter_record.specs.Display.{first-there, first-set}
+-- `with_first` meets its contract: an odd mask has bit 0 already, and one more than an even mask is the mask with bit 0 set.
+use Rattle.meter_record.proofs.DisplayLaws.{first-there, first-set}
 use borrow.Author.Needs.{needs}
 use Rattle.meter_record.proofs.display.with_first.Statement.{statement}
 use Rattle.meter_record.proofs.display.with_first.Tie as tie

@@ -1,4 +1,5 @@
-use Rattle.meter_record.specs.Display.{last-there, last-set}
+-- `with_last` meets its contract: a mask of at least 2^31 has bit 31 already, and 2^31 more than a lesser one is the mask with bit 31 set.
+use Rattle.meter_record.proofs.DisplayLaws.{last-there, last-set}
 use borrow.Author.Needs.{needs}
 use Rattle.meter_record.proofs.display.with_last.Statement.{statement}
 use Rattle.meter_record.proofs.display.with_last.Tie as tie

@@ -1,3 +1,4 @@
+-- `make` meets its contract: the record built is `fresh`, and `is_within` of it is the test that `made` makes.
 use Rattle.meter_record.specs.Ranges.{isWithin}
 use Rattle.meter_record.specs.Record.{made}
 use mathlib.Core.Path.{sym, ap, _∙_}

@@ -1,3 +1,4 @@
+-- `new_record` meets its contract: each field is the one that `fresh` names, with protection shut.
 use Rattle.meter_record.specs.Record.{fresh}
 use borrow.Author.Needs.{needs}
 use Rattle.meter_record.proofs.making.new_record.Statement.{statement}

@@ -1,3 +1,4 @@
+-- `pass_second` meets its contract: `is_within` settles the case of `secondOf`, and protection and time each take their own step.
 use Rattle.meter_record.specs.Record.{secondOf}
 use mathlib.Core.Path.{sym, _∙_}
 use borrow.Author.Needs.{needs}
@@ -15,7 +16,13 @@ next-time-requires c κs = search needs
 
 returns : tie.Need-returns
 unfolding secondOf
-returns c = simp (sym (c .before .before .before .before .before .before .before .before .before .before .is-within .ensures) ∙ c .before .before .before .before .before .before .before .before .before .if1 .taken, c .before .before .before .before .before .before .quiet-second .ensures, c .before .before .before .before .before .next-time .ensures)
+returns c =
+    let back = c .before .before .before .before .before in
+    let is-within = back .before .before .before .before .before .is-within in
+    let if1 = back .before .before .before .before .if1 in
+    let quiet-second = back .before .quiet-second in
+    let next-time = back .next-time in
+    simp (sym (is-within .ensures) ∙ if1 .taken, quiet-second .ensures, next-time .ensures)
 
 returns-2 : tie.Need-returns-2
 unfolding secondOf

@@ -1,3 +1,4 @@
+-- `in_bounds` meets its contract: the two comparisons are `inBounds`'s own, in its order.
 use Rattle.meter_record.specs.Power.{inBounds}
 use Rattle.meter_record.proofs.power.in_bounds.Statement.{statement}
 use Rattle.meter_record.proofs.power.in_bounds.Tie as tie

@@ -1,3 +1,4 @@
+-- `set_powers` meets its contract: `is_within` and then `are_powers` are the tests of `setPowers`, in its order.
 use Rattle.meter_record.specs.Record.{setPowers}
 use mathlib.Core.Path.{sym, _∙_}
 use borrow.Author.Needs.{needs}
@@ -15,11 +16,16 @@ powers-set-requires c κs = search needs
 
 returns : tie.Need-returns
 unfolding setPowers
-returns c = simp (sym (c .before .before .before .before .is-within .ensures) ∙ c .before .before .before .if1 .taken, sym (c .before .before .are-powers .ensures) ∙ c .before .if2 .taken) (c .powers-set .ensures)
+returns c =
+    let is-within = c .before .before .before .before .is-within in
+    let if1 = c .before .before .before .if1 in
+    simp (sym (is-within .ensures) ∙ if1 .taken, sym (c .before .before .are-powers .ensures) ∙ c .before .if2 .taken) (c .powers-set .ensures)
 
 returns-2 : tie.Need-returns-2
 unfolding setPowers
-returns-2 c = simp (sym (c .before .before .before .is-within .ensures) ∙ c .before .before .if1 .taken, sym (c .before .are-powers .ensures) ∙ c .if2 .left)
+returns-2 c =
+    let is-within = c .before .before .before .is-within in
+    simp (sym (is-within .ensures) ∙ c .before .before .if1 .taken, sym (c .before .are-powers .ensures) ∙ c .if2 .left)
 
 returns-3 : tie.Need-returns-3
 unfolding setPowers

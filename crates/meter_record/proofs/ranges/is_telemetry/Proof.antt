@@ -1,3 +1,4 @@
+-- `is_telemetry` meets its contract: 32 bits times 16 fit 64, so the two tests of the product are the bounds of `isTelemetry`.
 use Prim.Native.Nat.{_≤_}
 use mir.Facts.{fits-le, fits-lit}
 use native.Mathlib.Nat.{mul-le-mul}

@@ -1,3 +1,4 @@
+-- `is_within` meets its contract: address, settings and bench are tested in `isWithin`'s order, and the first that fails settles it.
 use Rattle.meter_record.specs.Ranges.{isWithin}
 use borrow.Author.Tests.{lt-leb, le-leb}
 use mathlib.Core.Path.{sym, _∙_}
@@ -17,7 +18,9 @@ bench-right-requires c κs = search needs
 
 returns-2 : tie.Need-returns-2
 unfolding isWithin
-returns-2 c = simp (le-leb _ _ (c .before .before .before .if1 .left), sym (c .before .before .settings-right .ensures) ∙ c .before .if2 .taken) (c .bench-right .ensures)
+returns-2 c =
+    let if1 = c .before .before .before .if1 in
+    simp (le-leb _ _ (if1 .left), sym (c .before .before .settings-right .ensures) ∙ c .before .if2 .taken) (c .bench-right .ensures)
 
 returns-3 : tie.Need-returns-3
 unfolding isWithin

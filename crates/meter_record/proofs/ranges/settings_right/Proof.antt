@@ -1,3 +1,4 @@
+-- `settings_right` meets its contract: protection, time and telemetry are tested in order, and the first that fails settles `settingsRight`.
 use Rattle.meter_record.specs.Ranges.{settingsRight}
 use mathlib.Core.Path.{sym, _∙_}
 use borrow.Author.Needs.{needs}
@@ -15,11 +16,16 @@ is-telemetry-requires c κs = search needs
 
 returns : tie.Need-returns
 unfolding settingsRight
-returns c = simp (sym (c .before .before .before .before .is-protection .ensures) ∙ c .before .before .before .if1 .taken, sym (c .before .before .is-fitting .ensures) ∙ c .before .if2 .taken) (c .is-telemetry .ensures)
+returns c =
+    let is-protection = c .before .before .before .before .is-protection in
+    let if1 = c .before .before .before .if1 in
+    simp (sym (is-protection .ensures) ∙ if1 .taken, sym (c .before .before .is-fitting .ensures) ∙ c .before .if2 .taken) (c .is-telemetry .ensures)
 
 returns-2 : tie.Need-returns-2
 unfolding settingsRight
-returns-2 c = simp (sym (c .before .before .before .is-protection .ensures) ∙ c .before .before .if1 .taken, sym (c .before .is-fitting .ensures) ∙ c .if2 .left)
+returns-2 c =
+    let is-protection = c .before .before .before .is-protection in
+    simp (sym (is-protection .ensures) ∙ c .before .before .if1 .taken, sym (c .before .is-fitting .ensures) ∙ c .if2 .left)
 
 returns-3 : tie.Need-returns-3
 unfolding settingsRight

@@ -1,18 +1,24 @@
+-- Between two turns the log is one that a poll may make of the first, and each ask goes on from there; the next slot lies behind the last.
 use borrow.Author.Needs.{needs}
 use Prim.Native.Nat.{_-_}
 use mathlib.Core.Path.{_≡_, refl, sym, _∙_}
 use lib.ListN.{length}
 use native.Mathlib.Omega.{arith}
-use Rattle.polling.specs.NextLaws.{next-bounds}
-use Rattle.polling.specs.Reached.{standing, Reached, stays, onward}
+use Rattle.slots.proofs.DayLaws.{slotsMost}
+use Rattle.polling.proofs.NextLaws.{next-bounds}
+use Rattle.polling.specs.Reached.{Polled}
+use Rattle.polling.proofs.ReachedLaws.{stays, onward}
 use Rattle.poll.proofs.days.asks.Statement.{statement}
 use Rattle.poll.proofs.days.asks.Tie as tie
 
 abbrev Inv-loop : tie.InvT-loop
-Inv-loop wire device path image₀ day course₀ slot₀ image course slot = (length image ≡ length image₀) × Reached (standing image₀ (course₀ .held)) (standing image (course .held))
+Inv-loop wire device path image₀ day course₀ slot₀ image course slot = (length image ≡ length image₀) × Polled image₀ image
 
 abbrev μ-loop : tie.MeasureT-loop
-μ-loop wire device path image₀ day course₀ slot₀ image course slot = 96 - slot
+μ-loop wire device path image₀ day course₀ slot₀ image course slot = slotsMost - slot
+
+goes-on-requires : tie.Need-goes-on-requires Inv-loop μ-loop
+goes-on-requires c κs = search needs
 
 loop-holds : tie.Need-loop-holds Inv-loop μ-loop
 loop-holds c = (refl, stays _)
@@ -30,7 +36,9 @@ same-length : tie.Need-same-length Inv-loop μ-loop
 same-length c = search needs
 
 returns : tie.Need-returns Inv-loop μ-loop
-returns c = c .before .before .before .before .before .loop .inv .1
+returns c =
+    let loop = c .before .before .before .before .before .loop in
+    loop .inv .1
 
 one-ask-requires : tie.Need-one-ask-requires Inv-loop μ-loop
 one-ask-requires c κs = search needs
@@ -39,16 +47,30 @@ same-length-2 : tie.Need-same-length-2 Inv-loop μ-loop
 same-length-2 c = search needs
 
 returns-2 : tie.Need-returns-2 Inv-loop μ-loop
-returns-2 c = onward (c .before .before .before .before .before .before .before .before .before .before .before .loop .inv .1) (c .before .before .before .one-ask .ensures)
+returns-2 c =
+    let one-ask = c .before .before .before .one-ask in
+    let turn = c .before .before .before .before .before .before .before .before .before .before .before .before in
+    onward (turn .loop .inv .1) (one-ask .ensures)
 
 add-slot : tie.Need-add-slot Inv-loop μ-loop
-add-slot c = omega (arith, next-bounds (c .before .before .before .before .before .before .before .before .before .before .before .loop .image) (c .before .before .before .before .before .before .before .before .before .before .before .before .before .before .before .args .day) (c .before .before .before .before .before .before .before .before .before .before .before .loop .slot) _ (sym (c .before .before .before .before .before .before .before .before .next-gap .ensures) ∙ c .before .before .before .before .before .before .next .given .1))
+add-slot c =
+    let next = c .before .before .before .before .before .before .before in
+    let turn = next .before .before .before .before .before in
+    let args = turn .before .before .before .before .before .args in
+    omega (arith, next-bounds (turn .loop .image) (args .day) (turn .loop .slot) _ (sym (next .before .before .next-gap .ensures) ∙ next .next .given .1))
 
 loop-less : tie.Need-loop-less Inv-loop μ-loop
-loop-less c = omega (arith, next-bounds (c .before .before .before .before .before .before .before .before .before .before .before .loop .image) (c .before .before .before .before .before .before .before .before .before .before .before .before .before .before .before .args .day) (c .before .before .before .before .before .before .before .before .before .before .before .loop .slot) _ (sym (c .before .before .before .before .before .before .before .before .next-gap .ensures) ∙ c .before .before .before .before .before .before .next .given .1))
+loop-less c =
+    let next = c .before .before .before .before .before .before .before in
+    let turn = next .before .before .before .before .before in
+    let args = turn .before .before .before .before .before .args in
+    omega (arith, next-bounds (turn .loop .image) (args .day) (turn .loop .slot) _ (sym (next .before .before .next-gap .ensures) ∙ next .next .given .1))
 
 loop-again : tie.Need-loop-again Inv-loop μ-loop
-loop-again c = (search needs, onward (c .before .before .before .before .before .before .before .before .before .before .before .loop .inv .1) (c .before .before .before .one-ask .ensures))
+loop-again c =
+    let one-ask = c .before .before .before .one-ask in
+    let turn = c .before .before .before .before .before .before .before .before .before .before .before .before in
+    (search needs, onward (turn .loop .inv .1) (one-ask .ensures))
 
 same-length-3 : tie.Need-same-length-3 Inv-loop μ-loop
 same-length-3 c = search needs
@@ -62,6 +84,7 @@ asks-spec =
     (tie.spec
     Inv-loop
     μ-loop
+    goes-on-requires
     loop-holds
     next-gap-requires
     enum-known-next

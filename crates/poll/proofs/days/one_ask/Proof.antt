@@ -1,4 +1,5 @@
-use Rattle.polling.specs.Reached.{asks, onward}
+-- An ask that was made leads to the exchange, which closes it; one that was refused has left the log as it was.
+use Rattle.polling.proofs.ReachedLaws.{asks, stays, onward}
 use borrow.Author.Needs.{needs}
 use Rattle.poll.proofs.days.one_ask.Statement.{statement}
 use Rattle.poll.proofs.days.one_ask.Tie as tie
@@ -15,11 +16,11 @@ put-ask-requires c κs = search needs
 enum-told : tie.Need-enum-told
 enum-told c = search needs
 
-slice-aggregate-heard : tie.Need-slice-aggregate-heard
-slice-aggregate-heard c = search needs
+slice-aggregate-exchanged : tie.Need-slice-aggregate-exchanged
+slice-aggregate-exchanged c = search needs
 
-heard-requires : tie.Need-heard-requires
-heard-requires c κs = search needs
+exchanged-requires : tie.Need-exchanged-requires
+exchanged-requires c κs = search needs
 
 new-line-requires : tie.Need-new-line-requires
 new-line-requires c κs = search needs
@@ -30,24 +31,22 @@ number-requires c κs = search needs
 refused-requires : tie.Need-refused-requires
 refused-requires c κs = search needs
 
-ended-requires : tie.Need-ended-requires
-ended-requires c κs = search needs
+ends-requires : tie.Need-ends-requires
+ends-requires c κs = search needs
 
 same-length : tie.Need-same-length
 same-length c = search needs
 
 returns : tie.Need-returns
 returns c =
-    let start = c .before .before .before .before .before .before .before .before .before .before .before .before .before .before .before .before .args in
-    onward (asks (start .image .now) (start .before .held) _ _ _ _ _ (c .before .before .before .before .before .before .before .before .put-ask .result) (c .before .before .before .before .before .before .before .before .put-ask .ensures)) (c .before .before .heard .ensures)
+    let ask = c .before .before .before .before .before .before .before .before in
+    onward (asks _ _ _ _ _ _ _ (ask .put-ask .result) (ask .put-ask .ensures)) (c .before .before .exchanged .ensures)
 
 same-length-2 : tie.Need-same-length-2
 same-length-2 c = search needs
 
 returns-2 : tie.Need-returns-2
-returns-2 c =
-    let start = c .before .before .before .before .before .before .before .before .before .before .before .before .before .before .args in
-    onward (asks (start .image .now) (start .before .held) _ _ _ _ _ (c .before .before .before .before .before .before .put-ask .result) (c .before .before .before .before .before .before .put-ask .ensures)) (c .ended .ensures _)
+returns-2 c = stays _
 
 pub one-ask-spec : {M : Type 1} → statement M
 one-ask-spec =
@@ -57,12 +56,12 @@ one-ask-spec =
     slice-aggregate-put-ask
     put-ask-requires
     enum-told
-    slice-aggregate-heard
-    heard-requires
+    slice-aggregate-exchanged
+    exchanged-requires
     new-line-requires
     number-requires
     refused-requires
-    ended-requires
+    ends-requires
     same-length
     returns
     same-length-2

@@ -1,23 +1,24 @@
+-- Between two days the log is one that a poll may make of the first, and each day goes on from there.
 use borrow.Author.Needs.{needs}
 use Prim.Native.Nat.{_-_}
-use mathlib.Core.Path.{_≡_, refl, sym}
+use mathlib.Core.Path.{_≡_, refl}
 use lib.ListN.{length}
-use Rattle.logger.specs.declared.held.OpenAsk.the-variants.{Closed}
-use Rattle.polling.specs.Reached.{standing, Reached, stays, onward}
+use Rattle.polling.specs.Reached.{Polled}
+use Rattle.polling.proofs.ReachedLaws.{stays, onward}
 use Rattle.poll.proofs.days.poll.Statement.{statement}
 use Rattle.poll.proofs.days.poll.Tie as tie
 
 abbrev Inv-loop : tie.InvT-loop
-Inv-loop wire device path image₀ from end course₀ day₀ image course day = (length image ≡ length image₀) × Reached (standing image₀ Closed) (standing image (course .held))
+Inv-loop wire device path image₀ from end course₀ day₀ image course day = (length image ≡ length image₀) × Polled image₀ image
 
 abbrev μ-loop : tie.MeasureT-loop
 μ-loop wire device path image₀ from end course₀ day₀ image course day = end - day
 
-begin-requires : tie.Need-begin-requires Inv-loop μ-loop
-begin-requires c κs = search needs
+goes-on-requires : tie.Need-goes-on-requires Inv-loop μ-loop
+goes-on-requires c κs = search needs
 
 loop-holds : tie.Need-loop-holds Inv-loop μ-loop
-loop-holds c = (refl, rw (c .begin .ensures) (stays _))
+loop-holds c = (refl, stays _)
 
 one-day-requires : tie.Need-one-day-requires Inv-loop μ-loop
 one-day-requires c κs = search needs
@@ -26,7 +27,10 @@ same-length : tie.Need-same-length Inv-loop μ-loop
 same-length c = search needs
 
 returns : tie.Need-returns Inv-loop μ-loop
-returns c = onward (c .before .before .before .before .before .before .loop .inv .1) (c .before .before .before .one-day .ensures)
+returns c =
+    let one-day = c .before .before .before .one-day in
+    let turn = c .before .before .before .before .before .before .before in
+    onward (turn .loop .inv .1) (one-day .ensures)
 
 add-day : tie.Need-add-day Inv-loop μ-loop
 add-day c = search needs
@@ -35,7 +39,10 @@ loop-less : tie.Need-loop-less Inv-loop μ-loop
 loop-less c = search needs
 
 loop-again : tie.Need-loop-again Inv-loop μ-loop
-loop-again c = (search needs, onward (c .before .before .before .before .before .before .loop .inv .1) (c .before .before .before .one-day .ensures))
+loop-again c =
+    let one-day = c .before .before .before .one-day in
+    let turn = c .before .before .before .before .before .before .before in
+    (search needs, onward (turn .loop .inv .1) (one-day .ensures))
 
 same-length-2 : tie.Need-same-length-2 Inv-loop μ-loop
 same-length-2 c = search needs
@@ -49,7 +56,7 @@ poll-spec =
     (tie.spec
     Inv-loop
     μ-loop
-    begin-requires
+    goes-on-requires
     loop-holds
     one-day-requires
     same-length

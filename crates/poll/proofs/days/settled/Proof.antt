@@ -1,5 +1,6 @@
+-- What `settle` promises is a list of the logger's calls, at whose end no ask is open.
 use native.Mathlib.Omega.{arith}
-use Rattle.polling.specs.Reached.{settles, onward}
+use Rattle.polling.proofs.ReachedLaws.{settles}
 use borrow.Author.Needs.{needs}
 use Rattle.poll.proofs.days.settled.Statement.{statement}
 use Rattle.poll.proofs.days.settled.Tie as tie
@@ -7,20 +8,16 @@ use Rattle.poll.proofs.days.settled.Tie as tie
 settle-requires : tie.Need-settle-requires
 settle-requires c κs = search needs
 
-counted-requires : tie.Need-counted-requires
-counted-requires c κs = search needs
-
-followed-requires : tie.Need-followed-requires
-followed-requires c κs = search needs
-
 same-length : tie.Need-same-length
 same-length c = search needs
 
 returns : tie.Need-returns
 returns c =
-    let start = c .before .before .before .before .before .before .before .before .before .before .before .args in
-    onward (settles (start .image .now) (start .course .held) (start .reply .now) _ (c .before .before .before .before .settle .result) (λ i. omega (arith, c .before .before .before .before .before .before .before .shared-slice-known3 .given i)) (c .before .before .before .before .settle .ensures)) (c .followed .ensures _)
+    let call = c .before .before in
+    let known = call .before .before in
+    let args = known .before .before .args in
+    settles _ _ (args .reply .now) _ (call .settle .result) (λ i. omega (arith, known .shared-slice-known .given i))
+    (call .settle .ensures)
 
 pub settled-spec : {M : Type 1} → statement M
-settled-spec =
-    tie.close (tie.spec settle-requires counted-requires followed-requires same-length returns)
+settled-spec = tie.close (tie.spec settle-requires same-length returns)

@@ -1,3 +1,4 @@
+-- `show` meets its contract: it ensures nothing, each call's arguments fit, and the loop over the days ends as `end - day` shrinks.
 use borrow.Author.Needs.{needs}
 use Prim.Native.Nat.{_-_, _≤_}
 use Rattle.poll.proofs.report.show.Statement.{statement}

@@ -1,3 +1,4 @@
+-- `read` meets its contract: `length` was tested to be at most the image's bytes, so the part of it that `on_log` is lent is as long as that.
 use lib.Seq.{length-take-le}
 use native.Mathlib.Omega.{arith}
 use mathlib.Core.Path.{sym}

@@ -1,3 +1,4 @@
+-- `drain` meets its contract: `turns` stays at most 4096 and falls by one a read, so the loop ends; `left` is above 1 where one is taken from it.
 use borrow.Author.Needs.{needs}
 use Prim.Native.Nat.{_≤_}
 use Rattle.poll.proofs.wire.drain.Statement.{statement}

@@ -1,3 +1,4 @@
+-- `gather` meets its contract: each silent read takes one of 64 turns, so `silent` fits a byte; the loop keeps the reply's length and ends as `turns` shrinks.
 use mathlib.Core.Logic.{⊎-elim}
 use native.Mathlib.Omega.{arith}
 use borrow.Author.Needs.{needs}
@@ -56,7 +57,9 @@ loop-less : tie.Need-loop-less Inv-loop μ-loop
 loop-less c = search needs
 
 loop-again : tie.Need-loop-again Inv-loop μ-loop
-loop-again c = (search needs, ⊎-elim (λ w. omega arith) (λ w. omega arith) (c .before .before .before .before .match .came))
+loop-again c =
+    let match = c .before .before .before .before .match in
+    (search needs, ⊎-elim (λ w. omega arith) (λ w. omega arith) (match .came))
 
 same-length-3 : tie.Need-same-length-3 Inv-loop μ-loop
 same-length-3 c = search needs

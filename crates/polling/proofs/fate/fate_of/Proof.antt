@@ -1,3 +1,4 @@
+-- `fate_of` meets its contract: each arm is the clause of `fateOf` for that answer, and the number of a stop is the one that `numberOf` gives.
 use borrow.Author.Needs.{needs}
 use Rattle.polling.proofs.fate.fate_of.Statement.{statement}
 use Rattle.polling.proofs.fate.fate_of.Tie as tie

@@ -1,42 +1,29 @@
-use Rattle.polling.specs.FateLaws.{settled-silent, settled-heard}
-use mathlib.Core.Path.{sym, _∙_, ap}
+-- What was heard, and then the lapse: the two halves of `settled`.
+use mathlib.Core.Path.{ap}
+use Rattle.refusal.specs.Outcome.{Outcome, outcome}
+use Rattle.polling.specs.declared.fate.Settled.{Settled}
+use mathlib.Core.List.{List}
+use Prim.Native.Nat.{ℕ}
+use Rattle.logger.specs.Held.{lapsed}
+use Rattle.polling.specs.Fate.{settled}
 use borrow.Author.Needs.{needs}
 use Rattle.polling.proofs.fate.settle.Statement.{statement}
 use Rattle.polling.proofs.fate.settle.Tie as tie
 
+heard-requires : tie.Need-heard-requires
+heard-requires c κs = search needs
+
 lapse-requires : tie.Need-lapse-requires
 lapse-requires c κs = search needs
-
-returns : tie.Need-returns
-returns c =
-    let start = c .before .before .before .before .args in
-    simp (c .lapse .ensures, settled-silent (start .log .now) (start .held) (start .reply .now) (c .before .if1 .taken))
-
-take-reply-requires : tie.Need-take-reply-requires
-take-reply-requires c κs = search needs
-
-fate-of-requires : tie.Need-fate-of-requires
-fate-of-requires c κs = search needs
-
-lapse-requires-2 : tie.Need-lapse-requires-2
-lapse-requires-2 c κs = search needs
 
 same-length : tie.Need-same-length
 same-length c = search needs
 
-returns-2 : tie.Need-returns-2
-returns-2 c =
-    let start = c .before .before .before .before .before .before .before .before .before .args in
-    simp (c .lapse2 .ensures, c .before .fate-of .ensures) (settled-heard (start .log .now) (start .held) (start .reply .now) _ _ (c .before .before .before .before .before .before .if1 .left) (c .before .before .before .before .take-reply .ensures))
+returns : tie.Need-returns
+unfolding settled
+returns c =
+    let heard = c .before .before .before .heard in
+    simp (c .lapse .ensures) (ap (λ (o : Outcome Settled (List ℕ)). outcome (record { fate = o .result .fate; held = lapsed (o .result .held) }) (o .left)) (heard .ensures))
 
 pub settle-spec : {M : Type 1} → statement M
-settle-spec =
-    tie.close
-    (tie.spec
-    lapse-requires
-    returns
-    take-reply-requires
-    fate-of-requires
-    lapse-requires-2
-    same-length
-    returns-2)
+settle-spec = tie.close (tie.spec heard-requires lapse-requires same-length returns)

@@ -1,4 +1,5 @@
-use Rattle.polling.specs.NextLaws.{walk-stops, walk-on, walk-ends}
+-- `first_gap` meets its contract: in the loop, the first gap from `i` on is the one from `slot` on; a gap at `i` is it, and at the end there is none.
+use Rattle.polling.proofs.NextLaws.{walk-stops, walk-on, walk-ends}
 use Rattle.polling.specs.Next.{gapFrom, isGap}
 use borrow.Author.Needs.{needs}
 use native.Mathlib.Omega.{arith}
@@ -30,9 +31,12 @@ is-gap-requires c κs = search needs
 
 returns : tie.Need-returns Inv-loop μ-loop
 returns c =
+    let loop-test = c .before .before .before .loop-test in
     let start = c .before .before .before .before .before .before in
     let turn = c .before .before .before .before .loop in
-    sym (walk-stops (start .args .log .now) (start .args .first) (turn .i) (start .args .end) (c .before .before .before .loop-test .taken) (ap isGap (sym (c .before .before .cell-at .ensures)) ∙ sym (c .before .is-gap .ensures) ∙ c .if1 .taken)) ∙ turn .inv
+    sym (walk-stops (start .args .log .now) (start .args .first) (turn .i) (start .args .end) (loop-test .taken)
+    (ap isGap (sym (c .before .before .cell-at .ensures)) ∙ sym (c .before .is-gap .ensures) ∙ c .if1 .taken))
+    ∙ turn .inv
 
 add-i : tie.Need-add-i Inv-loop μ-loop
 add-i c = omega arith
@@ -42,12 +46,17 @@ loop-less c = omega arith
 
 loop-again : tie.Need-loop-again Inv-loop μ-loop
 loop-again c =
+    let loop-test = c .before .before .before .loop-test in
     let start = c .before .before .before .before .before .before in
     let turn = c .before .before .before .before .loop in
-    walk-on (start .args .log .now) (start .args .first) (turn .i) (start .args .end) (c .before .before .before .loop-test .taken) (ap isGap (sym (c .before .before .cell-at .ensures)) ∙ sym (c .before .is-gap .ensures) ∙ c .if1 .left) ∙ turn .inv
+    walk-on (start .args .log .now) (start .args .first) (turn .i) (start .args .end) (loop-test .taken)
+    (ap isGap (sym (c .before .before .cell-at .ensures)) ∙ sym (c .before .is-gap .ensures) ∙ c .if1 .left)
+    ∙ turn .inv
 
 returns-2 : tie.Need-returns-2 Inv-loop μ-loop
-returns-2 c = sym (walk-ends (c .before .before .before .args .log .now) (c .before .before .before .args .first) (c .before .loop .i) _ (omega arith)) ∙ c .before .loop .inv
+returns-2 c =
+    let args = c .before .before .before .args in
+    sym (walk-ends (args .log .now) (args .first) (c .before .loop .i) _ (omega arith)) ∙ c .before .loop .inv
 
 pub first-gap-spec : {M : Type 1} → statement M
 first-gap-spec =

@@ -1,3 +1,4 @@
+-- `is_gap` meets its contract: each arm is the clause of `isGap` for that cell, and a bad cell is none.
 use Rattle.polling.specs.Next.{isGap}
 use borrow.Author.Needs.{needs}
 use Rattle.polling.proofs.next.is_gap.Statement.{statement}
@@ -20,15 +21,21 @@ enum-told-4 c = search needs
 
 returns : tie.Need-returns
 unfolding isGap
-returns c = simp (c .before .before .before .answer .given .1, c .enum-told .given .1)
+returns c =
+    let answer = c .before .before .before .answer in
+    simp (answer .given .1, c .enum-told .given .1)
 
 returns-2 : tie.Need-returns-2
 unfolding isGap
-returns-2 c = simp (c .before .before .before .answer .given .1, c .enum-told2 .given .1)
+returns-2 c =
+    let answer = c .before .before .before .answer in
+    simp (answer .given .1, c .enum-told2 .given .1)
 
 returns-3 : tie.Need-returns-3
 unfolding isGap
-returns-3 c = simp (c .before .before .before .answer .given .1, c .enum-told3 .given .1)
+returns-3 c =
+    let answer = c .before .before .before .answer in
+    simp (answer .given .1, c .enum-told3 .given .1)
 
 returns-4 : tie.Need-returns-4
 unfolding isGap

@@ -1,4 +1,5 @@
-use Rattle.polling.specs.Next.{nextGap, nextOf, nextIn}
+-- `next_gap` meets its contract: what `sound` answers and whether the day is in the log pick the clause, and a byte times a byte fits 16 bits.
+use Rattle.polling.specs.Next.{nextGap, nextIn}
 use borrow.Author.Tests.{lt-ltb, le-ltb}
 use native.Mathlib.Omega.{arith}
 use native.Mathlib.Nat.{mul-le-mul}
@@ -15,8 +16,11 @@ enum-known-h : tie.Need-enum-known-h
 enum-known-h c = search needs
 
 returns : tie.Need-returns
-unfolding nextGap nextOf nextIn
-returns c = simp (sym (c .before .before .before .before .before .sound .ensures) ∙ c .before .before .before .h .given .1, le-ltb _ _ (c .if1 .taken))
+unfolding nextGap nextIn
+returns c =
+    let sound = c .before .before .before .before .before .sound in
+    let h = c .before .before .before .h in
+    simp (sym (sound .ensures) ∙ h .given .1, le-ltb _ _ (c .if1 .taken))
 
 slots-of-requires : tie.Need-slots-of-requires
 slots-of-requires c κs = search needs
@@ -25,7 +29,11 @@ cast-first-gap : tie.Need-cast-first-gap
 cast-first-gap c = search needs
 
 mul-first-gap : tie.Need-mul-first-gap
-mul-first-gap c = let d : c .before .before .before .before .before .before .before .before .args .day ≤ 255 = search needs in let n : c .slots-of .result ≤ 255 = search needs in omega (arith, mul-le-mul d n)
+mul-first-gap c =
+    let args = c .before .before .before .before .before .before .before .before .args in
+    let d : args .day ≤ 255 = search needs in
+    let n : c .slots-of .result ≤ 255 = search needs in
+    omega (arith, mul-le-mul d n)
 
 first-gap-requires : tie.Need-first-gap-requires
 first-gap-requires c κs = search needs
@@ -34,11 +42,14 @@ enum-told : tie.Need-enum-told
 enum-told c = search needs
 
 returns-2 : tie.Need-returns-2
-unfolding nextGap nextOf nextIn
-returns-2 c = simp (sym (c .before .before .before .before .before .before .before .sound .ensures) ∙ c .before .before .before .before .before .h .given .1, lt-ltb _ _ (c .before .before .if1 .left), c .first-gap .ensures, c .before .slots-of .ensures)
+unfolding nextGap nextIn
+returns-2 c =
+    let sound = c .before .before .before .before .before .before .before .sound in
+    let h = c .before .before .before .before .before .h in
+    simp (sym (sound .ensures) ∙ h .given .1, lt-ltb _ _ (c .before .before .if1 .left), c .first-gap .ensures, c .before .slots-of .ensures)
 
 returns-3 : tie.Need-returns-3
-unfolding nextGap nextOf nextIn
+unfolding nextGap nextIn
 returns-3 c = simp (sym (c .before .before .sound .ensures) ∙ c .enum-told .given .1)
 
 pub next-gap-spec : {M : Type 1} → statement M

@@ -1,3 +1,4 @@
+-- `is_over` meets its contract: each return is the branch of `isOver` that `is_whole` and the test for no byte pick.
 use Rattle.polling.specs.Reply.{isOver}
 use borrow.Author.Tests.{eq-eqb, ne-eqb}
 use mathlib.Core.Path.{sym, _∙_}

@@ -1,3 +1,4 @@
+-- `is_whole` meets its contract: byte 1 tells by its top bit whether `lengthFor` is 6 or 14, and each return compares the length with that.
 use Rattle.polling.specs.Reply.{isWhole}
 use Rattle.reader.specs.Form.{lengthFor}
 use borrow.Author.Tests.{le-leb, lt-leb}

@@ -1,3 +1,4 @@
+-- `counted` meets its contract: each arm sets the one count that `countedIn` sets for that fate, to what `one_more` ensures.
 use Rattle.polling.specs.Tally.{countedIn}
 use borrow.Author.Needs.{needs}
 use Rattle.polling.proofs.tally.counted.Statement.{statement}

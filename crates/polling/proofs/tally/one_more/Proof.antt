@@ -1,3 +1,4 @@
+-- `one_more` meets its contract: below the largest number one more fits 32 bits, and `oneMore` splits on the same test.
 use Rattle.polling.specs.Tally.{oneMore}
 use borrow.Author.Tests.{lt-ltb, le-ltb}
 use borrow.Author.Needs.{needs}

@@ -1,3 +1,4 @@
+-- `function_for` meets its contract: a result of 0 is `functionFor`'s own test.
 use Rattle.reader.specs.Form.{functionFor}
 use borrow.Author.Tests.{eq-eqb, ne-eqb}
 use borrow.Author.Needs.{needs}

@@ -1,3 +1,4 @@
+-- `length_for` meets its contract: the function's top bit is `lengthFor`'s own test.
 use Rattle.reader.specs.Form.{lengthFor}
 use borrow.Author.Tests.{le-leb, lt-leb}
 use Rattle.reader.proofs.form.length_for.Statement.{statement}

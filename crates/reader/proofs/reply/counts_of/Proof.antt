@@ -1,3 +1,4 @@
+-- `counts_of` meets its contract: each count is the number of two bytes at the place that `countsOf` names.
 use Rattle.reader.specs.Reply.{countsOf}
 use borrow.Author.Needs.{needs}
 use Rattle.reader.proofs.reply.counts_of.Statement.{statement}
@@ -29,7 +30,9 @@ cast-t12 c = search needs
 
 returns : tie.Need-returns
 unfolding countsOf
-returns c = simp (c .before .before .before .u16-at .ensures, c .before .before .u16-at2 .ensures, c .before .u16-at3 .ensures, c .u16-at4 .ensures)
+returns c =
+    let u16-at = c .before .before .before .u16-at in
+    simp (u16-at .ensures, c .before .before .u16-at2 .ensures, c .before .u16-at3 .ensures, c .u16-at4 .ensures)
 
 pub counts-of-spec : {M : Type 1} → statement M
 counts-of-spec =

@@ -1,5 +1,6 @@
+-- `decode` meets its contract: `is_askable` and the reply's form are the cases of `decodedOf`; at most 48 data bytes, so the length fits.
 use Rattle.reader.specs.Reply.{decodedOf}
-use Rattle.request.specs.RequestLaws.{dataBytes-small}
+use Rattle.request.proofs.RequestLaws.{dataBytes-small}
 use native.Mathlib.Omega.{arith}
 use mathlib.Core.Path.{sym, ap, _∙_}
 use borrow.Author.Needs.{needs}
@@ -16,7 +17,9 @@ data-bytes-requires : tie.Need-data-bytes-requires
 data-bytes-requires c κs = search needs
 
 add-full : tie.Need-add-full
-add-full c = omega (arith, dataBytes-small (c .before .before .before .subject-of .result), c .data-bytes .ensures)
+add-full c =
+    let subject-of = c .before .before .before .subject-of in
+    omega (arith, dataBytes-small (subject-of .result), c .data-bytes .ensures)
 
 form-of-requires : tie.Need-form-of-requires
 form-of-requires c κs = search needs
@@ -32,11 +35,23 @@ enum-known-fault c = search needs
 
 returns : tie.Need-returns
 unfolding decodedOf
-returns c = simp (sym (c .before .before .before .before .before .before .before .subject-of .ensures), sym (c .before .before .before .before .before .before .is-askable .ensures) ∙ c .before .before .before .before .before .if1 .taken, sym (c .before .before .before .before .data-bytes .ensures), sym (c .before .before .before .form-of .ensures) ∙ c .before .enum-told .given .1, c .replied .ensures)
+returns c =
+    let subject-of = c .before .before .before .before .before .before .before .subject-of in
+    let is-askable = c .before .before .before .before .before .before .is-askable in
+    let if1 = c .before .before .before .before .before .if1 in
+    let data-bytes = c .before .before .before .before .data-bytes in
+    let form-of = c .before .before .before .form-of in
+    simp (sym (subject-of .ensures), sym (is-askable .ensures) ∙ if1 .taken, sym (data-bytes .ensures), sym (form-of .ensures) ∙ c .before .enum-told .given .1, c .replied .ensures)
 
 returns-2 : tie.Need-returns-2
 unfolding decodedOf
-returns-2 c = simp (sym (c .before .before .before .before .before .before .before .subject-of .ensures), sym (c .before .before .before .before .before .before .is-askable .ensures) ∙ c .before .before .before .before .before .if1 .taken, sym (c .before .before .before .before .data-bytes .ensures), sym (c .before .before .before .form-of .ensures) ∙ c .before .fault .given .1)
+returns-2 c =
+    let subject-of = c .before .before .before .before .before .before .before .subject-of in
+    let is-askable = c .before .before .before .before .before .before .is-askable in
+    let if1 = c .before .before .before .before .before .if1 in
+    let data-bytes = c .before .before .before .before .data-bytes in
+    let form-of = c .before .before .before .form-of in
+    simp (sym (subject-of .ensures), sym (is-askable .ensures) ∙ if1 .taken, sym (data-bytes .ensures), sym (form-of .ensures) ∙ c .before .fault .given .1)
 
 returns-3 : tie.Need-returns-3
 unfolding decodedOf

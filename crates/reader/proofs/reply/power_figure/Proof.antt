@@ -1,3 +1,4 @@
+-- `power_figure` meets its contract: its two arms are those of `powerFigure`.
 use Rattle.reader.specs.Reply.{powerFigure}
 use borrow.Author.Needs.{needs}
 use Rattle.reader.proofs.reply.power_figure.Statement.{statement}

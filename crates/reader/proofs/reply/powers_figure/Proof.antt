@@ -1,3 +1,4 @@
+-- `powers_figure` meets its contract: its two arms are those of `powersFigure`.
 use Rattle.reader.specs.Reply.{powersFigure}
 use borrow.Author.Needs.{needs}
 use Rattle.reader.proofs.reply.powers_figure.Statement.{statement}

@@ -1,3 +1,4 @@
+-- `replied` meets its contract: a result other than 0 is the meter's refusal, as in `repliedOf`; at 0 the figures behind it are read.
 use Rattle.reader.specs.Reply.{repliedOf}
 use borrow.Author.Tests.{eq-eqb, ne-eqb}
 use mathlib.Core.Path.{sym}
@@ -20,7 +21,9 @@ figures-of-requires c κs = search needs
 
 returns-2 : tie.Need-returns-2
 unfolding repliedOf
-returns-2 c = simp (sym (c .before .before .before .byte-at .ensures), eq-eqb _ _ (c .before .before .if1 .left), c .figures-of .ensures, c .before .tail .ensures)
+returns-2 c =
+    let byte-at = c .before .before .before .byte-at in
+    simp (sym (byte-at .ensures), eq-eqb _ _ (c .before .before .if1 .left), c .figures-of .ensures, c .before .tail .ensures)
 
 pub replied-spec : {M : Type 1} → statement M
 replied-spec =

@@ -1,8 +1,11 @@
+-- `put_request` meets its contract: length and `is_askable` are `requested`'s cases; a body in front, then sealed, is a frame (`sealed-written`).
 use Rattle.request.specs.declared.request.RequestAnswer.the-variants.{Done}
 use Rattle.words.specs.Place.{written}
-use Rattle.request.specs.Request.{requested, requestFrame, outcome}
+use Rattle.refusal.specs.Outcome.{outcome}
+use Rattle.request.specs.Request.{requested, requestFrame}
 use Rattle.request.specs.Subject.{askable}
-use Rattle.frame.specs.Sealing.{sealed, sealed-written}
+use Rattle.frame.specs.Sealing.{sealed}
+use Rattle.frame.proofs.SealingLaws.{sealed-written}
 use borrow.Author.Tests.{lt-ltb, le-ltb}
 use native.Mathlib.Omega.{arith}
 use Prim.Native.Nat.{ℕ}
@@ -36,18 +39,28 @@ same-length c = search needs
 
 returns-2 : tie.Need-returns-2
 unfolding requested requestFrame
-returns-2 c = let s = c .before .before .before .before .before .before .before .before .before .before .before .before .before .before .args .out .now in
+returns-2 c =
+    let back = c .before .before .before .before .before .before .before .before .before in
+    let if1 = back .before .before .before .if1 in
+    let subject-of = back .before .before .subject-of in
+    let is-askable = back .before .is-askable in
+    let if2 = back .if2 in
+    let put-bytes = c .before .before .before .before .before .before .put-bytes in
+    let seal = c .before .before .seal in
+    let s = c .before .before .before .before .before .before .before .before .before .before .before .before .before .before .args .out .now in
     let q = c .before .before .before .before .before .before .before .before .before .before .before .before .before .before .args .q in
     let body = q .address ∷ 3 ∷ q .parameter ∷ q .offset ∷ q .tariff ∷ q .detail ∷ [] in
-    let made : c .before .before .seal .last .0 ≡ written s 0 (requestFrame q) = c .before .before .seal .ensures
-    ∙ ap (λ (l : List ℕ). sealed l 6) (c .before .before .before .before .before .before .put-bytes .ensures)
-    ∙ sealed-written s body (omega (arith, c .before .before .before .before .before .before .before .before .before .before .before .before .if1 .left)) in
-    simp (le-ltb _ _ (c .before .before .before .before .before .before .before .before .before .before .before .before .if1 .left), ap askable (sym (c .before .before .before .before .before .before .before .before .before .before .before .subject-of .ensures)) ∙ sym (c .before .before .before .before .before .before .before .before .before .before .is-askable .ensures) ∙ c .before .before .before .before .before .before .before .before .before .if2 .taken)
+    let made : seal .last .0 ≡ written s 0 (requestFrame q) = seal .ensures
+    ∙ ap (λ (l : List ℕ). sealed l 6) (put-bytes .ensures)
+    ∙ sealed-written s body (omega (arith, if1 .left)) in
+    simp (le-ltb _ _ (if1 .left), ap askable (sym (subject-of .ensures)) ∙ sym (is-askable .ensures) ∙ if2 .taken)
     (ap (outcome Done) made)
 
 returns-3 : tie.Need-returns-3
 unfolding requested requestFrame
-returns-3 c = simp (le-ltb _ _ (c .before .before .before .if1 .left), ap askable (sym (c .before .before .subject-of .ensures)) ∙ sym (c .before .is-askable .ensures) ∙ c .if2 .left)
+returns-3 c =
+    let if1 = c .before .before .before .if1 in
+    simp (le-ltb _ _ (if1 .left), ap askable (sym (c .before .before .subject-of .ensures)) ∙ sym (c .before .is-askable .ensures) ∙ c .if2 .left)
 
 pub put-request-spec : {M : Type 1} → statement M
 put-request-spec =

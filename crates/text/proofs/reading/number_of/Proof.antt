@@ -1,11 +1,11 @@
--- The invariant: all bytes passed are digits, and their value, with the bytes that are left behind it, is the value of the text.
+-- `number_of` meets its contract: the loop keeps that the value so far, with the bytes left, is the text's; one past 64 bits only grows.
 use mathlib.Core.Bool.{true}
 use mathlib.Core.Path.{_≡_, refl, sym, ap, _∙_}
 use Prim.Native.Nat.{_+_, _-_, _*_, _^_, _≤_, _<_}
 use native.Mathlib.Omega.{arith}
 use lib.ListN.{length, getD, drop, drop-of-length-le}
 use Rattle.text.specs.declared.reading.NumberAnswer.the-variants.{Number}
-use Rattle.text.specs.Reading.{not-empty, not-long, not-digits, not-small, a-number, value-grows, value-at, digit-at, below-digits, above-digits}
+use Rattle.text.proofs.ReadingLaws.{not-empty, not-long, not-digits, not-small, a-number, value-grows, value-at, digit-at, below-digits, above-digits}
 use Rattle.text.specs.Decimal.{valueFrom, valueOf, areDigits}
 use Rattle.text.proofs.reading.number_of.Statement.{statement}
 use Rattle.text.proofs.reading.number_of.Tie as tie
@@ -21,7 +21,9 @@ returns : tie.Need-returns Inv-loop μ-loop
 returns c = sym (not-empty (c .before .args .text .now) (omega (arith, c .if1 .taken)))
 
 returns-2 : tie.Need-returns-2 Inv-loop μ-loop
-returns-2 c = sym (not-long (c .before .before .args .text .now) (c .if2 .taken))
+returns-2 c =
+    let args = c .before .before .args in
+    sym (not-long (args .text .now) (c .if2 .taken))
 
 loop-holds : tie.Need-loop-holds Inv-loop μ-loop
 loop-holds c = (omega arith, omega arith, refl, refl)
@@ -37,9 +39,10 @@ returns-3 c =
 
 returns-4 : tie.Need-returns-4 Inv-loop μ-loop
 returns-4 c =
+    let loop-test = c .before .before .before .loop-test in
     let text = c .before .before .before .before .before .before .before .args .text .now in
     let l = c .before .before .before .before .loop in
-    sym (not-digits text (sym (l .inv .2) ∙ above-digits text (l .i) (c .before .before .before .loop-test .taken) (c .if4 .taken)))
+    sym (not-digits text (sym (l .inv .2) ∙ above-digits text (l .i) (loop-test .taken) (c .if4 .taken)))
 
 cast-digit : tie.Need-cast-digit Inv-loop μ-loop
 cast-digit c = omega arith
@@ -49,11 +52,12 @@ sub-if5 c = omega arith
 
 returns-5 : tie.Need-returns-5 Inv-loop μ-loop
 returns-5 c =
+    let loop-test = c .before .before .before .before .loop-test in
     let text = c .before .before .before .before .before .before .before .before .args .text .now in
     let l = c .before .before .before .before .before .loop in
     let next = l .value * 10 + (getD text (l .i) 0 - 48) in
     let all : valueFrom next (drop (l .i + 1) text) ≡ valueOf text =
-    sym (value-at text (l .i) (c .before .before .before .before .loop-test .taken) (l .value)) ∙ l .inv .3 in
+    sym (value-at text (l .i) (loop-test .taken) (l .value)) ∙ l .inv .3 in
     sym (not-small text (omega (arith, all, value-grows next (drop (l .i + 1) text), c .if5 .taken)))
 
 mul-value : tie.Need-mul-value Inv-loop μ-loop

@@ -1,3 +1,4 @@
+-- `total` meets its contract: both additions are `totalOf`'s own, in its order.
 use Rattle.figures.specs.Power.{totalOf}
 use mathlib.Core.Path.{refl}
 use Rattle.figures.proofs.power.Phases.total.Statement.{statement}

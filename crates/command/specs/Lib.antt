@@ -1,7 +1,0 @@
-pub mod Verdict
-pub mod Parts
-pub mod Access
-pub mod Change
-pub mod Judgement
-pub mod KeepLaws
-pub mod JudgementLaws

@@ -1,0 +1,239 @@
+// The calls on the log and its open ask.
+use calendar::Date;
+use console::BYTE;
+use console::BytesAnswer;
+use console::SHORT;
+use console::YearAnswer;
+use console::byte;
+use console_io::say;
+use dayreport::ReportAnswer;
+use log::Cell;
+use log::CellAnswer;
+use log::FreshAnswer;
+use log::Header;
+use log::Interval;
+use log::Lent;
+use logger::AskAnswer;
+use logger::OpenAsk;
+use logger::TakeAnswer;
+
+// What is kept of the log beside its image: its length, 0 where there is no log, and the open ask.
+pub struct Kept {
+    pub length: usize,
+    pub held: OpenAsk,
+}
+
+fn unread(kept: Kept) -> Kept {
+    say::unread();
+    kept
+}
+
+// YEAR MONTH DAY DAYS MINUTES KE
+pub fn fresh(line: &[u8], image: &mut [u8], kept: Kept) -> Kept {
+    if console::is_form(line, &[SHORT, BYTE, BYTE, BYTE, BYTE, SHORT]) {
+        return fresh_from(line, image, kept);
+    }
+    unread(kept)
+}
+
+fn fresh_from(line: &[u8], image: &mut [u8], kept: Kept) -> Kept {
+    let YearAnswer::Year(year) = console::year(line, 1) else {
+        say::number_line(refusal::OUT_OF_RANGE);
+        return kept;
+    };
+    let start = Date {
+        year: year,
+        month: byte(line, 2),
+        day: byte(line, 3),
+    };
+    let header = Header {
+        start: start,
+        days: byte(line, 4),
+        minutes: byte(line, 5),
+        ke: console::short(line, 6),
+    };
+    fresh_of(header, image, kept)
+}
+
+fn fresh_of(h: Header, image: &mut [u8], kept: Kept) -> Kept {
+    let answer = log::fresh_log(h, image);
+    say::number_line(answer.number());
+    match answer {
+        FreshAnswer::Done(n) => Kept {
+            length: n,
+            held: OpenAsk::Closed,
+        },
+        FreshAnswer::OutOfRange => kept,
+        FreshAnswer::TooShort => kept,
+    }
+}
+
+// ADDRESS DAY SLOT
+pub fn ask(line: &[u8], image: &[u8], kept: Kept) -> Kept {
+    if console::is_form(line, &[BYTE, BYTE, BYTE]) {
+        return ask_for(image, kept, byte(line, 1), byte(line, 2), byte(line, 3));
+    }
+    unread(kept)
+}
+
+fn ask_for(image: &[u8], kept: Kept, address: u8, day: u8, slot: u8) -> Kept {
+    let mut frame = [0u8; frame::layout::READ_BYTES];
+    let held = kept.held;
+    let asked = logger::put_ask(
+        console::part(image, kept.length),
+        held,
+        address,
+        day,
+        slot,
+        &mut frame,
+    );
+    let answer = asked.answer;
+    say::first(answer.number());
+    match answer {
+        AskAnswer::Done => say::hex(&frame),
+        AskAnswer::TooShort => {}
+        AskAnswer::Unsound => {}
+        AskAnswer::AlreadyOpen => {}
+        AskAnswer::NotInLog => {}
+    }
+    say::end();
+    let after = asked.held;
+    Kept {
+        length: kept.length,
+        held: after,
+    }
+}
+
+pub fn lapse(line: &[u8], kept: Kept) -> Kept {
+    if console::spaces(line) != 0 {
+        return unread(kept);
+    }
+    say::number_line(refusal::DONE);
+    let held = kept.held;
+    let after = logger::lapse(held);
+    Kept {
+        length: kept.length,
+        held: after,
+    }
+}
+
+// BYTES, or none
+pub fn reply(line: &[u8], image: &mut [u8], kept: Kept) -> Kept {
+    let mut bytes = [0u8; 2048];
+    match crate::reads::reply_bytes(line, 1, &mut bytes) {
+        BytesAnswer::Bytes(n) => reply_of(console::part(&bytes, n), image, kept),
+        BytesAnswer::Unread => unread(kept),
+    }
+}
+
+fn reply_of(bytes: &[u8], image: &mut [u8], kept: Kept) -> Kept {
+    let length = kept.length;
+    let held = kept.held;
+    if image.len() < length {
+        return unread(kept);
+    }
+    let taken = logger::take_reply(&mut image[..length], held, bytes);
+    let answer = taken.answer;
+    say::first(answer.number());
+    match answer {
+        TakeAnswer::Done => {}
+        TakeAnswer::NoAskOpen => {}
+        TakeAnswer::NotInLog => {}
+        TakeAnswer::Malformed(_) => {}
+        TakeAnswer::MeterRefused(result) => say::number(result as u64),
+        TakeAnswer::OtherCounts => {}
+        TakeAnswer::Unsound => {}
+    }
+    say::end();
+    let after = taken.held;
+    Kept {
+        length: length,
+        held: after,
+    }
+}
+
+pub fn open_ask(line: &[u8], held: OpenAsk) {
+    if console::spaces(line) != 0 {
+        say::unread();
+        return;
+    }
+    say::first(refusal::DONE);
+    match held {
+        OpenAsk::Closed => say::put(b" closed"),
+        OpenAsk::Open(address, day, slot) => {
+            say::number(address as u64);
+            say::number(day as u64);
+            say::number(slot as u64);
+        }
+    }
+    say::end();
+}
+
+// DAY SLOT
+pub fn cell(line: &[u8], image: &[u8]) {
+    if console::is_form(line, &[BYTE, BYTE]) {
+        cell_of(image, byte(line, 1), byte(line, 2));
+    } else {
+        say::unread();
+    }
+}
+
+fn cell_of(image: &[u8], day: u8, slot: u8) {
+    match log::sound(image) {
+        Lent::Sound(h) => match log::interval_of(h, day, slot) {
+            Interval::At(i) => say_cell(log::cell_at(image, i)),
+            Interval::Outside => say::number_line(refusal::NOT_IN_LOG),
+        },
+        Lent::Unsound => say::number_line(refusal::UNSOUND),
+    }
+}
+
+fn say_cell(answer: CellAnswer) {
+    match answer {
+        CellAnswer::Good(c) => {
+            say::first(refusal::DONE);
+            match c {
+                Cell::Gap => say::put(b" gap"),
+                Cell::Empty => say::put(b" empty"),
+                Cell::Measured(ep, em, rp, rm) => {
+                    say::put(b" measured");
+                    say::four_counts(ep, em, rp, rm);
+                }
+            }
+            say::end();
+        }
+        CellAnswer::Bad => say::number_line(refusal::UNSOUND),
+    }
+}
+
+// DAY
+pub fn report(line: &[u8], image: &[u8]) {
+    if console::is_form(line, &[BYTE]) {
+        report_of(image, byte(line, 1));
+    } else {
+        say::unread();
+    }
+}
+
+fn report_of(image: &[u8], day: u8) {
+    let mut row = [0u32; dayreport::REPORT_NUMBERS];
+    let answer = dayreport::day_report(image, day, &mut row);
+    say::first(answer.number());
+    match answer {
+        ReportAnswer::Done => say_row(row),
+        ReportAnswer::TooShort => {}
+        ReportAnswer::Unsound => {}
+        ReportAnswer::NotInLog => {}
+    }
+    say::end();
+}
+
+fn say_row(row: [u32; dayreport::REPORT_NUMBERS]) {
+    say::number(row[0] as u64);
+    say::number(row[1] as u64);
+    say::number(row[2] as u64);
+    say::number(row[3] as u64);
+    say::number(row[4] as u64);
+    say::number(row[5] as u64);
+    say::number(row[6] as u64);
+}

@@ -1,0 +1,137 @@
+// Requests and replies without a log.
+use console::BYTE;
+use console::BytesAnswer;
+use console::byte;
+use console_io::say;
+use reader::Decoded;
+use request::Request;
+use request::RequestAnswer;
+ghost use mathlib.Core.Path.{_≡_};
+ghost use Rattle.refusal.specs.Outcome.{outcome};
+ghost use Rattle.console_log.specs.Words.{replyRead, requestIn};
+
+// The reply of a line whose words before it are so many: none where it ends there.
+pub fn reply_bytes(line: &[u8], before: usize, bytes: &mut [u8]) -> BytesAnswer
+    ensures { λ r. ⌜ outcome r (now (bytes .exit)) ≡ replyRead (now (line .entry)) before (now (bytes .entry)) ⌝ }
+{
+    let last = console::spaces(line);
+    if last == before {
+        return console::read_bytes(console::word(line, before), bytes);
+    }
+    if last < before {
+        if before - last == 1 {
+            return BytesAnswer::Bytes(0);
+        }
+    }
+    BytesAnswer::Unread
+}
+
+// ADDRESS PARAMETER OFFSET TARIFF DETAIL
+pub fn request_in(line: &[u8]) -> Request
+    ensures { λ r. ⌜ r ≡ requestIn (now (line .entry)) ⌝ }
+{
+    Request {
+        address: byte(line, 1),
+        parameter: byte(line, 2),
+        offset: byte(line, 3),
+        tariff: byte(line, 4),
+        detail: byte(line, 5),
+    }
+}
+
+pub fn request(line: &[u8]) {
+    if console::is_form(line, &[BYTE, BYTE, BYTE, BYTE, BYTE]) {
+        request_of(request_in(line));
+    } else {
+        say::unread();
+    }
+}
+
+fn request_of(q: Request) {
+    let mut frame = [0u8; frame::layout::READ_BYTES];
+    let answer = request::put_request(q, &mut frame);
+    say::first(answer.number());
+    match answer {
+        RequestAnswer::Done => say::hex(&frame),
+        RequestAnswer::TooShort => {}
+        RequestAnswer::OutOfRange => {}
+    }
+    say::end();
+}
+
+// A request's five numbers, and BYTES, or none.
+pub fn decode(line: &[u8]) {
+    let mut bytes = [0u8; 2048];
+    match reply_bytes(line, 6, &mut bytes) {
+        BytesAnswer::Bytes(n) => decode_from(line, console::part(&bytes, n)),
+        BytesAnswer::Unread => say::unread(),
+    }
+}
+
+fn decode_from(line: &[u8], reply: &[u8]) {
+    if console::are_numbers(line, &[BYTE, BYTE, BYTE, BYTE, BYTE]) {
+        decode_of(request_in(line), reply);
+    } else {
+        say::unread();
+    }
+}
+
+fn decode_of(q: Request, reply: &[u8]) {
+    let decoded = reader::decode(q, reply);
+    say::first(decoded.number());
+    say_figures(decoded, reply);
+    say::end();
+}
+
+pub fn say_figures(decoded: Decoded, reply: &[u8]) {
+    match decoded {
+        Decoded::OutOfRange => {}
+        Decoded::Malformed(_) => {}
+        Decoded::MeterRefused(result) => say::number(result as u64),
+        Decoded::NotFinite => {}
+        Decoded::Address(address) => say::number(address as u64),
+        Decoded::Telemetry(t) => {
+            say::number(t.k as u64);
+            say::number(t.ke as u64);
+            say::number(t.reserve as u64);
+        }
+        Decoded::DateTime(t) => {
+            let mut bytes = [0u8; 6];
+            figures::put_date_time(&mut bytes, t);
+            say::six_bytes(bytes);
+        }
+        Decoded::DisplayMask(m) => {
+            let mut bytes = [0u8; 6];
+            figures::put_display_mask(&mut bytes, m);
+            say::six_bytes(bytes);
+        }
+        Decoded::Powers(p) => {
+            let phases = p.phases;
+            say::float(p.total);
+            say::float(phases.a);
+            say::float(phases.b);
+            say::float(phases.c);
+        }
+        Decoded::OnePower(x) => say::float(x),
+        Decoded::Slice(c) => {
+            say::number(c.e_plus.0 as u64);
+            say::number(c.e_minus.0 as u64);
+            say::number(c.r_plus.0 as u64);
+            say::number(c.r_minus.0 as u64);
+        }
+        Decoded::SixSlices => say_rows(reader::six_slices(reply)),
+    }
+}
+
+fn say_rows(six: [[u16; 4]; 6]) {
+    say_row(six[0]);
+    say_row(six[1]);
+    say_row(six[2]);
+    say_row(six[3]);
+    say_row(six[4]);
+    say_row(six[5]);
+}
+
+fn say_row(counts: [u16; 4]) {
+    say::four_counts(counts[0], counts[1], counts[2], counts[3]);
+}

@@ -1,0 +1,11 @@
+-- Document 01's example of a report: "slot 0 measured 12 0 3 0, slot 1 empty, others gaps" gives 46 1 1 12 0 3 0.
+use mathlib.Core.Path.{_≡_, refl}
+use mathlib.Core.List.{[], _∷_}
+use Rattle.log.specs.Fresh.{gaps}
+use Rattle.log.specs.declared.cell.Cell.the-variants.{Empty, Measured}
+use Rattle.dayreport.specs.Tallies.{rowOf, plus, talliesIn, talliesOf}
+use Rattle.dayreport.specs.Report.{figures}
+
+may : figures (Measured 12 0 3 0 ∷ Empty ∷ gaps 46) ≡ 46 ∷ 1 ∷ 1 ∷ 12 ∷ 0 ∷ 3 ∷ 0 ∷ []
+unfolding figures rowOf talliesOf talliesIn plus gaps
+may = refl

@@ -1,0 +1,5 @@
+pub mod TalliesLaws
+pub mod ReportLaws
+pub mod Examples
+pub mod TextLaws
+pub mod DayLaws

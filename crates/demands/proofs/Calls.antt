@@ -1,0 +1,222 @@
+-- Demand 1, call by call: each definition ends in one of its answers, and all but 0 hand back what was lent.
+use mathlib.Core.Path.{_≡_, refl}
+use mathlib.Core.Bool.{Bool, true, cond, _&&_}
+use mathlib.Core.List.{List}
+use Prim.Native.Nat.{ℕ}
+use lib.Dec.{eqb, leb, ltb}
+use lib.ListN.{length, take}
+use Rattle.case_laws.proofs.Test.{either}
+use Rattle.refusal.specs.Outcome.{Outcome, check}
+use Rattle.frame.specs.Layout.{readSize}
+use Rattle.frame.specs.Sealing.{crcFits}
+use Rattle.slots.specs.Day.{slotsOf}
+use Rattle.slots.specs.Key.{isLegal}
+use Rattle.slots.specs.declared.key.Key.{Key}
+use Rattle.calendar.specs.declared.date.Date.{Date}
+use Rattle.request.specs.Request as request
+use Rattle.request.specs.Subject.{subjectOf, askable, mostSlots}
+use Rattle.request.specs.declared.request.Request.{Request}
+use Rattle.reader.specs.Reply as reader
+use Rattle.reader.specs.declared.reply.Decoded.{Decoded}
+use Rattle.reader.specs.declared.reply.Decoded.the-variants as decoded
+use Rattle.meter_record.specs.Record as record-of
+use Rattle.meter_record.specs.declared.record.Record.{Record}
+use Rattle.meter_record.specs.declared.record.RecordAnswer.{RecordAnswer}
+use Rattle.meter_record.specs.declared.record.RecordAnswer.the-variants as given
+use Rattle.meter.specs.Bench as bench
+use Rattle.meter.specs.Reply.{isSound}
+use Rattle.log.specs.Fresh as fresh
+use Rattle.log.specs.Header.{headerSize, isHeader, cellsOf, lengthOf, markRight, versionRight, headerOf, ifRight, soundOf}
+use Rattle.log.specs.Image.{applied, allGood}
+use Rattle.log.proofs.HeaderLaws.{by-sound}
+use Rattle.log.specs.Interval.{intervalOf, dayDate}
+use Rattle.log.proofs.IntervalLaws.{by-at}
+use Rattle.log.specs.declared.header.Header.{Header}
+use Rattle.log.specs.declared.header.HeaderAnswer.{HeaderAnswer}
+use Rattle.log.specs.declared.header.HeaderAnswer.the-variants.{Right, Wrong}
+use Rattle.log.specs.declared.interval.DayAnswer.{DayAnswer}
+use Rattle.log.specs.declared.interval.DayAnswer.the-variants as on-day
+use Rattle.dayreport.specs.Report as report
+use Rattle.dayreport.specs.declared.report.ReportAnswer.{ReportAnswer}
+use Rattle.dayreport.specs.declared.report.ReportAnswer.the-variants as reported
+use Rattle.dayreport.specs.Text as text
+use Rattle.dayreport.specs.Day as day
+use Rattle.logfile.specs.File.{fileLength, cellsGood}
+use Rattle.logfile.specs.Read as reading
+use Rattle.logfile.specs.Write as writing
+use Rattle.logger.specs.Ask as asking
+use Rattle.logger.specs.Book as book
+use Rattle.logger.specs.Reply.{rowOf}
+use Rattle.logger.specs.Run.{State, step}
+use Rattle.logger.specs.Take as taking
+use Rattle.logger.proofs.TakeLaws.{by-none, taken-cases, update-cases}
+use Rattle.logger.specs.declared.held.OpenAsk.{OpenAsk}
+use Rattle.logger.specs.declared.held.OpenAsk.the-variants.{Closed}
+use Rattle.logger.specs.declared.ask.Asked.{Asked}
+use Rattle.logger.specs.declared.take.Decision.{Decision}
+use Rattle.logger.specs.declared.take.Taken.{Taken}
+use Rattle.demands.specs.Demand1.{inTable, Ends, EndsBy, closes}
+
+-- 0, whatever was done
+done : {A : Type 0} (before after : A) → Ends 0 before after
+unfolding inTable
+done before after = record { in-table = refl; unchanged = λ n. absurd (n refl) }
+
+-- a number of the table, and nothing done
+stays : {A : Type 0} (number : ℕ) (x : A) → inTable number ≡ true → Ends number x x
+stays number x t = record { in-table = t; unchanged = λ n. refl }
+
+-- a check of a call, and a header that is read: what holds of the refusal and of what follows
+by-check : {A : Type 0} (P : A → Type 0) (passed : Bool) {x y : A} → P x → P y → P (check passed x y)
+by-check P passed x y = either P passed y x
+
+by-right : {A : Type 0} (P : A → Type 0) (a : HeaderAnswer) {x : A} {f : Header → A} → P x → ((h : Header) → P (f h)) → P (ifRight a x f)
+by-right P Wrong x k = x
+by-right P (Right h) x k = k h
+
+-- ---- requests, and replies decoded
+
+pub put-request : (q : Request) (out : List ℕ) → EndsBy request.numberOf out (request.requested q out)
+unfolding request.requested inTable
+put-request q out =
+    let P = EndsBy request.numberOf out in
+    either P (ltb (length out) readSize) (stays 1 out refl)
+    (either P (askable (subjectOf q mostSlots)) (done out _) (stays 27 out refl))
+
+pub decode : (d : Decoded) → inTable (reader.numberOf d) ≡ true
+unfolding inTable
+decode decoded.OutOfRange = refl
+decode (decoded.Malformed fault) = refl
+decode (decoded.MeterRefused result) = refl
+decode decoded.NotFinite = refl
+decode (decoded.Address a) = refl
+decode (decoded.Telemetry t) = refl
+decode (decoded.DateTime t) = refl
+decode (decoded.DisplayMask m) = refl
+decode (decoded.Powers p) = refl
+decode (decoded.OnePower p) = refl
+decode (decoded.Slice c) = refl
+decode decoded.SixSlices = refl
+
+-- ---- the bench
+
+pub record-given : (a : RecordAnswer) → inTable (record-of.numberOf a) ≡ true
+unfolding inTable
+record-given (given.Done r) = refl
+record-given given.OutOfRange = refl
+record-given given.Unsound = refl
+
+pub put-slice : (r : Record) (s : List ℕ) (k : Key) (row : List ℕ) → EndsBy record-of.numberOf s (bench.slicePut r s k row)
+unfolding bench.slicePut inTable
+put-slice r s k row =
+    let P = EndsBy record-of.numberOf s in
+    either P (isSound r s) (either P (isLegal k (slotsOf (r .minutes))) (done s _) (stays 27 s refl)) (stays 28 s refl)
+
+-- ---- a fresh log
+
+pub fresh-log : (h : Header) (out : List ℕ) → EndsBy fresh.freshNumber out (fresh.freshOf h out)
+unfolding fresh.freshOf inTable
+fresh-log h out =
+    let P = EndsBy fresh.freshNumber out in
+    either P (isHeader h) (either P (leb (lengthOf h) (length out)) (done out _) (stays 1 out refl)) (stays 27 out refl)
+
+-- ---- day reports and their text
+
+pub day-report : (s : List ℕ) (d : ℕ) (row : List ℕ) → EndsBy report.reportNumber row (report.reportOf s d row)
+unfolding report.reportOf report.reportIn inTable
+day-report s d row =
+    let P = EndsBy report.reportNumber row in
+    by-check P (leb report.rowNumbers (length row)) (stays 1 row refl) (
+    by-sound P (soundOf s) (λ e. stays 28 row refl) (λ h e.
+    by-check P (ltb d (h .days)) (stays 22 row refl) (
+    by-check P (allGood (report.dayCells s h d)) (stays 28 row refl) (done row _))))
+
+pub put-text : (line out : List ℕ) → EndsBy text.textNumber out (text.putText line out)
+unfolding text.putText inTable
+put-text line out = either (EndsBy text.textNumber out) (leb (length line) (length out)) (done out _) (stays 1 out refl)
+
+module _ (s : List ℕ) (d : ℕ) (out : List ℕ) where
+  reported-put : (a : ReportAnswer) (date : Date) (row : List ℕ) → EndsBy text.textNumber out (day.reportedText a date row out)
+  unfolding day.reportedText inTable
+  reported-put reported.Done date row = put-text (text.lineText date row) out
+  reported-put reported.TooShort date row = stays 1 out refl
+  reported-put reported.Unsound date row = stays 28 out refl
+  reported-put reported.NotInLog date row = stays 22 out refl
+
+  dated-put : (a : DayAnswer) → EndsBy text.textNumber out (day.dayOnText a s d out)
+  unfolding day.dayOnText day.datedText inTable
+  dated-put on-day.Outside = stays 22 out refl
+  dated-put (on-day.On date) = reported-put _ date _
+
+  pub put-day : EndsBy text.textNumber out (day.dayText s d out)
+  unfolding day.dayText inTable
+  put-day = by-sound (EndsBy text.textNumber out) (soundOf s) (λ e. stays 28 out refl) (λ h e. dated-put (dayDate h d))
+
+-- ---- files
+
+pub read-file : (f out : List ℕ) → EndsBy reading.readNumber out (reading.readFile f out)
+unfolding reading.readFile reading.readFields reading.readImage inTable
+read-file f out =
+    let P = EndsBy reading.readNumber out in
+    by-check P (leb reading.markSize (length f) && markRight f) (stays 30 out refl) (
+    by-check P (versionRight f) (stays 31 out refl) (
+    by-check P (leb headerSize (length f)) (stays 32 out refl) (
+    by-right P (headerOf f) (stays 32 out refl) (λ h.
+    by-check P (eqb (length f) (fileLength h)) (stays 33 out refl) (
+    by-check P (crcFits f) (stays 34 out refl) (
+    by-check P (cellsGood (take (lengthOf h) f) (cellsOf h)) (stays 35 out refl) (
+    by-check P (leb (length (take (lengthOf h) f)) (length out)) (stays 1 out refl) (done out _))))))))
+
+pub write-file : (s out : List ℕ) → EndsBy writing.writeNumber out (writing.writtenFile s out)
+unfolding writing.writtenFile inTable
+write-file s out =
+    let P = EndsBy writing.writeNumber out in
+    by-sound P (soundOf s) (λ e. stays 28 out refl) (λ h e.
+    by-check P (leb (fileLength h) (length out)) (stays 1 out refl) (
+    by-check P (cellsGood s (cellsOf h)) (stays 28 out refl) (done out _)))
+
+-- ---- asks, lapses and replies
+
+pub put-ask : (s : List ℕ) (held : OpenAsk) (address day slot : ℕ) (out : List ℕ) → let o = asking.asked s held address day slot out in
+    Ends {A = OpenAsk × List ℕ} (asking.numberOf (o .result .answer)) (held, out) (o .result .held, o .left)
+unfolding asking.asked inTable
+put-ask s held address day slot out =
+    let P : Outcome Asked (List ℕ) → Type 0 =
+    λ o. Ends {A = OpenAsk × List ℕ} (asking.numberOf (o .result .answer)) (held, out) (o .result .held, o .left) in
+    either P (ltb (length out) readSize) (record { in-table = refl; unchanged = λ n. refl }) (
+    by-sound P (soundOf s) (λ e. record { in-table = refl; unchanged = λ n. refl }) (λ h e.
+    by-none P held (λ a d t o. record { in-table = refl; unchanged = λ n. refl }) (λ o.
+    by-at P (intervalOf h day slot) (λ n. record { in-table = refl; unchanged = λ n. refl }) (λ i n.
+    record { in-table = refl; unchanged = λ n. absurd (n refl) }))))
+
+pub lapse : (s : State) → EndsBy (λ (a : book.Answer). a .number) s (step s book.lapse)
+unfolding step
+lapse s = done s _
+
+-- a taken reply: the log, and the ask
+record TakenEnds (s : List ℕ) (held : OpenAsk) (o : Outcome Taken (List ℕ)) : Type 0 where
+  log : Ends (taking.numberOf (o .result .answer)) s (o .left)
+  ask : o .result .held ≡ cond (closes (taking.numberOf (o .result .answer))) Closed held
+
+taken-ends : (s : List ℕ) (held : OpenAsk) (y : List ℕ) → TakenEnds s held (taking.taken s held y)
+unfolding taking.taken applied inTable
+taken-ends s held y =
+    let P : Decision → Type 0 = λ d. TakenEnds s held (taking.done d s) in
+    taken-cases P s held y (λ e. record { log = stays 28 s refl; ask = refl }) (λ h e.
+    record {
+      no-ask = λ o. record { log = stays 20 s refl; ask = refl };
+      outside = λ a d t o n. record { log = stays 22 s refl; ask = refl };
+      malformed = λ i o fault n. record { log = stays 23 s refl; ask = refl };
+      refused = λ i o r. record { log = stays 24 s refl; ask = refl };
+      bad-cell = λ i o b. record { log = stays 28 s refl; ask = refl };
+      counted = λ i o r c g.
+          update-cases P (taking.updateOf c (rowOf y)) i (λ new. record { log = done s _; ask = refl }) (record { log = done s s; ask = refl })
+          (record { log = stays 25 s refl; ask = refl });
+    })
+
+pub take-reply : (s : List ℕ) (held : OpenAsk) (y : List ℕ) → let o = taking.taken s held y in Ends (taking.numberOf (o .result .answer)) s (o .left)
+take-reply s held y = taken-ends s held y .log
+
+pub ask-after : (s : List ℕ) (held : OpenAsk) (y : List ℕ) → let o = taking.taken s held y in
+    o .result .held ≡ cond (closes (taking.numberOf (o .result .answer))) Closed held
+ask-after s held y = taken-ends s held y .ask

@@ -1,0 +1,67 @@
+-- The theorems: every claim of specs/ with its proof, which has the claim's name.
+use Rattle.demands.specs.Demand1.{Demand1}
+use Rattle.demands.specs.Demand2.{Demand2}
+use Rattle.demands.specs.Demand3.{Demand3}
+use Rattle.demands.specs.Examples.{Marked}
+use Rattle.demands.proofs.Answer as answer
+use Rattle.demands.proofs.Calls as calls
+use Rattle.demands.proofs.Changes as changes
+use Rattle.demands.proofs.Examples as examples
+use Rattle.demands.proofs.History as history
+use Rattle.demands.proofs.Inquiry as inquiry
+use Rattle.demands.proofs.Replies as replies
+
+pub demand-1 : Demand1
+demand-1 = record {
+  decode = calls.decode;
+  record-given = calls.record-given;
+  inquire = inquiry.inquire;
+  answer = answer.answer;
+  put-slice = calls.put-slice;
+  take-reply = calls.take-reply;
+  ask-after = calls.ask-after;
+  lapse = calls.lapse;
+  put-ask = calls.put-ask;
+  put-request = calls.put-request;
+  fresh-log = calls.fresh-log;
+  day-report = calls.day-report;
+  put-text = calls.put-text;
+  put-day = calls.put-day;
+  read-file = calls.read-file;
+  write-file = calls.write-file;
+  answer-output = answer.answer-output;
+  answer-length = answer.answer-length;
+  frame-short = answer.frame-short;
+  past-frame = answer.past-frame;
+}
+
+pub demand-2 : Demand2
+demand-2 = record {
+  read = replies.read;
+  six-slices = replies.six-slices;
+  refused = replies.refused;
+  inquired = inquiry.inquired;
+  change = changes.change;
+  zeroing = changes.zeroing;
+  change-without-access = changes.change-without-access;
+  zeroing-without-access = changes.zeroing-without-access;
+  right-password = changes.right-password;
+  wrong-password = changes.wrong-password;
+  lock = changes.lock;
+  read-changes-nothing = changes.read-changes-nothing;
+}
+
+pub demand-3 : Demand3
+demand-3 = record {
+  fresh = history.fresh;
+  file = history.file;
+  log = history.log;
+  answers = history.answers;
+  ask-left = history.ask-left;
+  elsewhere = history.elsewhere;
+  as-long = history.as-long;
+  polled = history.polled;
+}
+
+pub marked : Marked
+marked = record { together = examples.together }

@@ -1,0 +1,43 @@
+-- The table of marked examples, computed.
+use mathlib.Core.Path.{_≡_, refl}
+use mathlib.Core.Bool.{true}
+use Rattle.crc16.specs.Crc.{crcOf, crcFrom, byteStep, eightBits, times, bitStep}
+use Rattle.words.specs.Number.{bytesOf, number}
+use Rattle.words.specs.Place.{numberAt, written}
+use Rattle.frame.specs.Sealing.{framed, crcFits}
+use Rattle.reader.specs.Form.{formOf, lengthFor, functionFor, headOf}
+use Rattle.request.specs.Request.{requestFrame}
+use Rattle.log.specs.Cell.{noCounts, kindBytes, cellBytes, kindCell, cellOf}
+use Rattle.log.specs.Fresh.{gaps, freshImage}
+use Rattle.log.specs.Header as log
+use Rattle.slots.specs.Day.{isMinutes, slotsOf}
+use Rattle.log.specs.Header.{cellsOf, daysRight, isHeader, dateBytes, headerBytes, headerAt, markRight, versionRight, fieldsRight, headerOf, fittedTo, soundOf}
+use Rattle.log.specs.Image.{cellAt, putCell, applied, cellsBytes, imageOf}
+use Rattle.log.specs.Interval.{intervalOf}
+use Rattle.logger.specs.Ask as Ask
+use Rattle.logger.specs.Reply.{rowOf}
+use Rattle.logger.specs.Take as Take
+use Rattle.logger.specs.Book.{runOf}
+use Rattle.logger.specs.Run.{step}
+use Rattle.frame.specs.Code.{functionOf}
+use Rattle.frame.specs.Table.{parameterOf, firstOf}
+use Rattle.figures.specs.Telemetry.{telemetryOf, telemetryBytes}
+use Rattle.meter_clock.specs.Protection.{quietSecond}
+use Rattle.meter_record.specs.Ranges.{isTelemetry}
+use Rattle.meter_record.specs.Record.{fresh}
+use Rattle.meter_command.specs.Change.{telemetryFits, dataFits}
+use Rattle.meter_command.specs.Judgement.{verdictOf, verdictBy, changeVerdict, checked, passed, argumentFits}
+use Rattle.meter_command.specs.Parts.{parameterByte}
+use Rattle.calendar.specs.Count.{starts}
+use Rattle.calendar.specs.Date.{dayNumber, lengthOf, daysInMonth, monthLengths, leap, isDate}
+use Rattle.calendar.specs.Sunday.{lastSunday}
+use Rattle.demands.specs.Examples.{all, examples}
+
+pub together : all examples ≡ true
+unfolding all examples framed bytesOf requestFrame crcOf crcFrom byteStep eightBits times bitStep lastSunday dayNumber starts lengthOf daysInMonth
+    monthLengths leap runOf step Ask.asked Take.taken Take.decided Take.updated Take.updateOf Take.sameCounts rowOf formOf lengthFor functionFor headOf
+    crcFits numberAt number written isDate isMinutes slotsOf cellsOf log.lengthOf daysRight isHeader dateBytes headerBytes headerAt markRight
+    versionRight fieldsRight headerOf fittedTo soundOf noCounts kindBytes cellBytes kindCell cellOf cellAt putCell applied cellsBytes imageOf
+    intervalOf gaps freshImage verdictOf verdictBy changeVerdict checked passed argumentFits telemetryFits isTelemetry parameterByte functionOf
+    parameterOf firstOf dataFits telemetryOf telemetryBytes fresh quietSecond
+together = refl

@@ -1,0 +1,190 @@
+-- Demand 3: a list of calls by its steps, the start, and what a call leaves alone.
+use mathlib.Core.Path.{_≡_, refl, sym, ap, ap₂, _∙_}
+use mathlib.Core.Bool.{Bool, true, false, cond, not, false≢true}
+use mathlib.Core.List.{List, [], _∷_}
+use Prim.Native.Nat.{ℕ}
+use native.Mathlib.Nat.{zero-add}
+use native.Mathlib.Omega.{arith}
+use borrow.Author.Tests.{ltb-true, ltb-false}
+use lib.Dec.{ltb}
+use lib.ListN.{length, take, getD, List·getD-eq-default}
+use lib.Seq.{ext-getD}
+use Rattle.words.specs.Number.{Bytes}
+use Rattle.words.specs.Place.{byteAt}
+use Rattle.words.proofs.PlaceLaws.{byteAt-kept}
+use Rattle.log.specs.Cell.{isCell, noCounts, cellBytes, IsCell}
+use Rattle.log.proofs.CellLaws.{length-cellBytes, gap-is-cell}
+use Rattle.log.specs.Fresh.{freshImage, gaps}
+use Rattle.log.proofs.FreshLaws.{length-gaps, gap-at}
+use Rattle.log.specs.Header.{isHeader, cellsOf, soundOf}
+use Rattle.log.specs.Image.{cellStart, putCell, applied, imageOf, AllCells}
+use Rattle.log.proofs.ImageLaws.{length-putCell}
+use Rattle.log.specs.declared.cell.Cell.{Cell}
+use Rattle.log.specs.declared.cell.Cell.the-variants.{Gap, Empty, Measured}
+use Rattle.log.specs.declared.header.Header.{Header}
+use Rattle.log.specs.declared.header.Lent.the-variants.{Sound}
+use Rattle.logger.specs.Held.{OpenFor}
+use Rattle.logger.specs.Reply.{rowOf}
+use Rattle.logger.specs.Take as Take
+use Rattle.logger.proofs.TakeLaws.{taken-cases, update-cases}
+use Rattle.logger.specs.Book.{Call, ask, lapse, reply, Answer, Book, isZero, counts, firstOf, byFirst, afresh, cameFirst, startBook, bookStep, runOf, bookRun, workedOut, AllBytes}
+use Rattle.logger.proofs.BookLaws.{Fitting, length-workedOut, workedOut-at}
+use Rattle.logger.specs.Run.{State, step, run}
+use Rattle.logger.proofs.StepLaws.{stateOf, Sane, step-agrees, step-sane}
+use Rattle.logger.specs.declared.held.OpenAsk.{OpenAsk}
+use Rattle.logger.specs.declared.take.Decision.{Decision}
+use Rattle.logfile.specs.File.{Accepted}
+use Rattle.logfile.proofs.FileLaws.{accepted-image}
+use Rattle.polling.specs.Reached.{Polled}
+use Rattle.demands.specs.Demand3.{Start, begin, ran, booked, logAfresh, Elsewhere}
+
+-- ---- a list of calls
+
+pub record Together (h : Header) (b : Book) (calls : List Call) : Type 0 where
+  pub answers : run (stateOf h b) calls .result ≡ bookRun h b calls .result
+  pub state : run (stateOf h b) calls .left ≡ stateOf h (bookRun h b calls .left)
+
+pub together : (h : Header) (b : Book) (calls : List Call) → isHeader h ≡ true → Sane h b → AllBytes calls → Together h b calls
+unfolding runOf
+together h b [] e s k = record { answers = refl; state = refl }
+together h b (c ∷ calls) e s k =
+    let a = step-agrees h b c e s in
+    let rest = together h (bookStep h b c .left) calls e (step-sane h b c s (k .0)) (k .1) in
+    record {
+      answers = ap₂ (λ (x : Answer) (xs : List Answer). x ∷ xs)
+          (a .answer) (ap (λ (t : State). run t calls .result) (a .state) ∙ rest .answers);
+      state = ap (λ (t : State). run t calls .left) (a .state) ∙ rest .state;
+    }
+
+-- ---- the start
+
+-- a cell, worked out from itself as the reply that came first
+afresh-first : (c : Cell) → isCell c ≡ true → afresh (cameFirst c) ≡ c
+unfolding afresh cameFirst firstOf byFirst isZero isCell noCounts
+afresh-first Gap e = refl
+afresh-first Empty e = refl
+afresh-first (Measured a b c d) e = go (noCounts a b c d) e
+  where
+    go : (z : Bool) → not z ≡ true
+        → byFirst (cond z (firstOf []) (counts (record { e+ = a; e- = b; r+ = c; r- = d }))) (record { e+ = a; e- = b; r+ = c; r- = d } ∷ [])
+        ≡ Measured a b c d
+    go true e = absurd (false≢true e)
+    go false e = refl
+
+first-fits : (c : Cell) → IsCell c → Fitting (cameFirst c)
+unfolding cameFirst
+first-fits Gap k = tt
+first-fits Empty k = (record { e-plus = omega arith; e-minus = omega arith; r-plus = omega arith; r-minus = omega arith }, tt)
+first-fits (Measured a b c d) k = (k .fits, tt)
+
+cell-anywhere : (cells : List Cell) → AllCells cells → (i : ℕ) → IsCell (getD cells i Gap)
+cell-anywhere cells k i = go (ltb i (length cells)) refl
+  where
+    go : (b : Bool) → ltb i (length cells) ≡ b → IsCell (getD cells i Gap)
+    go true e = k i (ltb-true i (length cells) e)
+    go false e = rw (List·getD-eq-default cells Gap (ltb-false i (length cells) e)) gap-is-cell
+
+pub start-sane : (h : Header) (cells : List Cell) → AllCells cells → Sane h (startBook cells)
+unfolding startBook
+start-sane h cells k = record { inside = tt; rows = λ i. first-fits (getD cells i Gap) (cell-anywhere cells k i) }
+
+pub start-cells : (cells : List Cell) (n : ℕ) → length cells ≡ n → AllCells cells → workedOut (startBook cells .kept) 0 n ≡ cells
+unfolding startBook
+start-cells cells n e k =
+    let kept = startBook cells .kept in
+    let size : length (workedOut kept 0 n) ≡ n = length-workedOut kept 0 n in
+    ext-getD Gap (workedOut kept 0 n) cells (size ∙ sym e)
+    (λ i l.
+    workedOut-at kept 0 n i (rw size at l)
+    ∙ ap (λ (j : ℕ). afresh (kept j)) (zero-add i)
+    ∙ afresh-first (getD cells i Gap) (cell-anywhere cells k i .right))
+
+pub start-state : (h : Header) (cells : List Cell) → length cells ≡ cellsOf h → AllCells cells
+    → stateOf h (startBook cells) ≡ begin (imageOf h cells)
+unfolding startBook
+start-state h cells e k = ap (λ (l : List Cell). begin (imageOf h l)) (start-cells cells (cellsOf h) e k)
+
+-- ---- what a call leaves alone
+
+-- a taken reply leaves the log, or puts the cell whose ask was open: what holds of both logs holds of the log after it
+pub taken-has : (P : List ℕ → Type 0) (s : List ℕ) (held : OpenAsk) (y : List ℕ) → P s
+    → ((h : Header) (i : ℕ) (c : Cell) → soundOf s ≡ Sound h → OpenFor h held i → P (putCell s i c)) → P (Take.taken s held y .left)
+unfolding Take.taken applied
+taken-has P s held y stays puts =
+    let Q : Decision → Type 0 = λ d. P (applied (d .change) s) in
+    taken-cases Q s held y (λ e. stays) (λ h e.
+    record {
+      no-ask = λ o. stays;
+      outside = λ a d t o n. stays;
+      malformed = λ i o fault n. stays;
+      refused = λ i o r. stays;
+      bad-cell = λ i o b. stays;
+      counted = λ i o r c g. update-cases Q (Take.updateOf c (rowOf y)) i (λ new. puts h i new e (o .ask)) stays stays;
+    })
+
+byte-stays : (s : State) (y : List ℕ) (j : ℕ) → Elsewhere s j → byteAt (Take.taken (s .log) (s .held) y .left) j ≡ byteAt (s .log) j
+unfolding putCell
+byte-stays s y j k =
+    taken-has (λ (l : List ℕ). byteAt l j ≡ byteAt (s .log) j) (s .log) (s .held) y refl
+    (λ h i c e o. byteAt-kept (s .log) (cellStart i) (cellBytes c) j (rw length-cellBytes (k h i e o)))
+
+length-stays : (s : State) (y : List ℕ) → length (Take.taken (s .log) (s .held) y .left) ≡ length (s .log)
+length-stays s y =
+    taken-has (λ (l : List ℕ). length l ≡ length (s .log)) (s .log) (s .held) y refl (λ h i c e o. length-putCell (s .log) i c)
+
+pub elsewhere : (s : State) (c : Call) (j : ℕ) → Elsewhere s j → byteAt (step s c .left .log) j ≡ byteAt (s .log) j
+unfolding step
+elsewhere s (ask address day slot out) j k = refl
+elsewhere s lapse j k = refl
+elsewhere s (reply y) j k = byte-stays s y j k
+
+pub as-long : (s : State) (c : Call) → length (step s c .left .log) ≡ length (s .log)
+unfolding step
+as-long s (ask address day slot out) = refl
+as-long s lapse = refl
+as-long s (reply y) = length-stays s y
+
+-- ---- from every start
+
+pub fresh : (h : Header) → isHeader h ≡ true → Start (freshImage h)
+unfolding freshImage
+fresh h e = record {
+  header = h;
+  cells = gaps (cellsOf h);
+  right = e;
+  count = length-gaps (cellsOf h);
+  each = λ i l. rw (gap-at (cellsOf h) i (rw length-gaps at l)) gap-is-cell;
+  image = refl;
+}
+
+pub file : (f out y : List ℕ) (n : ℕ) → Bytes f → Accepted f out y n → Start (take n f)
+file f out y n k a =
+    let i = accepted-image f out y n k a in
+    record { header = a .header; cells = i .cells; right = i .header; count = i .count; each = i .each; image = i .image }
+
+module _ (s : List ℕ) (start : Start s) (calls : List Call) (k : AllBytes calls) where
+  b : Book
+  b = startBook (start .cells)
+
+  all : Together (start .header) b calls
+  unfolding b
+  all = together (start .header) b calls (start .right) (start-sane (start .header) (start .cells) (start .each)) k
+
+  begins : begin s ≡ stateOf (start .header) b
+  unfolding b
+  begins = ap begin (start .image) ∙ sym (start-state (start .header) (start .cells) (start .count) (start .each))
+
+  pub log : ran s calls .left .log ≡ logAfresh start calls
+  unfolding b
+  log = ap (λ (t : State). run t calls .left .log) begins ∙ ap (λ (t : State). t .log) (all .state)
+
+  pub answers : ran s calls .result ≡ booked start calls .result
+  unfolding b
+  answers = ap (λ (t : State). run t calls .result) begins ∙ all .answers
+
+  pub ask-left : ran s calls .left .held ≡ booked start calls .left .held
+  unfolding b
+  ask-left = ap (λ (t : State). run t calls .left .held) begins ∙ ap (λ (t : State). t .held) (all .state)
+
+pub polled : (s : List ℕ) (start : Start s) (t : List ℕ) (p : Polled s t) → t ≡ logAfresh start (p .calls)
+polled s start t p = ap (λ (w : State). w .log) (sym (p .leads)) ∙ log s start (p .calls) (p .bytes)

@@ -1,0 +1,115 @@
+-- Demand 2 as one call: what `inquire` answers with 0 are the record's own figures. And demand 1 of the same call.
+use mathlib.Core.Path.{_≡_, refl, sym, ap, _∙_}
+use mathlib.Core.Bool.{Bool, true, false, cond}
+use mathlib.Core.List.{List}
+use Prim.Native.Nat.{ℕ, _≤_}
+use native.Mathlib.Omega.{arith}
+use lib.Dec.{ltb}
+use lib.ListN.{length}
+use borrow.Author.Tests.{ltb-false, le-ltb}
+use Rattle.words.specs.Number.{Bytes}
+use Rattle.frame.specs.Table.{parameterOf}
+use Rattle.request.specs.Request.{requestFrame}
+use Rattle.request.specs.Subject.{subjectOf, mostSlots, askable}
+use Rattle.request.specs.declared.request.Request.{Request}
+use Rattle.meter_record.specs.Widths.{FitsRecord}
+use Rattle.meter_record.specs.declared.record.Record.{Record}
+use Rattle.meter_command.specs.Judgement.{verdictOf}
+use Rattle.meter_command.specs.Verdict.{numberOf, isDone}
+use Rattle.meter_command.specs.declared.verdict.Verdict.the-variants.{Done}
+use Rattle.meter.specs.Reply.{Outcome, isSound, heard, replied, answerOf}
+use Rattle.reader.specs.Reply.{decodedOf}
+use Rattle.reader.specs.declared.reply.Decoded.{Decoded}
+use Rattle.reader.specs.declared.reply.Decoded.the-variants as decoded
+use Rattle.meter_inquiry.specs.Inquiry as inquiry
+use Rattle.meter_inquiry.specs.Inquiry.{isSilent, toldOf, asked}
+use Rattle.meter_inquiry.specs.declared.Inquired.the-variants.{TooShort, Unsound, Silent, Told}
+use Rattle.demands.specs.Demand1.{inTable}
+use Rattle.demands.specs.Figures.{ownFigures}
+use Rattle.demands.specs.Demand2.{answered, replyIn, FitsRequest}
+use Rattle.demands.proofs.Calls.{decode}
+use Rattle.demands.proofs.Replies.{done-only, read, refused}
+
+-- a reply that the reader takes for a refusal is not told with 0
+told-refused : (o : Outcome) (q : Request) (result : ℕ) → decodedOf q (replyIn o) ≡ decoded.MeterRefused result
+    → inquiry.numberOf ((toldOf o q) .answer) ≡ 0 → ⊥
+unfolding toldOf
+told-refused o q result e h = go (isSilent (o .answer .verdict)) refl
+  where
+    go : (b : Bool) → isSilent (o .answer .verdict) ≡ b → ⊥
+    go true c = omega (arith, simp c at h)
+    go false c = omega (arith, simp (c, e) at h)
+
+-- what a meter that is done answered is told as the reader decodes it
+told-done : (o : Outcome) (q : Request) → o .answer .verdict ≡ Done → (toldOf o q) .answer ≡ Told (decodedOf q (replyIn o))
+unfolding toldOf
+told-done o q e = simp e
+
+-- the tests before the meter's: 1, 28, 27
+pub record Sent (r : Record) (s : List ℕ) (q : Request) (out : List ℕ) : Type 0 where
+  pub room : 64 ≤ length out
+  pub sound : isSound r s ≡ true
+  pub askable-is : askable (subjectOf q mostSlots) ≡ true
+  pub whole : inquiry.inquired r s q out ≡ toldOf (answered r s q out) q
+
+sent : (r : Record) (s : List ℕ) (q : Request) (out : List ℕ) → inquiry.numberOf ((inquiry.inquired r s q out) .answer) ≡ 0 → Sent r s q out
+unfolding inquiry.inquired asked
+sent r s q out h = go (ltb (length out) 64) refl (isSound r s) refl (askable (subjectOf q mostSlots)) refl
+  where
+    go : (a : Bool) → ltb (length out) 64 ≡ a → (b : Bool) → isSound r s ≡ b → (c : Bool) → askable (subjectOf q mostSlots) ≡ c → Sent r s q out
+    go true e b k c l = absurd (omega (arith, simp e at h))
+    go false e false k c l = absurd (omega (arith, simp (e, k) at h))
+    go false e true k false l = absurd (omega (arith, simp (e, k, l) at h))
+    go false e true k true l = record { room = ltb-false (length out) 64 e; sound = k; askable-is = l; whole = simp (e, k, l) }
+
+-- the meter heard it
+silent-told : (r : Record) (s : List ℕ) (q : Request) (out : List ℕ) → 64 ≤ length out → isSound r s ≡ true → heard r (requestFrame q) ≡ false
+    → inquiry.numberOf ((toldOf (answered r s q out) q) .answer) ≡ 0 → ⊥
+unfolding answerOf toldOf
+silent-told r s q out room sound hear h = omega (arith, simp (le-ltb (length out) 64 room, sound, hear) at h)
+
+-- and it is done
+done-verdict : (r : Record) (s : List ℕ) (q : Request) (out : List ℕ) → 64 ≤ length out → isSound r s ≡ true → heard r (requestFrame q) ≡ true
+    → isDone (verdictOf r (requestFrame q)) ≡ true → (answered r s q out) .answer .verdict ≡ verdictOf r (requestFrame q)
+unfolding answerOf replied
+done-verdict r s q out room sound hear d = simp (le-ltb (length out) 64 room, sound, hear, d)
+
+pub inquired : (r : Record) (s : List ℕ) (q : Request) (out : List ℕ) → FitsRecord r → Bytes s → FitsRequest q
+    → let o = inquiry.inquired r s q out in inquiry.numberOf (o .answer) ≡ 0 → o .answer ≡ Told (ownFigures (parameterOf (q .parameter)) r s q)
+inquired r s q out f b k h = go (heard r (requestFrame q)) refl (isDone (verdictOf r (requestFrame q))) refl
+  where
+    t : Sent r s q out
+    t = sent r s q out h
+
+    told : inquiry.numberOf ((toldOf (answered r s q out) q) .answer) ≡ 0
+    told = ap (λ (o : inquiry.Outcome). inquiry.numberOf (o .answer)) (sym (t .whole)) ∙ h
+
+    go : (c : Bool) → heard r (requestFrame q) ≡ c → (d : Bool) → isDone (verdictOf r (requestFrame q)) ≡ d
+        → (inquiry.inquired r s q out) .answer ≡ Told (ownFigures (parameterOf (q .parameter)) r s q)
+    go false e d g = absurd (silent-told r s q out (t .room) (t .sound) e told)
+    go true e false g =
+        absurd (told-refused (answered r s q out) q _ (refused r s q out k (t .askable-is) (t .room) (t .sound) e g) told)
+    go true e true g =
+        let v : (answered r s q out) .answer .verdict ≡ Done = done-verdict r s q out (t .room) (t .sound) e g ∙ done-only _ g in
+        ap (λ (o : inquiry.Outcome). o .answer) (t .whole)
+        ∙ told-done (answered r s q out) q v
+        ∙ ap Told (read r s q out f b k (ap numberOf v))
+
+-- ---- demand 1
+
+pub inquire : (r : Record) (s : List ℕ) (q : Request) (out : List ℕ) → inTable (inquiry.numberOf ((inquiry.inquired r s q out) .answer)) ≡ true
+unfolding inquiry.inquired asked toldOf inTable
+inquire r s q out =
+    go (ltb (length out) 64) (isSound r s) (askable (subjectOf q mostSlots)) (isSilent ((answered r s q out) .answer .verdict))
+  where
+    d : Decoded
+    d = decodedOf q (replyIn (answered r s q out))
+
+    go : (a b c e : Bool) → inTable (inquiry.numberOf ((cond a (inquiry.outcome TooShort s out) (cond b (cond c
+        (cond e (inquiry.outcome Silent ((answered r s q out) .store) ((answered r s q out) .out)) (inquiry.outcome (Told d) ((answered r s q out) .store) ((answered r s q out) .out)))
+        (inquiry.outcome (Told decoded.OutOfRange) s out)) (inquiry.outcome Unsound s out))) .answer)) ≡ true
+    go true b c e = refl
+    go false false c e = refl
+    go false true false e = refl
+    go false true true true = refl
+    go false true true false = decode d

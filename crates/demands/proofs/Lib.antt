@@ -1,0 +1,11 @@
+pub mod Calls
+pub mod Answer
+pub mod Wire
+pub mod Figures
+pub mod Six
+pub mod Replies
+pub mod Inquiry
+pub mod Changes
+pub mod History
+pub mod Examples
+pub mod Claims

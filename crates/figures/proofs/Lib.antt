@@ -1,0 +1,5 @@
+pub mod ClockLaws
+pub mod TelemetryLaws
+pub mod MaskLaws
+pub mod PowerLaws
+pub mod Within

@@ -1,0 +1,3 @@
+pub mod SealingLaws
+pub mod LayoutLaws
+pub mod TableLaws

@@ -1,0 +1,137 @@
+-- What follows from the definition of a cell: a cell and its nine bytes say the same.
+use Prim.Native.Nat.{ℕ, _+_, _*_, _/_, _%_, _<_}
+use native.Mathlib.Omega.{arith}
+use mathlib.Core.Path.{_≡_, refl, sym, ap, _∙_}
+use mathlib.Core.Bool.{Bool, true, false, cond, not}
+use mathlib.Core.List.{List}
+use lib.Dec.{eqb}
+use lib.ListN.{length}
+use lib.Seq.{take-all}
+use borrow.Author.Tests.{eqb-true, not-true}
+use Rattle.words.specs.Number.{number, bytesOf, Bytes}
+use Rattle.words.specs.Place.{byteAt, numberAt}
+use Rattle.case_laws.proofs.Test.{both, chosen}
+use Rattle.log.proofs.ByteLaws.{run, take-run, two, low, high}
+use Rattle.log.specs.Cell.{cellSize, noCounts, isCell, kindBytes, cellBytes, kindCell, cellOf, ifGood, CountsFit, CellFits, IsCell}
+use Rattle.log.specs.declared.cell.Cell.{Cell}
+use Rattle.log.specs.declared.cell.Cell.the-variants.{Gap, Empty, Measured}
+use Rattle.log.specs.declared.cell.CellAnswer.{CellAnswer}
+use Rattle.log.specs.declared.cell.CellAnswer.the-variants.{Good, Bad}
+
+pub gap-is-cell : IsCell Gap
+unfolding isCell
+gap-is-cell = record { right = refl; fits = tt }
+
+pub empty-is-cell : IsCell Empty
+unfolding isCell
+empty-is-cell = record { right = refl; fits = tt }
+
+-- ---- from the cell to its bytes and back
+
+pub length-cellBytes : (c : Cell) → length (cellBytes c) ≡ cellSize
+unfolding cellBytes kindBytes bytesOf
+length-cellBytes Gap = refl
+length-cellBytes Empty = refl
+length-cellBytes (Measured e+ e- r+ r-) = refl
+
+low-high : (n : ℕ) → n < 65536 → (0 * 256 + n / 256 % 256) * 256 + n % 256 ≡ n
+low-high n h = omega arith
+
+pub cellOf-bytes : (c : Cell) → IsCell c → cellOf (cellBytes c) ≡ Good c
+unfolding cellOf cellBytes kindBytes kindCell isCell noCounts bytesOf numberAt number
+cellOf-bytes Gap i = refl
+cellOf-bytes Empty i = refl
+cellOf-bytes (Measured e+ e- r+ r-) i =
+    simp (low-high e+ (i .fits .e-plus), low-high e- (i .fits .e-minus), low-high r+ (i .fits .r-plus), low-high r- (i .fits .r-minus), not-true (noCounts e+ e- r+ r-) (i .right))
+
+-- ---- from the bytes to the cell and back
+
+-- what is known of a cell that was read as a kind and four counts
+record Kind (kind e+ e- r+ r- : ℕ) (c : Cell) : Type 0 where
+  right : isCell c ≡ true
+  fits : CountsFit e+ e- r+ r- → CellFits c
+  bytes : cellBytes c ≡ kindBytes kind e+ e- r+ r-
+
+pub bad≢good : (c : Cell) → Bad ≡ Good c → ⊥
+bad≢good c p = let z : _≡_ {A = ℕ} 0 1 = cc in omega arith
+
+module _ (kind e+ e- r+ r- : ℕ) (c : Cell) where
+  gap-kind : noCounts e+ e- r+ r- ≡ true → eqb kind 0 ≡ true → Good Gap ≡ Good c → Kind kind e+ e- r+ r- c
+  unfolding noCounts isCell cellBytes
+  gap-kind z k p =
+      let a = both _ _ z in
+      let b = both _ _ (a .0) in
+      let d = both _ _ (b .0) in
+      let q : Gap ≡ c = cc in
+      rw (← q) (record { right = refl; fits = λ f. tt; bytes = simp (eqb-true kind 0 k, eqb-true e+ 0 (d .0), eqb-true e- 0 (d .1), eqb-true r+ 0 (b .1), eqb-true r- 0 (a .1)) })
+
+  empty-kind : noCounts e+ e- r+ r- ≡ true → eqb kind 1 ≡ true → Good Empty ≡ Good c → Kind kind e+ e- r+ r- c
+  unfolding noCounts isCell cellBytes
+  empty-kind z k p =
+      let a = both _ _ z in
+      let b = both _ _ (a .0) in
+      let d = both _ _ (b .0) in
+      let q : Empty ≡ c = cc in
+      rw (← q) (record { right = refl; fits = λ f. tt; bytes = simp (eqb-true kind 1 k, eqb-true e+ 0 (d .0), eqb-true e- 0 (d .1), eqb-true r+ 0 (b .1), eqb-true r- 0 (a .1)) })
+
+  measured-kind : noCounts e+ e- r+ r- ≡ false → eqb kind 2 ≡ true → Good (Measured e+ e- r+ r-) ≡ Good c → Kind kind e+ e- r+ r- c
+  unfolding isCell cellBytes
+  measured-kind z k p =
+      let q : Measured e+ e- r+ r- ≡ c = cc in
+      rw (← q) (record { right = ap not z; fits = λ f. f; bytes = simp (eqb-true kind 2 k) })
+
+  kind-of : kindCell kind e+ e- r+ r- ≡ Good c → Kind kind e+ e- r+ r- c
+  unfolding kindCell
+  kind-of p = go (noCounts e+ e- r+ r-) refl (eqb kind 0) refl (eqb kind 1) refl (eqb kind 2) refl p
+    where
+      go : (n : Bool) → noCounts e+ e- r+ r- ≡ n → (g : Bool) → eqb kind 0 ≡ g → (m : Bool) → eqb kind 1 ≡ m → (t : Bool) → eqb kind 2 ≡ t
+          → cond n (cond g (Good Gap) (cond m (Good Empty) Bad)) (cond t (Good (Measured e+ e- r+ r-)) Bad) ≡ Good c
+          → Kind kind e+ e- r+ r- c
+      go true z true k m _ t _ q = gap-kind z k q
+      go true z false _ true k t _ q = empty-kind z k q
+      go true z false _ false _ t _ q = absurd (bad≢good c q)
+      go false z g _ m _ true k q = measured-kind z k q
+      go false z g _ m _ false _ q = absurd (bad≢good c q)
+
+-- nine bytes that are a cell
+record Nine (bs : List ℕ) (c : Cell) : Type 0 where
+  nine : length bs ≡ cellSize
+  kind : Kind (byteAt bs 0) (numberAt bs 1 2) (numberAt bs 3 2) (numberAt bs 5 2) (numberAt bs 7 2) c
+
+nine-of : (bs : List ℕ) (c : Cell) → cellOf bs ≡ Good c → Nine bs c
+unfolding cellOf
+nine-of bs c p =
+    let a = chosen (eqb (length bs) cellSize) (kindCell (byteAt bs 0) (numberAt bs 1 2) (numberAt bs 3 2) (numberAt bs 5 2) (numberAt bs 7 2)) Bad p (bad≢good c) in
+    record { nine = eqb-true _ _ (a .0); kind = kind-of _ _ _ _ _ c (a .1) }
+
+-- what is read as a cell is one
+pub good-right : (bs : List ℕ) (c : Cell) → cellOf bs ≡ Good c → isCell c ≡ true
+good-right bs c p = nine-of bs c p .kind .right
+
+two-below : (bs : List ℕ) (i : ℕ) → Bytes bs → numberAt bs i 2 < 65536
+two-below bs i h = omega (arith, two bs i, h i, h (i + 1))
+
+pub good-is-cell : (bs : List ℕ) (c : Cell) → Bytes bs → cellOf bs ≡ Good c → IsCell c
+good-is-cell bs c h p =
+    let n = nine-of bs c p in
+    let f : CountsFit (numberAt bs 1 2) (numberAt bs 3 2) (numberAt bs 5 2) (numberAt bs 7 2) =
+    record { e-plus = two-below bs 1 h; e-minus = two-below bs 3 h; r-plus = two-below bs 5 h; r-minus = two-below bs 7 h } in
+    record { right = n .kind .right; fits = n .kind .fits f }
+
+-- nine bytes are those of the kind and the counts that stand there
+listed : (bs : List ℕ) → Bytes bs
+    → run bs 0 cellSize ≡ kindBytes (byteAt bs 0) (numberAt bs 1 2) (numberAt bs 3 2) (numberAt bs 5 2) (numberAt bs 7 2)
+unfolding run kindBytes bytesOf
+listed bs h = simp (low bs h 1, high bs h 1, low bs h 3, high bs h 3, low bs h 5, high bs h 5, low bs h 7, high bs h 7)
+
+-- nine bytes that are read as a cell are that cell's
+pub good-bytes : (bs : List ℕ) (c : Cell) → Bytes bs → cellOf bs ≡ Good c → cellBytes c ≡ bs
+good-bytes bs c h p =
+    let n = nine-of bs c p in
+    n .kind .bytes ∙ sym (listed bs h) ∙ sym (take-run cellSize 0 bs (omega (arith, n .nine))) ∙ take-all cellSize bs (omega (arith, n .nine))
+
+-- what holds of both values holds of the one that is chosen
+pub by-good : {A : Type 0} (P : A → Type 0) (a : CellAnswer) {x : A} {f : Cell → A}
+    → (a ≡ Bad → P x) → ((c : Cell) → a ≡ Good c → P (f c)) → P (ifGood a x f)
+by-good P Bad other k = other refl
+by-good P (Good c) other k = k c refl

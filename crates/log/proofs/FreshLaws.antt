@@ -1,0 +1,69 @@
+-- What follows from the definition of a fresh log: it is a log with its header, and every cell is a gap.
+use Prim.Native.Nat.{ℕ, suc, _+_, _*_, _<_, _≤_}
+use native.Mathlib.Nat.{zero-add}
+use native.Mathlib.Omega.{arith}
+use mathlib.Core.Path.{_≡_, refl, sym, ap, subst, _∙_}
+use mathlib.Core.Bool.{true}
+use mathlib.Core.List.{List, _++_}
+use lib.ListN.{length, getD, drop, length-replicate, getD-replicate}
+use borrow.Author.Tests.{le-leb}
+use Rattle.refusal.specs.Outcome.{outcome}
+use Rattle.words.specs.Place.{written}
+use Rattle.words.proofs.PlaceLaws.{written-fits, onward}
+use Rattle.log.specs.Header.{headerSize, cellsOf, lengthOf, isHeader, headerBytes, soundOf}
+use Rattle.log.proofs.HeaderLaws.{length-headerBytes}
+use Rattle.log.specs.Cell.{cellSize, cellBytes, IsCell}
+use Rattle.log.proofs.CellLaws.{length-cellBytes, gap-is-cell}
+use Rattle.log.specs.Image.{cellStart, cellAt, putCell, cellsBytes, imageOf}
+use Rattle.log.proofs.ImageLaws.{sound-image, cellAt-image, length-imageOf}
+use Rattle.log.specs.Fresh.{gaps, freshImage, freshOf}
+use Rattle.log.specs.declared.header.Header.{Header}
+use Rattle.log.specs.declared.header.Lent.the-variants.{Sound}
+use Rattle.log.specs.declared.cell.Cell.the-variants.{Gap}
+use Rattle.log.specs.declared.cell.CellAnswer.the-variants.{Good}
+use Rattle.log.specs.declared.fresh.FreshAnswer.the-variants.{Done}
+
+pub length-gaps : (n : ℕ) → length (gaps n) ≡ n
+unfolding gaps
+length-gaps n = length-replicate n Gap
+
+pub gap-at : (n i : ℕ) → i < n → getD (gaps n) i Gap ≡ Gap
+unfolding gaps
+gap-at n i h = getD-replicate n i Gap Gap h
+
+pub fresh-sound : (h : Header) → isHeader h ≡ true → soundOf (freshImage h) ≡ Sound h
+unfolding freshImage
+fresh-sound h e = sound-image h (gaps (cellsOf h)) e (length-gaps (cellsOf h))
+
+pub fresh-gaps : (h : Header) (i : ℕ) → i < cellsOf h → cellAt (freshImage h) i ≡ Good Gap
+unfolding freshImage
+fresh-gaps h i l =
+    let e = gap-at (cellsOf h) i l in
+    cellAt-image h (gaps (cellsOf h)) i (rw length-gaps l) (subst IsCell (sym e) gap-is-cell) ∙ ap Good e
+
+pub length-freshImage : (h : Header) → length (freshImage h) ≡ lengthOf h
+unfolding freshImage lengthOf
+length-freshImage h = length-imageOf h (gaps (cellsOf h)) ∙ ap (λ (n : ℕ). headerSize + cellSize * n) (length-gaps (cellsOf h))
+
+-- after a fresh log was made, it stands at the output's front
+pub fresh-front : (h : Header) (s : List ℕ) → isHeader h ≡ true → lengthOf h ≤ length s
+    → freshOf h s ≡ outcome (Done (lengthOf h)) (freshImage h ++ drop (lengthOf h) s)
+unfolding freshOf
+fresh-front h s e l =
+    let f : written s 0 (freshImage h) ≡ freshImage h ++ drop (0 + length (freshImage h)) s = written-fits s 0 (freshImage h) (rw (zero-add, length-freshImage) l) in
+    simp (e, le-leb _ _ l) (ap (outcome _) (f ∙ rw (zero-add, length-freshImage)))
+
+-- one gap more
+pub gap-put : (s : List ℕ) (i n : ℕ) → written (putCell s i Gap) (cellStart (i + 1)) (cellsBytes (gaps n)) ≡ written s (cellStart i) (cellsBytes (gaps (suc n)))
+unfolding putCell gaps cellsBytes
+gap-put s i n =
+    let e : cellStart i + length (cellBytes Gap) ≡ cellStart (i + 1) = omega (arith, length-cellBytes Gap) in
+    onward s _ _ (cellStart i) (cellStart (i + 1)) (cellBytes Gap) (cellsBytes (gaps n)) refl refl e
+
+-- the header, and behind it the gaps
+pub fresh-written : (s t u : List ℕ) (h : Header) (n : ℕ) → n ≡ cellsOf h → t ≡ written s 0 (headerBytes h) → u ≡ written t headerSize (cellsBytes (gaps n))
+    → u ≡ written s 0 (freshImage h)
+unfolding freshImage imageOf
+fresh-written s t u h n e p q =
+    onward s t u 0 headerSize (headerBytes h) (cellsBytes (gaps n)) p q (zero-add (length (headerBytes h)) ∙ length-headerBytes h)
+    ∙ ap (λ (k : ℕ). written s 0 (headerBytes h ++ cellsBytes (gaps k))) e

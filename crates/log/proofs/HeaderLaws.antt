@@ -1,0 +1,192 @@
+-- What follows from the definitions of a header: what it keeps to, that it and its bytes say the same, and what a sound log has.
+use Prim.Native.Nat.{ℕ, _+_, _*_, _-_, _/_, _%_, _≤_, _<_}
+use native.Mathlib.Nat.{mul-le-mul}
+use native.Mathlib.Omega.{arith}
+use mathlib.Core.Path.{_≡_, refl, sym, ap, _∙_}
+use mathlib.Core.Bool.{Bool, true, false, cond, _&&_}
+use mathlib.Core.List.{List, _++_}
+use lib.Dec.{ltb, eqb}
+use lib.ListN.{length, take}
+use borrow.Author.Tests.{ltb-true, leb-true, eqb-true, eq-eqb}
+use Rattle.slots.proofs.DayLaws.{slotsMost, slots-at-most}
+use Rattle.words.specs.Number.{number, bytesOf, Bytes}
+use Rattle.words.specs.Place.{byteAt, numberAt}
+use Rattle.case_laws.proofs.Test.{both, chosen}
+use Rattle.slots.specs.Day.{isMinutes}
+use Rattle.calendar.specs.Date.{isDate, dayNumber, dateOn, daysLater, dateOf, centuryDays}
+use Rattle.calendar.specs.declared.date.Date.{Date}
+use Rattle.calendar.specs.declared.date.DateAnswer.{DateAnswer}
+use Rattle.calendar.specs.declared.date.DateAnswer.the-variants.{On, NotADate, OutOfRange}
+use Rattle.log.specs.Cell.{cellSize}
+use Rattle.log.specs.Header.{headerSize, daysMost, version, ifSound, cellsOf, lengthOf, daysRight, isHeader, dateBytes, headerBytes, headerAt, markRight, versionRight, fieldsRight, headerOf}
+use Rattle.log.specs.Header.{fittedTo, soundOf}
+use Rattle.log.proofs.ByteLaws.{run, take-run, low, high, low-of, high-of}
+use Rattle.log.specs.declared.header.Header.{Header}
+use Rattle.log.specs.declared.header.HeaderAnswer.the-variants.{Right, Wrong}
+use Rattle.log.specs.declared.header.Lent.{Lent}
+use Rattle.log.specs.declared.header.Lent.the-variants.{Sound, Unsound}
+
+-- the longest: the file has two bytes more, "At most 53,584 bytes"
+abbrev pub imageMost : ℕ
+imageMost = headerSize + cellSize * (daysMost * slotsMost)
+
+-- a header's bytes hold no more cells than this, right or not
+pub cells-at-most : (h : Header) → h .days < 256 → cellsOf h ≤ 255 * slotsMost
+unfolding cellsOf
+cells-at-most h d =
+    let k : h .days ≤ 255 = omega arith in
+    mul-le-mul k (slots-at-most (h .minutes))
+
+-- ---- what a header keeps to
+
+pub record HeaderRanges (h : Header) : Type 0 where
+  pub start : isDate (h .start) ≡ true
+  pub days-from : 1 ≤ h .days
+  pub days-to : h .days ≤ daysMost
+  pub last-day : dayNumber (h .start) + (h .days - 1) < centuryDays
+  pub minutes : isMinutes (h .minutes) ≡ true
+  pub ke-from : 1 ≤ h .ke
+  pub ke-to : h .ke ≤ 65535
+
+pub header-ranges : (h : Header) → isHeader h ≡ true → HeaderRanges h
+unfolding isHeader daysRight
+header-ranges h e =
+    let a = both _ _ e in
+    let b = both _ _ (a .0) in
+    let c = both _ _ (b .0) in
+    let d = both _ _ (c .0) in
+    let f = both _ _ (d .1) in
+    let g = both _ _ (f .0) in
+    record {
+      start = d .0;
+      days-from = leb-true _ _ (g .0);
+      days-to = leb-true _ _ (g .1);
+      last-day = ltb-true _ _ (f .1);
+      minutes = c .1;
+      ke-from = leb-true _ _ (b .1);
+      ke-to = leb-true _ _ (a .1);
+    }
+
+abbrev pub isOn : DateAnswer → Bool
+isOn (On d) = true
+isOn NotADate = false
+isOn OutOfRange = false
+
+-- n days later there is a date where the start is one and the century has not ended
+pub has-date : (d : Date) (n : ℕ) → isOn (daysLater d n) ≡ (isDate d && ltb (dayNumber d + n) centuryDays)
+unfolding daysLater dateOn
+has-date d n = go (isDate d) (ltb (dayNumber d + n) centuryDays) (dateOf (dayNumber d + n))
+  where
+    go : (a b : Bool) (x : Date) → isOn (cond a (cond b (On x) OutOfRange) NotADate) ≡ (a && b)
+    go true true x = refl
+    go true false x = refl
+    go false b x = refl
+
+-- ---- a header and its bytes
+
+pub length-headerBytes : (h : Header) → length (headerBytes h) ≡ headerSize
+unfolding headerBytes dateBytes bytesOf
+length-headerBytes h = refl
+
+pub headerAt-bytes : (h : Header) (rest : List ℕ) → h .ke ≤ 65535 → headerAt (headerBytes h ++ rest) ≡ h
+unfolding headerAt headerBytes dateBytes bytesOf numberAt number
+headerAt-bytes h rest k =
+    let e : (0 * 256 + h .ke / 256 % 256) * 256 + h .ke % 256 ≡ h .ke = omega arith in
+    rw e
+
+-- what begins with a header's bytes and is as long as it says is a log with this header
+module _ (h : Header) (rest : List ℕ) where
+  mark-right : markRight (headerBytes h ++ rest) ≡ true
+  unfolding markRight headerBytes dateBytes bytesOf
+  mark-right = refl
+
+  version-right : versionRight (headerBytes h ++ rest) ≡ true
+  unfolding versionRight headerBytes dateBytes bytesOf numberAt number
+  version-right = refl
+
+  zeros-right : eqb (numberAt (headerBytes h ++ rest) 12 2) 0 ≡ true
+  unfolding headerBytes dateBytes bytesOf numberAt number
+  zeros-right = refl
+
+  pub sound-bytes : isHeader h ≡ true → length (headerBytes h ++ rest) ≡ lengthOf h → soundOf (headerBytes h ++ rest) ≡ Sound h
+  unfolding soundOf headerOf fieldsRight fittedTo
+  sound-bytes e l =
+      simp (mark-right, version-right, headerAt-bytes h rest (header-ranges h e .ke-to), e, zeros-right, eq-eqb _ _ l)
+
+-- ---- what a sound log has
+
+pub record SoundLog (s : List ℕ) (h : Header) : Type 0 where
+  pub mark : markRight s ≡ true
+  pub version : versionRight s ≡ true
+  pub zeros : numberAt s 12 2 ≡ 0
+  pub header : headerAt s ≡ h
+  pub ranges : isHeader h ≡ true
+  pub size : length s ≡ lengthOf h
+
+unsound≢sound : (h : Header) → Unsound ≡ Sound h → ⊥
+unsound≢sound h p = let z : _≡_ {A = ℕ} 0 1 = cc in omega arith
+
+fitted-right : (f : Bool) (n : ℕ) (x h : Header) → fittedTo n (cond f (Right x) Wrong) ≡ Sound h
+    → (f ≡ true) × (cond (eqb n (lengthOf x)) (Sound x) Unsound ≡ Sound h)
+unfolding fittedTo
+fitted-right true n x h p = (refl, p)
+fitted-right false n x h p = absurd (unsound≢sound h p)
+
+pub sound-log : (s : List ℕ) (h : Header) → soundOf s ≡ Sound h → SoundLog s h
+unfolding soundOf headerOf fieldsRight
+sound-log s h p =
+    let a = chosen (markRight s && versionRight s) (fittedTo (length s) (headerOf s)) Unsound p (unsound≢sound h) in
+    let m = both _ _ (a .0) in
+    let b = fitted-right (fieldsRight s) (length s) (headerAt s) h (a .1) in
+    let f = both _ _ (b .0) in
+    let c = chosen (eqb (length s) (lengthOf (headerAt s))) (Sound (headerAt s)) Unsound (b .1) (unsound≢sound h) in
+    let e : headerAt s ≡ h = cc (c .1) in
+    record {
+      mark = m .0;
+      version = m .1;
+      zeros = eqb-true _ _ (f .1);
+      header = e;
+      ranges = sym (ap isHeader e) ∙ f .0;
+      size = eqb-true _ _ (c .0) ∙ ap lengthOf e;
+    }
+
+-- its first fourteen bytes are its header's
+header-listed : (s : List ℕ) (h : Header) → Bytes s → SoundLog s h → run s 0 headerSize ≡ headerBytes (headerAt s)
+unfolding run headerBytes dateBytes headerAt bytesOf markRight versionRight
+header-listed s h bytes l =
+    let m = both _ _ (l .mark) in
+    let n = both _ _ (m .0) in
+    let v = eqb-true (numberAt s 3 2) version (l .version) in
+    simp (
+      eqb-true (byteAt s 0) 71 (n .0),
+      eqb-true (byteAt s 1) 69 (n .1),
+      eqb-true (byteAt s 2) 76 (m .1),
+      low-of s 3 version bytes v,
+      high-of s 3 version bytes v,
+      low s bytes 10,
+      high s bytes 10,
+      low-of s 12 0 bytes (l .zeros),
+      high-of s 12 0 bytes (l .zeros),
+    )
+
+pub sound-long : (s : List ℕ) (h : Header) → soundOf s ≡ Sound h → headerSize ≤ length s
+unfolding lengthOf
+sound-long s h p = omega (arith, sound-log s h p .size)
+
+-- "At most 53,584 bytes", of which the file's CRC has two
+pub image-at-most : (s : List ℕ) (h : Header) → soundOf s ≡ Sound h → length s ≤ imageMost
+unfolding lengthOf cellsOf
+image-at-most s h p =
+    let l = sound-log s h p in
+    omega (arith, l .size, mul-le-mul (header-ranges h (l .ranges) .days-to) (slots-at-most (h .minutes)))
+
+pub sound-front : (s : List ℕ) (h : Header) → Bytes s → soundOf s ≡ Sound h → take headerSize s ≡ headerBytes h
+sound-front s h bytes p =
+    let l = sound-log s h p in
+    take-run headerSize 0 s (sound-long s h p) ∙ header-listed s h bytes l ∙ ap headerBytes (l .header)
+
+-- what holds of both values holds of the one that is chosen
+pub by-sound : {A : Type 0} (P : A → Type 0) (l : Lent) {x : A} {f : Header → A}
+    → (l ≡ Unsound → P x) → ((h : Header) → l ≡ Sound h → P (f h)) → P (ifSound l x f)
+by-sound P Unsound other k = other refl
+by-sound P (Sound h) other k = k h refl

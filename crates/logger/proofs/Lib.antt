@@ -1,0 +1,4 @@
+pub mod AskLaws
+pub mod BookLaws
+pub mod TakeLaws
+pub mod StepLaws

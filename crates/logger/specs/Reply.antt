@@ -1,0 +1,41 @@
+-- A reply about a slice: whether it is well formed, its result, its four counts. Source: document 01, "The reader and the log".
+use mathlib.Core.Bool.{cond}
+use mathlib.Core.List.{List}
+use Prim.Native.Nat.{ℕ, _+_}
+use lib.Dec.{eqb}
+use Rattle.words.specs.Place.{byteAt, numberAt}
+use Rattle.frame.specs.Code.{slice}
+use Rattle.frame.specs.Layout.{resultPlace, dataPlace, sliceReply}
+use Rattle.reader.specs.Form.{formOf}
+use Rattle.reader.specs.declared.form.Fault.{Fault}
+use Rattle.reader.specs.declared.form.Form.{Form}
+use Rattle.reader.specs.declared.form.Form.the-variants.{WellFormed, Faulty}
+
+-- the form of a reply to an ask for a slice: "14 for a slice"
+abbrev pub sliceForm : ℕ → List ℕ → Form
+sliceForm address y = formOf address slice sliceReply y
+
+-- one value by the fault of a reply that is not well formed, else another
+abbrev pub ifFormed : {A : Type 0} → Form → (Fault → A) → A → A
+ifFormed (Faulty fault) f other = f fault
+ifFormed WellFormed f other = other
+
+abbrev pub resultOf : List ℕ → ℕ
+resultOf y = byteAt y resultPlace
+
+-- one value for a result that is not 0, else another
+abbrev pub ifOk : {A : Type 0} → ℕ → A → A → A
+ifOk result refused ok = cond (eqb result 0) ok refused
+
+pub record Row : Type 0 where
+  pub e+ : ℕ
+  pub e- : ℕ
+  pub r+ : ℕ
+  pub r- : ℕ
+
+abbrev pub row : ℕ → ℕ → ℕ → ℕ → Row
+row e+ e- r+ r- = record { e+ = e+; e- = e-; r+ = r+; r- = r- }
+
+-- "Data: E+, E-, R+, R-, 2 bytes each", behind address, function, parameter and result
+unfoldable pub rowOf : List ℕ → Row
+rowOf y = row (numberAt y dataPlace 2) (numberAt y (dataPlace + 2) 2) (numberAt y (dataPlace + 4) 2) (numberAt y (dataPlace + 6) 2)

@@ -1,0 +1,73 @@
+-- What a command that is done has passed: all of the table's checks, the access it needs among them.
+use mathlib.Core.Path.{_≡_, refl}
+use mathlib.Core.Bool.{Bool, true, false, false≢true}
+use mathlib.Core.List.{List}
+use Prim.Native.Nat.{ℕ, _+_}
+use lib.Dec.{eqb}
+use lib.ListN.{length}
+use Rattle.words.specs.Place.{byteAt}
+use Rattle.slots.specs.Day.{slotsOf}
+use Rattle.request.specs.Subject.{subjectOf, askable}
+use Rattle.meter_record.specs.declared.record.Record.{Record}
+use Rattle.frame.specs.Table.{rowOf, known}
+use Rattle.frame.specs.declared.table.Access.{Access}
+use Rattle.meter_clock.specs.Protection.{opened, isRunning, isProtection}
+use Rattle.meter_clock.specs.declared.protection.Level.{Level}
+use Rattle.meter_clock.specs.declared.protection.Level.the-variants.{Shut, Auxiliary, Main}
+use Rattle.frame.specs.declared.table.Access.the-variants as access
+use Rattle.meter_command.specs.Access.{isMain, isOpen, allows, changeAllowed}
+use Rattle.meter_command.specs.Judgement.{passed, checked, argumentFits, readVerdict, changeVerdict, zeroVerdict}
+use Rattle.meter_command.specs.Parts.{parameterIn, requestIn}
+use Rattle.meter_command.specs.Verdict.{isDone}
+
+pub record Accepted (k o l a f : Bool) : Type 0 where
+  pub knows : k ≡ true
+  pub opens : o ≡ true
+  pub lengthFits : l ≡ true
+  pub allowed : a ≡ true
+  pub fits : f ≡ true
+
+pub accepted : (k o l a f : Bool) → isDone (checked k o l a f) ≡ true → Accepted k o l a f
+unfolding checked passed
+accepted false o l a f h = absurd (false≢true h)
+accepted true false l a f h = absurd (false≢true h)
+accepted true true false a f h = absurd (false≢true h)
+accepted true true true false f h = absurd (false≢true h)
+accepted true true true true false h = absurd (false≢true h)
+accepted true true true true true h = record { knows = refl; opens = refl; lengthFits = refl; allowed = refl; fits = refl }
+
+-- ---- access that a command needs is a level that is open
+
+pub main-open : (l : Level) → isMain l ≡ true → isOpen l ≡ true
+main-open Shut h = absurd (false≢true h)
+main-open Auxiliary h = refl
+main-open Main h = refl
+
+pub allowed-open : (a : Access) (l : Level) → allows a l ≡ true → isOpen l ≡ true
+allowed-open access.Auxiliary l h = h
+allowed-open access.Main l h = main-open l h
+
+pub open-runs : (l : Level) → isOpen l ≡ true → isProtection (opened l) ≡ true
+unfolding isProtection isRunning
+open-runs Shut h = absurd (false≢true h)
+open-runs Auxiliary h = refl
+open-runs Main h = refl
+
+-- ---- what a read, a change and a zeroing that are done have passed
+
+pub read-accepted : (r : Record) (f : List ℕ) → isDone (readVerdict r f) ≡ true
+    → Accepted (known (rowOf (parameterIn f))) ((rowOf (parameterIn f)) .readable) (eqb (length f) 8) true
+    (askable (subjectOf (requestIn f) (slotsOf (r .minutes))))
+unfolding readVerdict
+read-accepted r f h = accepted _ _ _ _ _ h
+
+pub change-accepted : (r : Record) (f : List ℕ) → isDone (changeVerdict r f) ≡ true
+    → Accepted (known (rowOf (parameterIn f))) ((rowOf (parameterIn f)) .changeable) (eqb (length f) (6 + (rowOf (parameterIn f)) .«change_bytes»))
+    (changeAllowed (parameterIn f) (r .protection .level)) (argumentFits (parameterIn f) r f)
+unfolding changeVerdict
+change-accepted r f h = accepted _ _ _ _ _ h
+
+pub zero-accepted : (r : Record) (f : List ℕ) → isDone (zeroVerdict r f) ≡ true
+    → Accepted (known (rowOf (parameterIn f))) ((rowOf (parameterIn f)) .zeroable) (eqb (length f) 6) (isMain (r .protection .level)) (eqb (byteAt f 3) 0)
+unfolding zeroVerdict
+zero-accepted r f h = accepted _ _ _ _ _ h

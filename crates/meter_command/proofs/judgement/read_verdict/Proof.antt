@@ -1,0 +1,48 @@
+-- Each check is the definition's, by the table's row.
+use Rattle.meter_command.specs.Judgement.{readVerdict}
+use mathlib.Core.Path.{_∙_}
+use borrow.Author.Needs.{needs}
+use Rattle.meter_command.proofs.judgement.read_verdict.Statement.{statement}
+use Rattle.meter_command.proofs.judgement.read_verdict.Tie as tie
+
+parameter-in-requires : tie.Need-parameter-in-requires
+parameter-in-requires c κs = search needs
+
+row-of-requires : tie.Need-row-of-requires
+row-of-requires c κs = search needs
+
+slots-of-requires : tie.Need-slots-of-requires
+slots-of-requires c κs = search needs
+
+request-in-requires : tie.Need-request-in-requires
+request-in-requires c κs = search needs
+
+subject-of-requires : tie.Need-subject-of-requires
+subject-of-requires c κs = search needs
+
+is-askable-requires : tie.Need-is-askable-requires
+is-askable-requires c κs = search needs
+
+checked-requires : tie.Need-checked-requires
+checked-requires c κs = search needs
+
+returns : tie.Need-returns
+unfolding readVerdict
+returns c =
+    let at = c .before .before .before in
+    let row = at .before .before .before in
+    c .checked .ensures
+    ∙ rw (row .row-of .ensures, row .before .parameter-in .ensures, c .before .is-askable .ensures, at .subject-of .ensures, at .before .request-in .ensures, at .before .before .slots-of .ensures)
+
+pub read-verdict-spec : {M : Type 1} → statement M
+read-verdict-spec =
+    tie.close
+    (tie.spec
+    parameter-in-requires
+    row-of-requires
+    slots-of-requires
+    request-in-requires
+    subject-of-requires
+    is-askable-requires
+    checked-requires
+    returns)

@@ -1,0 +1,38 @@
+-- Each check is the definition's, by the table's row.
+use Rattle.meter_command.specs.Judgement.{zeroVerdict}
+use mathlib.Core.Path.{_∙_}
+use borrow.Author.Needs.{needs}
+use Rattle.meter_command.proofs.judgement.zero_verdict.Statement.{statement}
+use Rattle.meter_command.proofs.judgement.zero_verdict.Tie as tie
+
+parameter-in-requires : tie.Need-parameter-in-requires
+parameter-in-requires c κs = search needs
+
+row-of-requires : tie.Need-row-of-requires
+row-of-requires c κs = search needs
+
+is-main-requires : tie.Need-is-main-requires
+is-main-requires c κs = search needs
+
+byte-at-requires : tie.Need-byte-at-requires
+byte-at-requires c κs = search needs
+
+checked-requires : tie.Need-checked-requires
+checked-requires c κs = search needs
+
+returns : tie.Need-returns
+unfolding zeroVerdict
+returns c = let at = c .before .before .before .before .before in
+    c .checked .ensures
+    ∙ rw (at .row-of .ensures, at .before .parameter-in .ensures, c .before .before .is-main .ensures, c .before .byte-at .ensures)
+
+pub zero-verdict-spec : {M : Type 1} → statement M
+zero-verdict-spec =
+    tie.close
+    (tie.spec
+    parameter-in-requires
+    row-of-requires
+    is-main-requires
+    byte-at-requires
+    checked-requires
+    returns)

@@ -1,0 +1,5 @@
+pub mod Verdict
+pub mod Parts
+pub mod Access
+pub mod Change
+pub mod Judgement

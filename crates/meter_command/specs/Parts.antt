@@ -1,0 +1,45 @@
+-- The parts of a command's frame. Source: document 01, "Frames", and "Refusal numbers": "With functions 3, 16 and 30 a frame of 4 bytes
+-- counts as parameter 0 and gets 11; a refusal frame for an unknown function, or a command without a parameter, puts 0 there."
+use mathlib.Core.Bool.{Bool, true, false, cond}
+use mathlib.Core.List.{List}
+use Prim.Native.Nat.{ℕ}
+use lib.Dec.{leb}
+use lib.ListN.{length, drop}
+use Rattle.words.specs.Place.{byteAt}
+use Rattle.frame.specs.Code.{functionOf}
+use Rattle.frame.specs.Layout.{addressPlace, functionPlace, parameterPlace, detailPlace, dataPlace, shortest}
+use Rattle.frame.specs.Table.{parameterOf}
+use Rattle.frame.specs.declared.code.Function.{Function}
+use Rattle.frame.specs.declared.code.Function.the-variants as function
+use Rattle.frame.specs.declared.code.Parameter.{Parameter}
+use Rattle.request.specs.declared.request.Request.{Request}
+
+abbrev pub functionIn : List ℕ → Function
+functionIn f = functionOf (byteAt f functionPlace)
+
+-- the functions whose commands name a parameter: 3, 16 and 30
+abbrev pub named : Function → Bool
+named function.Read = true
+named function.Change = true
+named function.Zero = true
+named function.Unlock = false
+named function.Lock = false
+named function.Unknown = false
+
+-- the parameter's byte in a command and in its reply
+unfoldable pub parameterByte : List ℕ → ℕ
+parameterByte f = cond (leb (length f) shortest) 0 (cond (named (functionIn f)) (byteAt f parameterPlace) 0)
+
+abbrev pub parameterIn : List ℕ → Parameter
+parameterIn f = parameterOf (parameterByte f)
+
+-- "Read: function 3, then parameter, offset, tariff, detail"
+unfoldable pub requestIn : List ℕ → Request
+requestIn f = record { address = byteAt f addressPlace; parameter = byteAt f parameterPlace; offset = byteAt f 3; tariff = byteAt f 4; detail = byteAt f 5 }
+
+-- a change: "function 16, parameter, data", with a detail byte before the data (002, figure 5, page 6)
+abbrev pub detailIn : List ℕ → ℕ
+detailIn f = byteAt f detailPlace
+
+abbrev pub dataIn : List ℕ → List ℕ
+dataIn f = drop dataPlace f

@@ -1,0 +1,100 @@
+// Protection: which level a command needs, and the commands that open and shut a level.
+use crate::verdict::Verdict;
+use frame::layout;
+use frame::table::Access;
+use meter_clock::Level;
+use meter_record::Password;
+use meter_record::Passwords;
+ghost use mathlib.Core.Path.{_≡_};
+ghost use Rattle.meter_command.specs.Access.{isMain, isOpen, allows, passwordFor, levelFor, unlockVerdict, lockVerdict};
+
+// The levels as a command names them: main 0, auxiliary 1.
+const AUXILIARY: u8 = 1;
+
+pub fn is_main(level: Level) -> bool
+    ensures { λ r. ⌜ r ≡ isMain level ⌝ }
+{
+    match level {
+        Level::Shut => false,
+        Level::Auxiliary => false,
+        Level::Main => true,
+    }
+}
+
+fn is_open(level: Level) -> bool
+    ensures { λ r. ⌜ r ≡ isOpen level ⌝ }
+{
+    match level {
+        Level::Shut => false,
+        Level::Auxiliary => true,
+        Level::Main => true,
+    }
+}
+
+// Whether a level opens a change that needs the access.
+pub fn allows(access: Access, level: Level) -> bool
+    ensures { λ r. ⌜ r ≡ allows access level ⌝ }
+{
+    match access {
+        Access::Auxiliary => is_open(level),
+        Access::Main => is_main(level),
+    }
+}
+
+// The password of the level that a command names.
+fn password_for(p: Passwords, named: u8) -> u64
+    ensures { λ r. ⌜ r ≡ passwordFor p named ⌝ }
+{
+    let main = p.main;
+    let auxiliary = p.auxiliary;
+    if named == AUXILIARY {
+        auxiliary.0
+    } else {
+        main.0
+    }
+}
+
+pub fn level_for(named: u8) -> Level
+    ensures { λ r. ⌜ r ≡ levelFor named ⌝ }
+{
+    if named == AUXILIARY {
+        Level::Auxiliary
+    } else {
+        Level::Main
+    }
+}
+
+pub fn unlock_verdict(p: Passwords, frame: &[u8]) -> Verdict
+    ensures { λ r. ⌜ r ≡ unlockVerdict p (now (frame .entry)) ⌝ }
+{
+    let named = words::byte_at(frame, layout::DETAIL);
+    let right = password_for(p, named);
+    if frame.len() != layout::UNLOCK_BYTES {
+        return Verdict::WrongLength;
+    }
+    if AUXILIARY < named {
+        return Verdict::WrongArgument;
+    }
+    if words::u64_at(frame, layout::DATA) != right {
+        return Verdict::NoAccess;
+    }
+    if words::byte_at(frame, layout::PARAMETER) != 0 {
+        return Verdict::WrongArgument;
+    }
+    Verdict::Done
+}
+
+pub fn lock_verdict(frame: &[u8]) -> Verdict
+    ensures { λ r. ⌜ r ≡ lockVerdict (now (frame .entry)) ⌝ }
+{
+    if frame.len() != layout::BARE_BYTES {
+        return Verdict::WrongLength;
+    }
+    if words::byte_at(frame, layout::PARAMETER) != 0 {
+        return Verdict::WrongArgument;
+    }
+    if words::byte_at(frame, layout::DETAIL) != 0 {
+        return Verdict::WrongArgument;
+    }
+    Verdict::Done
+}

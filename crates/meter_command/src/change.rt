@@ -1,0 +1,107 @@
+// Changes: which fit, and the record after one. What the table of parameters does not open has no word here.
+use crate::remade;
+use figures::Telemetry;
+use frame::code;
+use frame::code::Parameter;
+use frame::layout;
+use frame::table;
+use meter_clock::SwitchDate;
+use meter_record::Password;
+use meter_record::Passwords;
+use meter_record::Record;
+ghost use mathlib.Core.Path.{_≡_};
+ghost use Rattle.meter_command.specs.Change.{telemetryFits, detailFits, dataFits, passwordsAfter, changed, zeroed};
+ghost use Rattle.frame.specs.Table.{codeOf};
+
+const AUXILIARY: u8 = 1;
+
+// Whether the detail is one that a change of the parameter has.
+pub fn detail_fits(from: u8, to: u8, detail: u8) -> bool
+    ensures { λ r. ⌜ r ≡ detailFits from to detail ⌝ }
+{
+    if detail < from {
+        return false;
+    }
+    detail <= to
+}
+
+fn telemetry_fits(t: Telemetry, stored: Telemetry) -> bool
+    ensures { λ r. ⌜ r ≡ telemetryFits t stored ⌝ }
+{
+    if t.ke != stored.ke {
+        return false;
+    }
+    meter_record::is_telemetry(t)
+}
+
+// Whether a change's data are a right argument.
+pub fn data_fits(p: Parameter, stored: Telemetry, bytes: &[u8]) -> bool
+    ensures { λ r. ⌜ r ≡ dataFits (codeOf p) stored (now (bytes .entry)) ⌝ }
+{
+    match table::code_of(p) {
+        code::ADDRESS => 1 <= words::byte_at(bytes, 0),
+        code::TELEMETRY => telemetry_fits(figures::telemetry_of(bytes), stored),
+        code::SUMMER_DATE => meter_clock::is_switchable(figures::date_time_of(bytes)),
+        code::WINTER_DATE => meter_clock::is_switchable(figures::date_time_of(bytes)),
+        code::CLOCK => calendar::is_time(figures::date_time_of(bytes)),
+        _ => true,
+    }
+}
+
+fn passwords_after(p: Passwords, detail: u8, password: u64) -> Passwords
+    ensures { λ r. ⌜ r ≡ passwordsAfter p detail password ⌝ }
+{
+    if detail == AUXILIARY {
+        Passwords {
+            auxiliary: Password(password),
+            ..p
+        }
+    } else {
+        Passwords {
+            main: Password(password),
+            ..p
+        }
+    }
+}
+
+// The record after a change that fits.
+pub fn changed(p: Parameter, r: Record, frame: &[u8]) -> Record
+    ensures { λ a. ⌜ a ≡ changed p r (now (frame .entry)) ⌝ }
+{
+    let passwords = r.passwords;
+    let bytes = words::tail(frame, layout::DATA);
+    match table::code_of(p) {
+        code::ADDRESS => remade::with_address(r, words::byte_at(bytes, 0)),
+        code::TELEMETRY => remade::with_telemetry(r, figures::telemetry_of(bytes)),
+        code::SUMMER_DATE => remade::with_summer(
+            r,
+            SwitchDate::ByHand(figures::date_time_of(bytes)),
+        ),
+        code::WINTER_DATE => remade::with_winter(
+            r,
+            SwitchDate::ByHand(figures::date_time_of(bytes)),
+        ),
+        code::CLOCK => remade::with_clock(r, figures::date_time_of(bytes)),
+        code::DISPLAY_MASK => remade::with_mask(r, figures::display_mask(bytes)),
+        code::PASSWORD => {
+            let detail = words::byte_at(frame, layout::DETAIL);
+            remade::with_passwords(
+                r,
+                passwords_after(passwords, detail, words::u64_at(bytes, 0)),
+            )
+        }
+        _ => r,
+    }
+}
+
+// The record after a zeroing.
+pub fn zeroed(p: Parameter, r: Record) -> Record
+    ensures { λ a. ⌜ a ≡ zeroed p r ⌝ }
+{
+    match table::code_of(p) {
+        code::SUMMER_DATE => remade::with_summer(r, SwitchDate::Automatic),
+        code::WINTER_DATE => remade::with_winter(r, SwitchDate::Automatic),
+        code::SLICE => remade::with_next(r, 0),
+        _ => r,
+    }
+}

@@ -1,0 +1,118 @@
+// What becomes of a command, by the record and the frame alone.
+use crate::access;
+use crate::change;
+use crate::parts;
+use crate::verdict::Verdict;
+use frame::code;
+use frame::code::Function;
+use frame::code::Parameter;
+use frame::layout;
+use frame::table;
+use meter_record::Record;
+ghost use mathlib.Core.Path.{_≡_};
+ghost use mathlib.Core.Bool.{Bool};
+ghost use Rattle.meter_command.specs.Judgement.{passed, checked, argumentFits, readVerdict, changeVerdict, zeroVerdict, verdictOf};
+
+// The table's order, 11 to 15.
+fn checked(known: bool, opens: bool, length_fits: bool, allowed: bool, fits: bool) -> Verdict
+    ensures { λ r. ⌜ r ≡ checked known opens «length_fits» allowed fits ⌝ }
+{
+    if known {
+        if opens {
+            return passed(length_fits, allowed, fits);
+        }
+        return Verdict::NotOpen;
+    }
+    Verdict::UnknownParameter
+}
+
+fn passed(length_fits: bool, allowed: bool, fits: bool) -> Verdict
+    ensures { λ r. ⌜ r ≡ passed «length_fits» allowed fits ⌝ }
+{
+    if length_fits {
+        if allowed {
+            if fits {
+                return Verdict::Done;
+            }
+            return Verdict::WrongArgument;
+        }
+        return Verdict::NoAccess;
+    }
+    Verdict::WrongLength
+}
+
+fn read_verdict(r: Record, frame: &[u8]) -> Verdict
+    ensures { λ a. ⌜ a ≡ readVerdict r (now (frame .entry)) ⌝ }
+{
+    let row = table::row_of(parts::parameter_in(frame));
+    let slots = slots::slots_of(r.minutes);
+    let subject = request::subject_of(parts::request_in(frame), slots);
+    checked(
+        row.code != code::UNKNOWN,
+        row.readable,
+        frame.len() == layout::READ_BYTES,
+        true,
+        request::is_askable(subject),
+    )
+}
+
+fn change_verdict(r: Record, frame: &[u8]) -> Verdict
+    ensures { λ a. ⌜ a ≡ changeVerdict r (now (frame .entry)) ⌝ }
+{
+    let p = parts::parameter_in(frame);
+    let row = table::row_of(p);
+    let access = row.access;
+    let protection = r.protection;
+    let level = protection.level;
+    checked(
+        row.code != code::UNKNOWN,
+        row.changeable,
+        frame.len() == layout::BARE_BYTES + row.change_bytes,
+        access::allows(access, level),
+        argument_fits(p, r, frame),
+    )
+}
+
+fn argument_fits(p: Parameter, r: Record, frame: &[u8]) -> bool
+    ensures { λ a. ⌜ a ≡ argumentFits p r (now (frame .entry)) ⌝ }
+{
+    let stored = r.telemetry;
+    let row = table::row_of(p);
+    if change::detail_fits(
+        row.detail_from,
+        row.detail_to,
+        words::byte_at(frame, layout::DETAIL),
+    ) {
+        return change::data_fits(p, stored, words::tail(frame, layout::DATA));
+    }
+    false
+}
+
+fn zero_verdict(r: Record, frame: &[u8]) -> Verdict
+    ensures { λ a. ⌜ a ≡ zeroVerdict r (now (frame .entry)) ⌝ }
+{
+    let row = table::row_of(parts::parameter_in(frame));
+    let protection = r.protection;
+    let level = protection.level;
+    checked(
+        row.code != code::UNKNOWN,
+        row.zeroable,
+        frame.len() == layout::BARE_BYTES,
+        access::is_main(level),
+        words::byte_at(frame, layout::DETAIL) == 0,
+    )
+}
+
+pub fn judge(r: Record, frame: &[u8]) -> Verdict
+    ensures { λ a. ⌜ a ≡ verdictOf r (now (frame .entry)) ⌝ }
+{
+    let passwords = r.passwords;
+    match parts::function_in(frame) {
+        Function::Read => read_verdict(r, frame),
+        Function::Change => change_verdict(r, frame),
+        Function::Zero => zero_verdict(r, frame),
+        Function::Unlock => access::unlock_verdict(passwords, frame),
+        Function::Lock => access::lock_verdict(frame),
+        Function::Unknown => Verdict::UnknownFunction,
+    }
+}

@@ -1,0 +1,61 @@
+// The parts of a command's frame.
+use frame::code;
+use frame::code::Function;
+use frame::code::Parameter;
+use frame::layout;
+use frame::table;
+use request::Request;
+ghost use mathlib.Core.Path.{_≡_};
+ghost use Rattle.meter_command.specs.Parts.{named, functionIn, parameterByte, parameterIn, requestIn};
+
+pub fn function_in(frame: &[u8]) -> Function
+    ensures { λ r. ⌜ r ≡ functionIn (now (frame .entry)) ⌝ }
+{
+    code::function_of(words::byte_at(frame, layout::FUNCTION))
+}
+
+// Whether the function's commands name a parameter.
+fn is_named(function: Function) -> bool
+    ensures { λ r. ⌜ r ≡ named function ⌝ }
+{
+    match function {
+        Function::Read => true,
+        Function::Change => true,
+        Function::Zero => true,
+        Function::Unlock => false,
+        Function::Lock => false,
+        Function::Unknown => false,
+    }
+}
+
+pub fn parameter_byte(frame: &[u8]) -> u8
+    ensures { λ r. ⌜ r ≡ parameterByte (now (frame .entry)) ⌝ }
+{
+    // No more than address, function and CRC.
+    if frame.len() <= layout::SHORTEST {
+        return 0;
+    }
+    if is_named(function_in(frame)) {
+        return words::byte_at(frame, layout::PARAMETER);
+    }
+    0
+}
+
+pub fn parameter_in(frame: &[u8]) -> Parameter
+    ensures { λ r. ⌜ r ≡ parameterIn (now (frame .entry)) ⌝ }
+{
+    table::parameter_of(parameter_byte(frame))
+}
+
+// The fields of a read.
+pub fn request_in(frame: &[u8]) -> Request
+    ensures { λ r. ⌜ r ≡ requestIn (now (frame .entry)) ⌝ }
+{
+    Request {
+        address: words::byte_at(frame, layout::ADDRESS),
+        parameter: words::byte_at(frame, layout::PARAMETER),
+        offset: words::byte_at(frame, layout::OFFSET),
+        tariff: words::byte_at(frame, layout::TARIFF),
+        detail: words::byte_at(frame, layout::READ_DETAIL),
+    }
+}

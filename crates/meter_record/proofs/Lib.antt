@@ -1,0 +1,3 @@
+pub mod PowerLaws
+pub mod DisplayLaws
+pub mod RangeLaws

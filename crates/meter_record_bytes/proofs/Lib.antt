@@ -1,0 +1,4 @@
+pub mod Part
+pub mod LevelLaws
+pub mod TimeLaws
+pub mod RecordLaws

@@ -1,0 +1,68 @@
+-- `record_with` meets its contract: each field that is read stands at the place that `recordWith` names; the others are handed in.
+use Rattle.meter_record_bytes.specs.Record.{recordWith}
+use borrow.Author.Needs.{needs}
+use Rattle.meter_record_bytes.proofs.record.record_with.Statement.{statement}
+use Rattle.meter_record_bytes.proofs.record.record_with.Tie as tie
+
+byte-at-requires : tie.Need-byte-at-requires
+byte-at-requires c κs = search needs
+
+byte-at-requires-2 : tie.Need-byte-at-requires-2
+byte-at-requires-2 c κs = search needs
+
+passwords-in-requires : tie.Need-passwords-in-requires
+passwords-in-requires c κs = search needs
+
+tail-requires : tie.Need-tail-requires
+tail-requires c κs = search needs
+
+telemetry-of-requires : tie.Need-telemetry-of-requires
+telemetry-of-requires c κs = search needs
+
+tail-requires-2 : tie.Need-tail-requires-2
+tail-requires-2 c κs = search needs
+
+display-mask-requires : tie.Need-display-mask-requires
+display-mask-requires c κs = search needs
+
+byte-at-requires-3 : tie.Need-byte-at-requires-3
+byte-at-requires-3 c κs = search needs
+
+u16-at-requires : tie.Need-u16-at-requires
+u16-at-requires c κs = search needs
+
+returns : tie.Need-returns
+unfolding recordWith
+returns c =
+    let byte-at = c .before .before .before .before .before .before .before .before .byte-at in
+    let byte-at2 = c .before .before .before .before .before .before .before .byte-at2 in
+    let passwords-in = c .before .before .before .before .before .before .passwords-in in
+    let tail = c .before .before .before .before .before .tail in
+    let telemetry-of = c .before .before .before .before .telemetry-of in
+    let tail2 = c .before .before .before .tail2 in
+    rw (
+      byte-at .ensures,
+      byte-at2 .ensures,
+      passwords-in .ensures,
+      telemetry-of .ensures,
+      tail .ensures,
+      c .before .before .display-mask .ensures,
+      tail2 .ensures,
+      c .before .byte-at3 .ensures,
+      c .u16-at .ensures,
+    )
+
+pub record-with-spec : {M : Type 1} → statement M
+record-with-spec =
+    tie.close
+    (tie.spec
+    byte-at-requires
+    byte-at-requires-2
+    passwords-in-requires
+    tail-requires
+    telemetry-of-requires
+    tail-requires-2
+    display-mask-requires
+    byte-at-requires-3
+    u16-at-requires
+    returns)

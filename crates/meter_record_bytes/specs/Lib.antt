@@ -1,0 +1,3 @@
+pub mod Level
+pub mod Time
+pub mod Record

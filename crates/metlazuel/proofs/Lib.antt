@@ -1,0 +1,3 @@
+pub mod BitsLaws
+pub mod WireLaws
+pub mod LogLaws

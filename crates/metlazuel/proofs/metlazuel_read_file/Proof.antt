@@ -1,0 +1,36 @@
+-- `metlazuel_read_file` meets its contract: what is told is what `read_file` ensures, with its number and the length that `length_after` ensures.
+use Rattle.metlazuel.specs.Calls.{sized}
+use Rattle.metlazuel.specs.LogCalls.{lengthAfter}
+use Rattle.logfile.specs.Read.{readNumber}
+use mathlib.Core.Path.{ap, ap₂, _∙_}
+use Prim.Native.Nat.{ℕ}
+use borrow.Author.Needs.{needs}
+use Rattle.refusal.specs.Outcome.{Outcome, outcome}
+use Rattle.logfile.specs.declared.read.ReadAnswer.{ReadAnswer}
+use mathlib.Core.List.{List}
+use Rattle.metlazuel.proofs.metlazuel_read_file.Statement.{statement}
+use Rattle.metlazuel.proofs.metlazuel_read_file.Tie as tie
+
+read-file-requires : tie.Need-read-file-requires
+read-file-requires c κs = search needs
+
+length-after-requires : tie.Need-length-after-requires
+length-after-requires c κs = search needs
+
+number-requires : tie.Need-number-requires
+number-requires c κs = search needs
+
+same-length : tie.Need-same-length
+same-length c = search needs
+
+returns : tie.Need-returns
+returns c =
+    let read = c .before .before .before .before .before in
+    let args = read .before .before .before .before .args in
+    ap₂ (λ (n l : ℕ). outcome n (l, read .read-file .last .1 .0)) (c .number .ensures) (c .before .length-after .ensures)
+    ∙ ap (λ (o : Outcome ReadAnswer (List ℕ)). sized readNumber lengthAfter o (args .length .now)) (read .read-file .ensures)
+
+pub metlazuel-read-file-spec : {M : Type 1} → statement M
+metlazuel-read-file-spec =
+    tie.close
+    (tie.spec read-file-requires length-after-requires number-requires same-length returns)

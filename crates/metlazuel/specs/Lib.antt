@@ -1,0 +1,5 @@
+pub mod Calls
+pub mod LogCalls
+pub mod Bits
+pub mod WireCalls
+pub mod MeterCalls

@@ -1,0 +1,89 @@
+-- What C is given of the log's calls. The open ask is four lent bytes.
+use mathlib.Core.Bool.{Bool, cond, _||_}
+use mathlib.Core.List.{List}
+use Prim.Native.Nat.{ℕ}
+use lib.Dec.{eqb}
+use lib.ListN.{length}
+use Rattle.refusal.specs.Outcome.{Outcome, outcome}
+use Rattle.words.specs.Place.{written}
+use Rattle.frame.specs.Layout.{readSize}
+use Rattle.log.specs.declared.header.Header.{Header}
+use Rattle.log.specs.declared.fresh.FreshAnswer.{FreshAnswer}
+use Rattle.log.specs.declared.fresh.FreshAnswer.the-variants as made
+use Rattle.logfile.specs.declared.read.ReadAnswer.{ReadAnswer}
+use Rattle.logfile.specs.declared.read.ReadAnswer.the-variants.{Done, WrongMark, WrongVersion, WrongHeader, WrongLength, WrongCrc, WrongCell, TooShort}
+use Rattle.logfile.specs.declared.write.WriteAnswer.{WriteAnswer}
+use Rattle.logfile.specs.declared.write.WriteAnswer.the-variants as wrote
+use Rattle.logger.specs.Ask as ask
+use Rattle.logger.specs.Take as take
+use Rattle.logger.specs.declared.ask.Asked.{Asked}
+use Rattle.logger.specs.declared.take.Taken.{Taken}
+use Rattle.logger.specs.declared.held.OpenAsk.{OpenAsk}
+use Rattle.logger.specs.declared.held.OpenAsk.the-variants.{Closed}
+use Rattle.c_values.specs.Ask.{askBytes}
+use Rattle.c_values.specs.declared.ask.AskRead.{AskRead}
+use Rattle.c_values.specs.declared.ask.AskRead.the-variants.{Read, Unreadable}
+use Rattle.metlazuel.specs.Calls.{unreadNumber, resultAfter}
+
+-- the numbers that C hands over, as a log's header
+abbrev pub headerFrom : ℕ → ℕ → ℕ → ℕ → ℕ → ℕ → Header
+headerFrom year month day days minutes ke =
+    record { start = record { year = year; month = month; day = day }; days = days; minutes = minutes; ke = ke }
+
+-- ---- the lent length: a fresh image's, a file's, a read image's, and untouched by a refusal
+
+unfoldable pub imageLength : FreshAnswer → ℕ → ℕ
+imageLength (made.Done n) before = n
+imageLength made.OutOfRange before = before
+imageLength made.TooShort before = before
+
+unfoldable pub fileLength : WriteAnswer → ℕ → ℕ
+fileLength (wrote.Done n) before = n
+fileLength wrote.Unsound before = before
+fileLength wrote.TooShort before = before
+
+unfoldable pub lengthAfter : ReadAnswer → ℕ → ℕ
+lengthAfter (Done n) before = n
+lengthAfter WrongMark before = before
+lengthAfter WrongVersion before = before
+lengthAfter WrongHeader before = before
+lengthAfter WrongLength before = before
+lengthAfter WrongCrc before = before
+lengthAfter WrongCell before = before
+lengthAfter TooShort before = before
+
+-- ---- asks, lapses and replies
+
+-- the ask's bytes: those of the ask that is held after the call where it was opened or closed, else untouched
+unfoldable pub askLeft : Bool → OpenAsk → List ℕ → List ℕ
+askLeft moved held bs = cond moved (written bs 0 (askBytes held)) bs
+
+-- left: the ask's bytes and the output. An ask that gets 0 is opened.
+abbrev pub askedForC : Outcome Asked (List ℕ) → List ℕ → Outcome ℕ (List ℕ × List ℕ)
+askedForC o bs =
+    let n = ask.numberOf (o .result .answer) in
+    outcome n (askLeft (eqb n 0) (o .result .held) bs, o .left)
+
+unfoldable pub askForC : AskRead → List ℕ → List ℕ → ℕ → ℕ → ℕ → List ℕ → Outcome ℕ (List ℕ × List ℕ)
+askForC (Read held) log bs address day slot out = askedForC (ask.asked log held address day slot out) bs
+askForC Unreadable log bs address day slot out = outcome (unreadNumber (length out) readSize) (bs, out)
+
+-- "A lapse closes it; with nothing open a lapse does nothing and answers 0"
+unfoldable pub lapseForC : AskRead → List ℕ → Outcome ℕ (List ℕ)
+lapseForC (Read held) bs = outcome 0 (written bs 0 (askBytes Closed))
+lapseForC Unreadable bs = outcome 28 bs
+
+-- the numbers with which a reply closes the ask: 0, and those with "ask closed"
+unfoldable pub closes : ℕ → Bool
+closes n = eqb n 0 || eqb n 24 || eqb n 25
+
+-- left: the meter's result, the log and the ask's bytes
+abbrev pub takenForC : Outcome Taken (List ℕ) → List ℕ → ℕ → List ℕ → Outcome ℕ (ℕ × List ℕ × List ℕ)
+takenForC o y before bs =
+    let n = take.numberOf (o .result .answer) in
+    outcome n (resultAfter n y before, o .left, askLeft (closes n) (o .result .held) bs)
+
+-- bytes that are no ask are 28 too
+unfoldable pub takeForC : AskRead → List ℕ → List ℕ → List ℕ → ℕ → Outcome ℕ (ℕ × List ℕ × List ℕ)
+takeForC (Read held) log bs y before = takenForC (take.taken log held y) y before bs
+takeForC Unreadable log bs y before = outcome 28 (before, log, bs)

@@ -1,0 +1,106 @@
+-- What C is given of the bench meter's calls, where the record is lent bytes. Source: document 01, "The bench meter's record" and "Refusal numbers".
+use mathlib.Core.Bool.{cond}
+use mathlib.Core.List.{List, [], _∷_}
+use Prim.Native.Nat.{ℕ}
+use lib.Dec.{ltb}
+use lib.Ieee.{binary32, ofBits}
+use lib.ListN.{length}
+use Rattle.refusal.specs.Outcome.{Outcome, outcome}
+use Rattle.words.specs.Place.{written}
+use Rattle.calendar.specs.declared.time.DateTime.{DateTime}
+use Rattle.figures.specs.declared.power.Phases.{Phases}
+use Rattle.figures.specs.declared.telemetry.Telemetry.{Telemetry}
+use Rattle.frame.specs.Layout.{longest}
+use Rattle.slots.specs.declared.key.Key.{Key}
+use Rattle.meter_record.specs.Record.{made, secondOf, setPowers, numberOf}
+use Rattle.meter_record.specs.declared.record.RecordAnswer.{RecordAnswer}
+use Rattle.meter_record.specs.declared.record.RecordAnswer.the-variants as answer
+use Rattle.meter_record_bytes.specs.Record.{recordSize, recordBytes}
+use Rattle.meter_record_bytes.specs.Time.{seasonOf}
+use Rattle.meter_record_bytes.specs.declared.record.RecordRead.{RecordRead}
+use Rattle.meter_record_bytes.specs.declared.record.RecordRead.the-variants.{Read, Unreadable}
+use Rattle.meter_record_bytes.specs.declared.time.SeasonRead.{SeasonRead}
+use Rattle.meter_record_bytes.specs.declared.time.SeasonRead.the-variants as season
+use Rattle.meter_command.specs.Parts.{functionIn}
+use Rattle.meter_command.specs.Verdict as verdict
+use Rattle.meter_reading.specs.Reading.{isRead}
+use Rattle.meter.specs.Bench.{slicePut}
+use Rattle.meter.specs.Reply as reply
+use Rattle.meter.specs.Reply.{answerOf}
+use Rattle.meter.specs.declared.reply.Answered.{Answered}
+use Rattle.metlazuel.specs.Calls.{unreadNumber}
+
+-- ---- the numbers that C hands over, as the figures that they are
+
+abbrev pub telemetryFrom : ℕ → ℕ → ℕ → Telemetry
+telemetryFrom k ke reserve = record { k = k; ke = ke; reserve = reserve }
+
+abbrev pub clockFrom : ℕ → ℕ → ℕ → ℕ → ℕ → ℕ → DateTime
+clockFrom year month day hour minute second =
+    record { date = record { year = year; month = month; day = day }; hour = hour; minute = minute; second = second }
+
+abbrev pub key : ℕ → ℕ → ℕ → Key
+key month day number = record { month = month; day = day; number = number }
+
+-- E+, E-, R+, R-
+abbrev pub row : ℕ → ℕ → ℕ → ℕ → List ℕ
+row e+ e- r+ r- = e+ ∷ e- ∷ r+ ∷ r- ∷ []
+
+abbrev pub phasesFrom : ℕ → ℕ → ℕ → Phases
+phasesFrom a b c = record { a = ofBits binary32 a; b = ofBits binary32 b; c = ofBits binary32 c }
+
+-- ---- the bench's calls on what was read: bytes that are no record count as one outside its ranges
+
+madeBy : SeasonRead → ℕ → ℕ → Telemetry → DateTime → RecordAnswer
+madeBy (season.Read s) address minutes telemetry clock = made address minutes telemetry clock s
+madeBy season.Unreadable address minutes telemetry clock = answer.OutOfRange
+
+-- a meter made; another season's byte is out of range
+unfoldable pub madeIn : ℕ → ℕ → Telemetry → DateTime → ℕ → RecordAnswer
+unfolding madeBy
+madeIn address minutes telemetry clock season = madeBy (seasonOf season) address minutes telemetry clock
+
+unfoldable pub secondIn : RecordRead → RecordAnswer
+secondIn (Read r) = secondOf r
+secondIn Unreadable = answer.Unsound
+
+unfoldable pub powersIn : RecordRead → ℕ → Phases → RecordAnswer
+powersIn (Read r) n p = setPowers r n p
+powersIn Unreadable n p = answer.Unsound
+
+unfoldable pub sliceIn : RecordRead → List ℕ → Key → List ℕ → Outcome RecordAnswer (List ℕ)
+sliceIn (Read r) s k row = slicePut r s k row
+sliceIn Unreadable s k row = outcome answer.Unsound s
+
+-- the record's bytes after them: those of the record after it, and untouched by a refusal
+unfoldable pub bytesAfter : RecordAnswer → List ℕ → List ℕ
+bytesAfter (answer.Done r) bs = written bs 0 (recordBytes r)
+bytesAfter answer.OutOfRange bs = bs
+bytesAfter answer.Unsound bs = bs
+
+abbrev pub benchForC : RecordAnswer → List ℕ → Outcome ℕ (List ℕ)
+benchForC a bs = outcome (numberOf a) (bytesAfter a bs)
+
+-- 1, then 27
+unfoldable pub makeForC : RecordAnswer → List ℕ → Outcome ℕ (List ℕ)
+makeForC a bs = cond (ltb (length bs) recordSize) (outcome 1 bs) (benchForC a bs)
+
+-- left: the record's bytes and the store
+abbrev pub putForC : Outcome RecordAnswer (List ℕ) → List ℕ → Outcome ℕ (List ℕ × List ℕ)
+putForC o bs = outcome (numberOf (o .result)) (bytesAfter (o .result) bs, o .left)
+
+-- ---- the answer to a frame
+
+-- the record's bytes after it: a refusal leaves them as they were, and a read too, which changes nothing of the record; any other command
+-- that is done leaves those of the record after it
+unfoldable pub bytesLeft : Answered → List ℕ → List ℕ → List ℕ
+bytesLeft a f bs = cond (verdict.isDone (a .verdict)) (cond (isRead (functionIn f)) bs (written bs 0 (recordBytes (a .after)))) bs
+
+-- left: the reply's length, the record's bytes, the store and the output
+abbrev pub answeredForC : reply.Outcome → List ℕ → List ℕ → Outcome ℕ (ℕ × List ℕ × List ℕ × List ℕ)
+answeredForC o f bs =
+    outcome (verdict.numberOf (o .answer .verdict)) (o .answer .length, bytesLeft (o .answer) f bs, o .store, o .out)
+
+unfoldable pub answerForC : RecordRead → List ℕ → List ℕ → List ℕ → List ℕ → Outcome ℕ (ℕ × List ℕ × List ℕ × List ℕ)
+answerForC (Read r) bs s f out = answeredForC (answerOf r s f out) f bs
+answerForC Unreadable bs s f out = outcome (unreadNumber (length out) longest) (0, bs, s, out)

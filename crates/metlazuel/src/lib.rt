@@ -1,0 +1,75 @@
+// The core's functions for firmware written in C: numbers and byte slices alone go in and out, and nothing is required of the caller
+// but memory that is as long as it says. A slice is a pointer and then its length, `&mut usize` a pointer. Each function hands its
+// arguments on to a proved one and answers with document 01's number.
+ghost use mathlib.Core.Path.{_≡_};
+ghost use Rattle.crc16.specs.Crc.{crcOf};
+ghost use Rattle.refusal.specs.Outcome.{outcome};
+ghost use Rattle.logfile.specs.Read.{readFile, readNumber};
+ghost use Rattle.dayreport.specs.Report.{reportOf, reportNumber};
+ghost use Rattle.metlazuel.specs.Calls.{numbered, sized};
+ghost use Rattle.metlazuel.specs.LogCalls.{lengthAfter};
+use logfile::ReadAnswer;
+
+mod answer_call;
+mod bench_meter;
+mod given;
+mod log_calls;
+mod wire_calls;
+
+pub use answer_call::metlazuel_meter_answer;
+pub use bench_meter::metlazuel_meter_make;
+pub use bench_meter::metlazuel_meter_powers;
+pub use bench_meter::metlazuel_meter_second;
+pub use bench_meter::metlazuel_meter_slice;
+pub use log_calls::metlazuel_ask;
+pub use log_calls::metlazuel_lapse;
+pub use log_calls::metlazuel_log_fresh;
+pub use log_calls::metlazuel_take;
+pub use log_calls::metlazuel_write_file;
+pub use wire_calls::metlazuel_decode;
+pub use wire_calls::metlazuel_request;
+
+// uint16_t metlazuel_crc16(const uint8_t *bytes, size_t n)
+#[no_mangle]
+pub extern "C" fn metlazuel_crc16(bytes: &[u8]) -> u16
+    ensures { λ r. ⌜ r ≡ crcOf (now (bytes .entry)) ⌝ }
+{
+    crc16::crc16(bytes)
+}
+
+// uint8_t metlazuel_read_file(const uint8_t *file, size_t n, uint8_t *out, size_t room, size_t *length)
+//
+// The image's length goes to `length`, which a refusal leaves as it was, as it leaves `out`.
+#[no_mangle]
+pub extern "C" fn metlazuel_read_file(file: &[u8], out: &mut [u8], length: &mut usize) -> u8
+    ensures { λ r. ⌜ outcome r (now (length .exit), now (out .exit))
+        ≡ sized readNumber lengthAfter (readFile (now (file .entry)) (now (out .entry))) (now (length .entry)) ⌝ }
+{
+    let answer = logfile::read_file(file, out);
+    *length = length_after(answer, *length);
+    answer.number()
+}
+
+// The image's length where there is one.
+fn length_after(answer: ReadAnswer, before: usize) -> usize
+    ensures { λ r. ⌜ r ≡ lengthAfter answer before ⌝ }
+{
+    match answer {
+        ReadAnswer::Done(n) => n,
+        ReadAnswer::WrongMark => before,
+        ReadAnswer::WrongVersion => before,
+        ReadAnswer::WrongHeader => before,
+        ReadAnswer::WrongLength => before,
+        ReadAnswer::WrongCrc => before,
+        ReadAnswer::WrongCell => before,
+        ReadAnswer::TooShort => before,
+    }
+}
+
+// uint8_t metlazuel_day_report(const uint8_t *log, size_t n, uint8_t day, uint32_t *row, size_t room)
+#[no_mangle]
+pub extern "C" fn metlazuel_day_report(log: &[u8], day: u8, row: &mut [u32]) -> u8
+    ensures { λ r. ⌜ outcome r (now (row .exit)) ≡ numbered reportNumber (reportOf (now (log .entry)) day (now (row .entry))) ⌝ }
+{
+    dayreport::day_report(log, day, row).number()
+}

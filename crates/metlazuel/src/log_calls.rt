@@ -1,0 +1,174 @@
+// The log for C: fresh logs, files, and asks, lapses and replies. A log is its image, and the open ask four bytes, which firmware keeps
+// between the calls; bytes that are no ask count as an unsound log: 28. A refusal leaves what is lent, but for the open ask where document
+// 01's table closes it.
+use crate::given;
+use c_values::AskRead;
+use calendar::Date;
+use frame::layout::READ_BYTES;
+use log::FreshAnswer;
+use log::Header;
+use logfile::WriteAnswer;
+use logger::OpenAsk;
+ghost use mathlib.Core.Path.{_≡_};
+ghost use Rattle.refusal.specs.Outcome.{outcome};
+ghost use Rattle.log.specs.Fresh.{freshOf, freshNumber};
+ghost use Rattle.logfile.specs.Write.{writtenFile, writeNumber};
+ghost use Rattle.c_values.specs.Ask.{askOf};
+ghost use Rattle.metlazuel.specs.Calls.{sized};
+ghost use Rattle.metlazuel.specs.LogCalls.{headerFrom, imageLength, fileLength, askLeft, askForC, lapseForC, closes, takeForC};
+
+// uint8_t metlazuel_log_fresh(uint8_t *log, size_t room, uint8_t year, uint8_t month, uint8_t day, uint8_t days, uint8_t minutes,
+//     uint16_t ke, size_t *length)
+//
+// A fresh log; `year` counts from 2000. The image's length goes to `length`.
+#[no_mangle]
+pub extern "C" fn metlazuel_log_fresh(
+    log: &mut [u8],
+    year: u8,
+    month: u8,
+    day: u8,
+    days: u8,
+    minutes: u8,
+    ke: u16,
+    length: &mut usize,
+) -> u8
+    ensures { λ n. ⌜ outcome n (now (length .exit), now (log .exit))
+        ≡ sized freshNumber imageLength (freshOf (headerFrom year month day days minutes ke) (now (log .entry))) (now (length .entry)) ⌝ }
+{
+    let header = Header {
+        start: Date {
+            year: year,
+            month: month,
+            day: day,
+        },
+        days: days,
+        minutes: minutes,
+        ke: ke,
+    };
+    let answer = log::fresh_log(header, log);
+    *length = image_length(answer, *length);
+    answer.number()
+}
+
+// The image's length where there is one.
+fn image_length(answer: FreshAnswer, before: usize) -> usize
+    ensures { λ r. ⌜ r ≡ imageLength answer before ⌝ }
+{
+    match answer {
+        FreshAnswer::Done(n) => n,
+        FreshAnswer::OutOfRange => before,
+        FreshAnswer::TooShort => before,
+    }
+}
+
+// uint8_t metlazuel_write_file(const uint8_t *log, size_t n, uint8_t *out, size_t room, size_t *length)
+//
+// The file's length goes to `length`.
+#[no_mangle]
+pub extern "C" fn metlazuel_write_file(log: &[u8], out: &mut [u8], length: &mut usize) -> u8
+    ensures { λ n. ⌜ outcome n (now (length .exit), now (out .exit))
+        ≡ sized writeNumber fileLength (writtenFile (now (log .entry)) (now (out .entry))) (now (length .entry)) ⌝ }
+{
+    let answer = logfile::write_file(log, out);
+    *length = file_length(answer, *length);
+    answer.number()
+}
+
+// The file's length where there is one.
+fn file_length(answer: WriteAnswer, before: usize) -> usize
+    ensures { λ r. ⌜ r ≡ fileLength answer before ⌝ }
+{
+    match answer {
+        WriteAnswer::Done(n) => n,
+        WriteAnswer::Unsound => before,
+        WriteAnswer::TooShort => before,
+    }
+}
+
+// uint8_t metlazuel_ask(const uint8_t *log, size_t n, uint8_t *ask, size_t size, uint8_t address, uint8_t day, uint8_t slot, uint8_t *out,
+//     size_t room)
+//
+// Opens an ask for a slot of a day, both counted from 0; its frame goes to the front of `out`.
+#[no_mangle]
+pub extern "C" fn metlazuel_ask(
+    log: &[u8],
+    ask: &mut [u8],
+    address: u8,
+    day: u8,
+    slot: u8,
+    out: &mut [u8],
+) -> u8
+    ensures { λ n. ⌜ outcome n (now (ask .exit), now (out .exit))
+        ≡ askForC (askOf (now (ask .entry))) (now (log .entry)) (now (ask .entry)) address day slot (now (out .entry)) ⌝ }
+{
+    let AskRead::Read(held) = c_values::ask_of(ask) else {
+        return given::unread_number(out.len(), READ_BYTES);
+    };
+    let asked = logger::put_ask(log, held, address, day, slot, out);
+    let answer = asked.answer;
+    let left = asked.held;
+    let number = answer.number();
+    put_left(ask, number == refusal::DONE, left);
+    number
+}
+
+// The bytes of the ask that is held after a call that opened or closed it.
+fn put_left(ask: &mut [u8], moved: bool, held: OpenAsk)
+    ensures { λ _. ⌜ now (ask .exit) ≡ askLeft moved held (now (ask .entry)) ⌝ }
+{
+    if moved {
+        c_values::put_ask(ask, held);
+    }
+}
+
+// uint8_t metlazuel_lapse(uint8_t *ask, size_t size)
+//
+// No reply came.
+#[no_mangle]
+pub extern "C" fn metlazuel_lapse(ask: &mut [u8]) -> u8
+    ensures { λ n. ⌜ outcome n (now (ask .exit)) ≡ lapseForC (askOf (now (ask .entry))) (now (ask .entry)) ⌝ }
+{
+    let AskRead::Read(held) = c_values::ask_of(ask) else {
+        return refusal::UNSOUND;
+    };
+    c_values::put_ask(ask, logger::lapse(held));
+    refusal::DONE
+}
+
+// uint8_t metlazuel_take(uint8_t *log, size_t n, uint8_t *ask, size_t size, const uint8_t *reply, size_t bytes, uint8_t *result)
+//
+// Takes a reply for the open ask. A meter's result that is not 0 goes to `result`.
+#[no_mangle]
+pub extern "C" fn metlazuel_take(
+    log: &mut [u8],
+    ask: &mut [u8],
+    reply: &[u8],
+    result: &mut u8,
+) -> u8
+    ensures { λ n. ⌜ outcome n (now (result .exit), now (log .exit), now (ask .exit))
+        ≡ takeForC (askOf (now (ask .entry))) (now (log .entry)) (now (ask .entry)) (now (reply .entry)) (now (result .entry)) ⌝ }
+{
+    let AskRead::Read(held) = c_values::ask_of(ask) else {
+        return refusal::UNSOUND;
+    };
+    let taken = logger::take_reply(log, held, reply);
+    let answer = taken.answer;
+    let left = taken.held;
+    let number = answer.number();
+    put_left(ask, closes(number), left);
+    *result = given::result_after(number, reply, *result);
+    number
+}
+
+// Whether a reply that got the number closed the ask.
+fn closes(number: u8) -> bool
+    ensures { λ r. ⌜ r ≡ closes number ⌝ }
+{
+    if number == refusal::DONE {
+        return true;
+    }
+    if number == refusal::METER_REFUSED {
+        return true;
+    }
+    number == refusal::OTHER_COUNTS
+}

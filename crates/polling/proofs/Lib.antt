@@ -1,0 +1,4 @@
+pub mod NextLaws
+pub mod ReplyLaws
+pub mod FateLaws
+pub mod ReachedLaws

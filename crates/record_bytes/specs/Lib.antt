@@ -1,6 +1,0 @@
-pub mod Part
-pub mod Level
-pub mod Power
-pub mod Time
-pub mod Record
-pub mod RecordLaws

@@ -1,3 +1,0 @@
-pub mod Protection
-pub mod Season
-pub mod SecondLaws

@@ -1,4 +1,0 @@
-pub mod Store
-pub mod FindLaws
-pub mod FourLaws
-pub mod StoreLaws

@@ -1,0 +1,4 @@
+pub mod DecimalLaws
+pub mod DateTextLaws
+pub mod HexLaws
+pub mod ReadingLaws
