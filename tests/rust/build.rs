@@ -2,8 +2,8 @@
 
 use std::path::Path;
 
-/// Where `rt staticlib firmware` leaves the archive, as `benchmarks/run` has it.
-const ARCHIVE: &str = "../../target/staticlib/libfirmware.a";
+/// Where `rt staticlib metlazuel` leaves the archive, as `tests/archive` has it.
+const ARCHIVE: &str = "../../target/staticlib/libmetlazuel.a";
 
 fn main() {
     println!("cargo:rerun-if-changed=build.rs");
@@ -21,6 +21,6 @@ fn link() {
 }
 
 fn missing() {
-    eprintln!("no archive at {ARCHIVE}: build it in the project's root with `rt staticlib firmware`");
+    eprintln!("no archive at {ARCHIVE}: build it in the project's root with `rt staticlib metlazuel`");
     std::process::exit(1);
 }

@@ -19,7 +19,7 @@ const HOUR_SECONDS: u32 = 3_600;
 
 /// Leap years of 2000 to 2099 are those that four divides (2000 is one by the rule of 400).
 fn leap(year: u8) -> bool {
-    year.is_multiple_of(4)
+    year % 4 == 0
 }
 
 pub fn month_length(year: u8, month: u8) -> u8 {

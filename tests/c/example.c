@@ -1,5 +1,5 @@
 // A day in small: a bench meter with one slice, a log that asks it for the first three half hours, the day's report, the log's file, and
-// the meter's clock and powers read without a log. What it prints stands in example.out; `include/check` builds, runs and compares it, as C
+// the meter's clock and powers read without a log. What it prints stands in example.out; `tests/c/run` builds, runs and compares it, as C
 // and as C++.
 #include <stdio.h>
 #include <stdlib.h>
