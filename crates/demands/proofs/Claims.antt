@@ -55,6 +55,8 @@ pub demand-3 : Demand3
 demand-3 = record {
   fresh = history.fresh;
   file = history.file;
+  fresh-had = history.fresh-had;
+  file-had = history.file-had;
   log = history.log;
   answers = history.answers;
   ask-left = history.ask-left;

@@ -28,14 +28,14 @@ use Rattle.meter_record.specs.Record.{fresh}
 use Rattle.meter_command.specs.Change.{telemetryFits, dataFits}
 use Rattle.meter_command.specs.Judgement.{verdictOf, verdictBy, changeVerdict, checked, passed, argumentFits}
 use Rattle.meter_command.specs.Parts.{parameterByte}
-use Rattle.calendar.specs.Count.{starts}
-use Rattle.calendar.specs.Date.{dayNumber, lengthOf, daysInMonth, monthLengths, leap, isDate}
+use Rattle.calendar.specs.Count.{starts, countOff}
+use Rattle.calendar.specs.Date.{dateOf, dateAt, dayNumber, lengthOf, daysInMonth, monthLengths, leap, isDate}
 use Rattle.calendar.specs.Sunday.{lastSunday}
 use Rattle.demands.specs.Examples.{all, examples}
 
 pub together : all examples ≡ true
-unfolding all examples framed bytesOf requestFrame crcOf crcFrom byteStep eightBits times bitStep lastSunday dayNumber starts lengthOf daysInMonth
-    monthLengths leap runOf step Ask.asked Take.taken Take.decided Take.updated Take.updateOf Take.sameCounts rowOf formOf lengthFor functionFor headOf
+unfolding all examples framed bytesOf requestFrame crcOf crcFrom byteStep eightBits times bitStep lastSunday dateOf dateAt countOff dayNumber starts
+    lengthOf daysInMonth monthLengths leap runOf step Ask.asked Take.taken Take.decided Take.updated Take.updateOf Take.sameCounts rowOf formOf lengthFor functionFor headOf
     crcFits numberAt number written isDate isMinutes slotsOf cellsOf log.lengthOf daysRight isHeader dateBytes headerBytes headerAt markRight
     versionRight fieldsRight headerOf fittedTo soundOf noCounts kindBytes cellBytes kindCell cellOf cellAt putCell applied cellsBytes imageOf
     intervalOf gaps freshImage verdictOf verdictBy changeVerdict checked passed argumentFits telemetryFits isTelemetry parameterByte functionOf

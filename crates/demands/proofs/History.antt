@@ -1,24 +1,30 @@
 -- Demand 3: a list of calls by its steps, the start, and what a call leaves alone.
-use mathlib.Core.Path.{_≡_, refl, sym, ap, ap₂, _∙_}
+use mathlib.Core.Path.{_≡_, refl, sym, ap, ap₂, subst, _∙_}
 use mathlib.Core.Bool.{Bool, true, false, cond, not, false≢true}
-use mathlib.Core.List.{List, [], _∷_}
-use Prim.Native.Nat.{ℕ}
+use mathlib.Core.List.{List, [], _∷_, _++_}
+use Prim.Native.Nat.{ℕ, _+_, _<_, _≤_}
 use native.Mathlib.Nat.{zero-add}
 use native.Mathlib.Omega.{arith}
-use borrow.Author.Tests.{ltb-true, ltb-false}
-use lib.Dec.{ltb}
-use lib.ListN.{length, take, getD, List·getD-eq-default}
-use lib.Seq.{ext-getD}
+use borrow.Author.Tests.{leb-true, leb-false, ltb-true, ltb-false}
+use lib.Dec.{leb, ltb}
+use lib.ListN.{length, take, drop, getD, List·getD-eq-default}
+use lib.Seq.{ext-getD, length-take-le, take-all, take-at}
+use Rattle.case_laws.proofs.Test.{chosen}
+use Rattle.refusal.specs.Outcome.{Outcome, outcome}
+use Rattle.frame.specs.Layout.{crcSize}
+use Rattle.frame.proofs.SealingLaws.{length-framed}
 use Rattle.words.specs.Number.{Bytes}
 use Rattle.words.specs.Place.{byteAt}
 use Rattle.words.proofs.PlaceLaws.{byteAt-kept}
 use Rattle.log.specs.Cell.{isCell, noCounts, cellBytes, IsCell}
 use Rattle.log.proofs.CellLaws.{length-cellBytes, gap-is-cell}
-use Rattle.log.specs.Fresh.{freshImage, gaps}
-use Rattle.log.proofs.FreshLaws.{length-gaps, gap-at}
-use Rattle.log.specs.Header.{isHeader, cellsOf, soundOf}
+use Rattle.log.specs.Fresh.{freshImage, freshNumber, freshOf, gaps}
+use Rattle.log.specs.declared.fresh.FreshAnswer.{FreshAnswer}
+use Rattle.log.specs.declared.fresh.FreshAnswer.the-variants as made
+use Rattle.log.proofs.FreshLaws.{length-gaps, length-freshImage, gap-at, fresh-front}
+use Rattle.log.specs.Header.{isHeader, cellsOf, lengthOf, soundOf}
 use Rattle.log.specs.Image.{cellStart, putCell, applied, imageOf, AllCells}
-use Rattle.log.proofs.ImageLaws.{length-putCell}
+use Rattle.log.proofs.ImageLaws.{length-putCell, sound-image}
 use Rattle.log.specs.declared.cell.Cell.{Cell}
 use Rattle.log.specs.declared.cell.Cell.the-variants.{Gap, Empty, Measured}
 use Rattle.log.specs.declared.header.Header.{Header}
@@ -33,8 +39,12 @@ use Rattle.logger.specs.Run.{State, step, run}
 use Rattle.logger.proofs.StepLaws.{stateOf, Sane, step-agrees, step-sane}
 use Rattle.logger.specs.declared.held.OpenAsk.{OpenAsk}
 use Rattle.logger.specs.declared.take.Decision.{Decision}
-use Rattle.logfile.specs.File.{Accepted}
-use Rattle.logfile.proofs.FileLaws.{accepted-image}
+use Rattle.logfile.specs.File.{fileOf, cellsGood}
+use Rattle.logfile.specs.Read.{readFile}
+use Rattle.logfile.specs.declared.read.ReadAnswer.{ReadAnswer}
+use Rattle.logfile.specs.declared.read.ReadAnswer.the-variants as read
+use Rattle.logfile.proofs.FileLaws.{Accepted, accepted, accepted-image, read-written}
+use Rattle.logfile.proofs.WalkLaws.{good-image}
 use Rattle.polling.specs.Reached.{Polled}
 use Rattle.demands.specs.Demand3.{Start, begin, ran, booked, logAfresh, Elsewhere}
 
@@ -146,9 +156,9 @@ as-long s (reply y) = length-stays s y
 
 -- ---- from every start
 
-pub fresh : (h : Header) → isHeader h ≡ true → Start (freshImage h)
+fresh-start : (h : Header) → isHeader h ≡ true → Start (freshImage h)
 unfolding freshImage
-fresh h e = record {
+fresh-start h e = record {
   header = h;
   cells = gaps (cellsOf h);
   right = e;
@@ -157,10 +167,57 @@ fresh h e = record {
   image = refl;
 }
 
-pub file : (f out y : List ℕ) (n : ℕ) → Bytes f → Accepted f out y n → Start (take n f)
-file f out y n k a =
+-- a refusal of a fresh log is not `Done`
+refused : (a : FreshAnswer) (x y : List ℕ) (n : ℕ) → 0 < freshNumber a → outcome a x ≡ outcome (made.Done n) y → ⊥
+refused a x y n l p = omega (arith, ap (λ (o : Outcome FreshAnswer (List ℕ)). freshNumber (o .result)) p)
+
+pub fresh : (h : Header) (out : List ℕ) (n : ℕ) → freshOf h out .result ≡ made.Done n → Start (take n (freshOf h out .left))
+unfolding freshOf
+fresh h out n p =
+    let y = freshOf h out .left in
+    let q : freshOf h out ≡ outcome (made.Done n) y = ap (λ (a : FreshAnswer). outcome a y) p in
+    let r = chosen (isHeader h) _ (outcome made.OutOfRange out) q (refused made.OutOfRange out y n (omega arith)) in
+    let l = chosen (leb (lengthOf h) (length out)) _ (outcome made.TooShort out) (r .1) (refused made.TooShort out y n (omega arith)) in
+    let d : made.Done (lengthOf h) ≡ made.Done n = ap (λ (o : Outcome FreshAnswer (List ℕ)). o .result) (l .1) in
+    let k : lengthOf h ≡ n = cc in
+    let given : y ≡ freshImage h ++ drop (lengthOf h) out = ap (λ (o : Outcome FreshAnswer (List ℕ)). o .left) (fresh-front h out (r .0) (leb-true _ _ (l .0))) in
+    let front : take n y ≡ freshImage h = ap (take n) given ∙ take-at (freshImage h) (drop (lengthOf h) out) n (length-freshImage h ∙ k) in
+    subst Start (sym front) (fresh-start h (r .0))
+
+-- an accepted file is longer than its image
+image-size : (f out y : List ℕ) (n : ℕ) → Accepted f out y n → length (take n f) ≡ n
+image-size f out y n a = go (leb n (length f)) refl
+  where
+    go : (b : Bool) → leb n (length f) ≡ b → length (take n f) ≡ n
+    go true e = length-take-le n f (leb-true _ _ e)
+    go false e =
+        let short : length f < n = leb-false n (length f) e in
+        let whole : length (take n f) ≡ length f = ap length (take-all n f (omega arith)) in
+        let more : length f ≡ length (take n f) + crcSize = ap length (a .file) ∙ length-framed (take n f) in
+        omega arith
+
+pub file : (f out : List ℕ) (n : ℕ) → Bytes f → readFile f out .result ≡ read.Done n → Start (take n (readFile f out .left))
+file f out n k p =
+    let y = readFile f out .left in
+    let a = accepted f out y n k (ap (λ (r : ReadAnswer). outcome r y) p) in
     let i = accepted-image f out y n k a in
-    record { header = a .header; cells = i .cells; right = i .header; count = i .count; each = i .each; image = i .image }
+    let front : take n y ≡ take n f = ap (take n) (a .given) ∙ take-at (take n f) (drop n out) n (image-size f out y n a) in
+    subst Start (sym front) (record { header = a .header; cells = i .cells; right = i .header; count = i .count; each = i .each; image = i .image })
+
+start-sound : (s : List ℕ) (start : Start s) → soundOf s ≡ Sound (start .header)
+start-sound s start = ap soundOf (start .image) ∙ sound-image (start .header) (start .cells) (start .right) (start .count)
+
+start-good : (s : List ℕ) (start : Start s) → cellsGood s (cellsOf (start .header)) ≡ true
+start-good s start =
+    ap (λ (x : List ℕ). cellsGood x (cellsOf (start .header))) (start .image) ∙ good-image (start .header) (start .cells) (start .each) (start .count)
+
+pub fresh-had : (h : Header) (out : List ℕ) → isHeader h ≡ true → lengthOf h ≤ length out
+    → freshOf h out ≡ outcome (made.Done (lengthOf h)) (freshImage h ++ drop (lengthOf h) out)
+fresh-had h out e l = fresh-front h out e l
+
+pub file-had : (s out : List ℕ) → Start s → Bytes s → length s ≤ length out
+    → readFile (fileOf s) out ≡ outcome (read.Done (length s)) (s ++ drop (length s) out)
+file-had s out start k l = read-written s out (start .header) k (start-sound s start) (start-good s start) l
 
 module _ (s : List ℕ) (start : Start s) (calls : List Call) (k : AllBytes calls) where
   b : Book

@@ -5,20 +5,23 @@
 -- is the plain book's (`logger/specs/Book.antt`), which never sees an image. Proofs: `demand-3`, proofs/Claims.antt.
 use mathlib.Core.Path.{_≡_}
 use mathlib.Core.Bool.{true}
-use mathlib.Core.List.{List}
-use Prim.Native.Nat.{ℕ}
-use lib.ListN.{length, take}
-use Rattle.refusal.specs.Outcome.{Outcome}
+use mathlib.Core.List.{List, _++_}
+use Prim.Native.Nat.{ℕ, _≤_}
+use lib.ListN.{length, take, drop}
+use Rattle.refusal.specs.Outcome.{Outcome, outcome}
 use Rattle.words.specs.Number.{Bytes}
 use Rattle.words.specs.Place.{Apart, byteAt}
 use Rattle.log.specs.Cell.{cellSize}
-use Rattle.log.specs.Fresh.{freshImage}
-use Rattle.log.specs.Header.{isHeader, cellsOf, soundOf}
+use Rattle.log.specs.Fresh.{freshImage, freshOf}
+use Rattle.log.specs.declared.fresh.FreshAnswer.the-variants as made
+use Rattle.log.specs.Header.{isHeader, cellsOf, lengthOf, soundOf}
 use Rattle.log.specs.Image.{cellStart, imageOf, AllCells}
 use Rattle.log.specs.declared.cell.Cell.{Cell}
 use Rattle.log.specs.declared.header.Header.{Header}
 use Rattle.log.specs.declared.header.Lent.the-variants.{Sound}
-use Rattle.logfile.specs.File.{Accepted}
+use Rattle.logfile.specs.File.{fileOf}
+use Rattle.logfile.specs.Read.{readFile}
+use Rattle.logfile.specs.declared.read.ReadAnswer.the-variants as read
 use Rattle.logger.specs.Book.{Call, Answer, Book, startBook, bookRun, workedOut, AllBytes}
 use Rattle.logger.specs.Held.{OpenFor}
 use Rattle.logger.specs.Run.{State, step, run}
@@ -53,9 +56,14 @@ abbrev pub Elsewhere : State → ℕ → Type 0
 Elsewhere s j = (h : Header) (i : ℕ) → soundOf (s .log) ≡ Sound h → OpenFor h (s .held) i → Apart j 1 (cellStart i) cellSize
 
 pub record Demand3 : Type 0 where
-  -- "Take a fresh log, or one read from a file"
-  pub fresh : (h : Header) → isHeader h ≡ true → Start (freshImage h)
-  pub file : (f out y : List ℕ) (n : ℕ) → Bytes f → Accepted f out y n → Start (take n f)
+  -- "Take a fresh log, or one read from a file": what `fresh_log` and `read_file` say is done stands at the front of the lent bytes and is a
+  -- start; and with the room for it, every right header's fresh log and every start's file are done, and stand there
+  pub fresh : (h : Header) (out : List ℕ) (n : ℕ) → freshOf h out .result ≡ made.Done n → Start (take n (freshOf h out .left))
+  pub file : (f out : List ℕ) (n : ℕ) → Bytes f → readFile f out .result ≡ read.Done n → Start (take n (readFile f out .left))
+  pub fresh-had : (h : Header) (out : List ℕ) → isHeader h ≡ true → lengthOf h ≤ length out
+      → freshOf h out ≡ outcome (made.Done (lengthOf h)) (freshImage h ++ drop (lengthOf h) out)
+  pub file-had : (s out : List ℕ) → Start s → Bytes s → length s ≤ length out
+      → readFile (fileOf s) out ≡ outcome (read.Done (length s)) (s ++ drop (length s) out)
   -- "After every such list the log is byte for byte the one worked out afresh from that history."
   pub log : (s : List ℕ) (start : Start s) (calls : List Call) → AllBytes calls → ran s calls .left .log ≡ logAfresh start calls
   -- "Every answer, and the ask left open, are those of document 01's plain book."

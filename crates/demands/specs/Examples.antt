@@ -8,9 +8,9 @@ use lib.ListN.{take, drop, replicate}
 use Rattle.refusal.specs.Outcome.{Outcome}
 use Rattle.words.specs.Number.{bytesOf}
 use Rattle.frame.specs.Sealing.{framed}
-use Rattle.request.specs.Request.{requestFrame}
 use Rattle.log.specs.Fresh.{freshImage}
 use Rattle.log.specs.Image.{cellStart}
+use Rattle.logger.specs.Ask.{asked}
 use Rattle.logger.specs.Book.{Call, ask, reply, Answer}
 use Rattle.logger.specs.Run.{State, run}
 use Rattle.logger.specs.declared.held.OpenAsk.the-variants.{Closed}
@@ -39,6 +39,10 @@ unfoldable pub all : List Bool → Bool
 all [] = true
 all (b ∷ bs) = b && all bs
 
+-- P4, P9: a fresh log that starts on 17 May
+abbrev fresh-log : List ℕ
+fresh-log = freshImage (record { start = record { year = 24; month = 5; day = 17 }; days = 1; minutes = 30; ke = 100 })
+
 -- P9: three replies on one cell of a fresh log
 abbrev slice-reply : ℕ → ℕ → List ℕ
 slice-reply e+ r+ = framed (1 ∷ 3 ∷ 36 ∷ 0 ∷ (bytesOf 2 e+ ++ (bytesOf 2 0 ++ (bytesOf 2 r+ ++ bytesOf 2 0))))
@@ -48,8 +52,7 @@ first-slot = ask 1 0 0 (replicate 8 0)
 
 three-replies : Outcome (List Answer) State
 three-replies =
-    run (record { log = freshImage (record { start = record { year = 24; month = 5; day = 17 }; days = 1; minutes = 30; ke = 100 }); held = Closed })
-    (first-slot ∷ reply (slice-reply 0 0) ∷ first-slot ∷ reply (slice-reply 12 3) ∷ first-slot ∷ reply (slice-reply 13 3) ∷ [])
+    run (record { log = fresh-log; held = Closed }) (first-slot ∷ reply (slice-reply 0 0) ∷ first-slot ∷ reply (slice-reply 12 3) ∷ first-slot ∷ reply (slice-reply 13 3) ∷ [])
 
 -- P5, P6: the number that a change of the telemetry gets, by a meter with that Ke and main access
 meterWith : ℕ → Record
@@ -75,9 +78,8 @@ examples =
     same (framed (0x01 ∷ 0x66 ∷ [])) (0x01 ∷ 0x66 ∷ 0x80 ∷ 0x0A ∷ [])
     ∷ same (framed (0x01 ∷ 0x03 ∷ 0x00 ∷ 0x04 ∷ 0x00 ∷ 0x06 ∷ [])) (0x01 ∷ 0x03 ∷ 0x00 ∷ 0x04 ∷ 0x00 ∷ 0x06 ∷ 0x84 ∷ 0x09 ∷ [])
     ∷ same (framed (0x00 ∷ 0x00 ∷ 0x04 ∷ 0xD2 ∷ 0x27 ∷ [])) (0x00 ∷ 0x00 ∷ 0x04 ∷ 0xD2 ∷ 0x27 ∷ 0x79 ∷ 0x7B ∷ [])
-    -- P4: ask address 1, 17 May, slot 0
-    ∷ same (requestFrame (record { address = 1; parameter = 36; offset = 5; tariff = 17; detail = 0 }))
-    (0x01 ∷ 0x03 ∷ 0x24 ∷ 0x05 ∷ 0x11 ∷ 0x00 ∷ 0x53 ∷ 0x6B ∷ [])
+    -- P4: ask address 1, 17 May, slot 0: what an ask for the log's first interval puts into eight lent bytes
+    ∷ same (asked fresh-log Closed 1 0 0 (replicate 8 0) .left) (0x01 ∷ 0x03 ∷ 0x24 ∷ 0x05 ∷ 0x11 ∷ 0x00 ∷ 0x53 ∷ 0x6B ∷ [])
     -- P5: Ke 20, P6: Ke 100
     ∷ same (map (change-gets 20) (2000 ∷ 250000 ∷ 1999 ∷ 250001 ∷ [])) (0 ∷ 0 ∷ 15 ∷ 15 ∷ [])
     ∷ same (map (change-gets 100) (400 ∷ 50000 ∷ [])) (0 ∷ 0 ∷ [])

@@ -12,7 +12,7 @@ pub fn pass_second(r: Record) -> RecordAnswer
         let protection = r.protection;
         let time = r.time;
         return RecordAnswer::Done(Record {
-            protection: meter_clock::quiet_second(protection),
+            protection: meter_clock::ticked(protection),
             time: meter_clock::next_time(time),
             ..r
         });

@@ -8,8 +8,8 @@ use Rattle.meter_record.proofs.passing.pass_second.Tie as tie
 is-within-requires : tie.Need-is-within-requires
 is-within-requires c κs = search needs
 
-quiet-second-requires : tie.Need-quiet-second-requires
-quiet-second-requires c κs = search needs
+ticked-requires : tie.Need-ticked-requires
+ticked-requires c κs = search needs
 
 next-time-requires : tie.Need-next-time-requires
 next-time-requires c κs = search needs
@@ -20,9 +20,9 @@ returns c =
     let back = c .before .before .before .before .before in
     let is-within = back .before .before .before .before .before .is-within in
     let if1 = back .before .before .before .before .if1 in
-    let quiet-second = back .before .quiet-second in
+    let ticked = back .before .ticked in
     let next-time = back .next-time in
-    simp (sym (is-within .ensures) ∙ if1 .taken, quiet-second .ensures, next-time .ensures)
+    simp (sym (is-within .ensures) ∙ if1 .taken, ticked .ensures, next-time .ensures)
 
 returns-2 : tie.Need-returns-2
 unfolding secondOf
@@ -31,4 +31,4 @@ returns-2 c = simp (sym (c .before .is-within .ensures) ∙ c .if1 .left)
 pub pass-second-spec : {M : Type 1} → statement M
 pass-second-spec =
     tie.close
-    (tie.spec is-within-requires quiet-second-requires next-time-requires returns returns-2)
+    (tie.spec is-within-requires ticked-requires next-time-requires returns returns-2)
