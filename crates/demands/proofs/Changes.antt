@@ -36,16 +36,16 @@ use Rattle.demands.proofs.Replies.{passed}
 -- ---- a command that is done, by its function
 
 module _ (r : Record) (s f out : List ℕ) (fn : Function) (e : functionIn f ≡ fn) (h : answerNumber (answerOf r s f out) ≡ 0) where
-  after-done : (answerOf r s f out) .answer .after ≡ afterBy fn r f
+  pub after-done : (answerOf r s f out) .answer .after ≡ afterBy fn r f
   unfolding afterOf
   after-done = ap (λ (o : Outcome). o .answer .after) (passed r s f out h .whole) ∙ ap (λ (g : Function). afterBy g r f) e
 
-  store-done : (answerOf r s f out) .store ≡ cond (clearsBy fn (parameterIn f)) (cleared s) s
+  pub store-done : (answerOf r s f out) .store ≡ cond (clearsBy fn (parameterIn f)) (cleared s) s
   unfolding storeAfter clears
   store-done =
       ap (λ (o : Outcome). o .store) (passed r s f out h .whole) ∙ ap (λ (g : Function). cond (clearsBy g (parameterIn f)) (cleared s) s) e
 
-  verdict-done : isDone (verdictBy fn r f) ≡ true
+  pub verdict-done : isDone (verdictBy fn r f) ≡ true
   unfolding verdictOf
   verdict-done = ap (λ (g : Function). isDone (verdictBy g r f)) (sym e) ∙ ap isDone (passed r s f out h .verdict)
 

@@ -1,14 +1,19 @@
 -- The theorems: every claim of specs/ with its proof, which has the claim's name.
 use Rattle.demands.specs.Demand1.{Demand1}
 use Rattle.demands.specs.Demand2.{Demand2}
+use Rattle.demands.specs.Demand2Again.{Demand2Again}
+use Rattle.demands.specs.Demand2Done.{Demand2Done}
 use Rattle.demands.specs.Demand3.{Demand3}
 use Rattle.demands.specs.Examples.{Marked}
+use Rattle.demands.proofs.Again as again
 use Rattle.demands.proofs.Answer as answer
 use Rattle.demands.proofs.Calls as calls
 use Rattle.demands.proofs.Changes as changes
+use Rattle.demands.proofs.Done as done
 use Rattle.demands.proofs.Examples as examples
 use Rattle.demands.proofs.History as history
 use Rattle.demands.proofs.Inquiry as inquiry
+use Rattle.demands.proofs.Range as range
 use Rattle.demands.proofs.Replies as replies
 
 pub demand-1 : Demand1
@@ -49,6 +54,32 @@ demand-2 = record {
   wrong-password = changes.wrong-password;
   lock = changes.lock;
   read-changes-nothing = changes.read-changes-nothing;
+}
+
+pub demand-2-done : Demand2Done
+demand-2-done = record {
+  read-done = done.read-done;
+  change-done = done.change-done;
+  zeroing-done = done.zeroing-done;
+  unlock-done = done.unlock-done;
+  lock-done = done.lock-done;
+  out-of-range = range.out-of-range;
+  in-range = range.in-range;
+  out-of-range-made = range.out-of-range-made;
+  in-range-made = range.in-range-made;
+}
+
+pub demand-2-again : Demand2Again
+demand-2-again = record {
+  own = again.own;
+  change-read = again.change-read;
+  summer-zeroed = again.summer-zeroed;
+  winter-zeroed = again.winter-zeroed;
+  slices-zeroed = again.slices-zeroed;
+  put-done = again.put-done;
+  put-read = again.put-read;
+  active-read = again.active-read;
+  reactive-read = again.reactive-read;
 }
 
 pub demand-3 : Demand3

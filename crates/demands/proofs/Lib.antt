@@ -6,6 +6,9 @@ pub mod Six
 pub mod Replies
 pub mod Inquiry
 pub mod Changes
+pub mod Done
+pub mod Range
+pub mod Again
 pub mod History
 pub mod Examples
 pub mod Claims

@@ -108,7 +108,7 @@ unfolding requestFrame framed requestIn
 request-again q = refl
 
 -- a request that is answered with 0 asks for something
-asked : (r : Record) (q : Request) → verdictOf r (requestFrame q) ≡ Done → askable (subjectOf q (slotsOf (r .minutes))) ≡ true
+pub asked : (r : Record) (q : Request) → verdictOf r (requestFrame q) ≡ Done → askable (subjectOf q (slotsOf (r .minutes))) ≡ true
 unfolding verdictOf verdictBy
 asked r q h =
     let f = requestFrame q in

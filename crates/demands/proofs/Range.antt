@@ -1,0 +1,262 @@
+-- Demand 2, 27: what it refuses no record answers with 0, and what it lets pass some record does.
+use mathlib.Core.Path.{_≡_, refl, sym, ap, ap₂, _∙_}
+use mathlib.Core.Bool.{Bool, true, false, _&&_, _||_, false≢true}
+use mathlib.Core.List.{List, [], _∷_}
+use Prim.Native.Nat.{ℕ, zero, suc, _+_, _<_}
+use native.Mathlib.Nat.{zero-lt-suc}
+use native.Mathlib.Omega.{arith}
+use lib.Dec.{eqb, leb, ltb, lit≤}
+use lib.Ieee.{le, fits, ofBits}
+use lib.ListN.{length, replicate, length-replicate}
+use borrow.Author.Tests.{le-leb, eq-eqb, eqb-false}
+use Rattle.case_laws.proofs.Test.{either}
+use Rattle.words.specs.Number.{Bytes}
+use Rattle.words.specs.Place.{byteAt}
+use Rattle.calendar.specs.Date.{isDate, daysInMonth, monthLengths}
+use Rattle.calendar.specs.Time.{isTime}
+use Rattle.calendar.specs.declared.time.DateTime.{DateTime}
+use Rattle.figures.specs.declared.power.Power.{Power}
+use Rattle.figures.specs.declared.power.Power.the-variants as power
+use Rattle.figures.specs.declared.power.PowersAnswer.{PowersAnswer}
+use Rattle.figures.specs.declared.power.PowersAnswer.the-variants as powers
+use Rattle.figures.specs.Power.{powerOf, powersOf}
+use Rattle.figures.specs.declared.telemetry.Telemetry.{Telemetry}
+use Rattle.frame.specs.Sealing.{framed, isSealed}
+use Rattle.frame.proofs.SealingLaws.{length-framed, crcFits-framed}
+use Rattle.frame.specs.Table.{rowOf, parameterOf}
+use Rattle.frame.specs.declared.code.Parameter.{Parameter}
+use Rattle.frame.specs.declared.code.Parameter.the-variants as parameter
+use Rattle.slots.specs.Day.{isMinutes, slotsOf}
+use Rattle.slots.proofs.DayLaws.{slots-at-most}
+use Rattle.request.proofs.RequestLaws as request
+use Rattle.request.proofs.RequestLaws.{subject-wider}
+use Rattle.request.specs.Request as making
+use Rattle.request.specs.Request.{requestFrame, requested}
+use Rattle.request.specs.Subject.{subjectOf, subjectFor, mostSlots, askable, dataBytes}
+use Rattle.request.specs.declared.request.Request.{Request}
+use Rattle.request.specs.declared.subject.Subject.{Subject}
+use Rattle.reader.specs.Form.{formOf}
+use Rattle.reader.specs.Reply as decoding
+use Rattle.reader.specs.Reply.{decodedOf, repliedOf, readFigures, phaseFigures, powersFigure, powerFigure, figuresOf}
+use Rattle.reader.specs.Rows.{replyData}
+use Rattle.reader.specs.declared.form.Form.{Form}
+use Rattle.reader.specs.declared.form.Form.the-variants.{WellFormed, Faulty}
+use Rattle.reader.specs.declared.reply.Decoded.{Decoded}
+use Rattle.meter_clock.specs.Protection.{isProtection}
+use Rattle.meter_clock.specs.Season.{isFitting}
+use Rattle.meter_clock.specs.declared.season.Season.the-variants.{Winter}
+use Rattle.meter_store.specs.Store.{storeBytes}
+use Rattle.meter_record.proofs.RangeLaws.{Within, is-within}
+use Rattle.meter_record.specs.Power.{inBounds, arePowers}
+use Rattle.meter_record.specs.Ranges.{isTelemetry}
+use Rattle.meter_record.specs.Record.{fresh}
+use Rattle.meter_record.specs.Widths.{FitsRecord}
+use Rattle.meter_record.specs.declared.record.Record.{Record}
+use Rattle.meter.specs.Reply.{isSound, heard}
+use Rattle.demands.specs.Demand1.{answerNumber}
+use Rattle.demands.specs.Demand2.{answered}
+use Rattle.demands.specs.Demand2Done.{BytesRequest, Answerable}
+use Rattle.demands.proofs.Done.{read-done}
+use Rattle.demands.proofs.Replies as replies
+use Rattle.demands.proofs.Wire.{OfBytes, nil, bytes-cons}
+
+-- ---- what is answered with 0 can be asked
+
+asked-most : (r : Record) (s : List ℕ) (q : Request) (out : List ℕ) → answerNumber (answered r s q out) ≡ 0 → askable (subjectOf q mostSlots) ≡ true
+asked-most r s q out h =
+    let a = replies.asked r q (replies.passed r s (requestFrame q) out h .verdict) in
+    ap askable (subject-wider q (slotsOf (r .minutes)) (slots-at-most (r .minutes)) a) ∙ a
+
+-- ---- the reader's 27 is for nothing else
+
+No27 : Decoded → Type 0
+No27 d = decoding.numberOf d ≡ 27 → ⊥
+
+phases-no-27 : (detail : ℕ) (bs : List ℕ) → No27 (phaseFigures detail bs)
+unfolding phaseFigures No27
+phases-no-27 detail bs = either No27 (eqb detail 0) (all (powersOf bs)) (one (powerOf bs 0))
+  where
+    all : (p : PowersAnswer) → No27 (powersFigure p)
+    all (powers.Finite p) h = omega (arith, h)
+    all powers.NotFinite h = omega (arith, h)
+
+    one : (p : Power) → No27 (powerFigure p)
+    one (power.Finite p) h = omega (arith, h)
+    one power.NotFinite h = omega (arith, h)
+
+figures-no-27 : (p : Parameter) (detail : ℕ) (bs : List ℕ) → (rowOf p) .readable ≡ true → No27 (readFigures p detail bs)
+unfolding readFigures No27
+figures-no-27 parameter.ActivePower detail bs e h = phases-no-27 detail bs h
+figures-no-27 parameter.ReactivePower detail bs e h = phases-no-27 detail bs h
+figures-no-27 parameter.Address detail bs e h = omega (arith, h)
+figures-no-27 parameter.Telemetry detail bs e h = omega (arith, h)
+figures-no-27 parameter.SummerDate detail bs e h = omega (arith, h)
+figures-no-27 parameter.WinterDate detail bs e h = omega (arith, h)
+figures-no-27 parameter.Clock detail bs e h = omega (arith, h)
+figures-no-27 parameter.DisplayMask detail bs e h = omega (arith, h)
+figures-no-27 parameter.Slice detail bs e h = omega (arith, h)
+figures-no-27 parameter.SixSlices detail bs e h = omega (arith, h)
+figures-no-27 parameter.Password detail bs e h = false≢true e
+figures-no-27 parameter.Unknown detail bs e h = false≢true e
+
+decoded-no-27 : (q : Request) (y : List ℕ) → askable (subjectOf q mostSlots) ≡ true → No27 (decodedOf q y)
+unfolding No27 decodedOf repliedOf subjectOf
+decoded-no-27 q y a h = go (formOf (q .address) (q .parameter) (6 + dataBytes (subjectFor p q mostSlots)) y) refl (eqb (byteAt y 3) 0) refl
+  where
+    p : Parameter
+    p = parameterOf (q .parameter)
+
+    k : request.Asked p q mostSlots
+    k = request.asked p q mostSlots a
+
+    go : (f : Form) → formOf (q .address) (q .parameter) (6 + dataBytes (subjectFor p q mostSlots)) y ≡ f → (b : Bool) → eqb (byteAt y 3) 0 ≡ b → ⊥
+    go (Faulty fault) e b c = omega (arith, simp (a, e) at h)
+    go WellFormed e false c = omega (arith, simp (a, e, c) at h)
+    go WellFormed e true c =
+        let n : decoding.numberOf (figuresOf (subjectFor p q mostSlots) (replyData y)) ≡ 27 = simp (a, e, c) at h in
+        figures-no-27 p (q .detail) (replyData y) (k .readable) (ap (λ (s : Subject). decoding.numberOf (figuresOf s (replyData y))) (sym (k .subject)) ∙ n)
+
+pub out-of-range : (q : Request) (y : List ℕ) → decoding.numberOf (decodedOf q y) ≡ 27
+    → (r : Record) (s out : List ℕ) → answerNumber (answered r s q out) ≡ 0 → ⊥
+unfolding No27
+out-of-range q y h r s out z = decoded-no-27 q y (asked-most r s q out z) h
+
+-- what is not askable is 27
+not-askable : (q : Request) (y : List ℕ) → askable (subjectOf q mostSlots) ≡ false → decoding.numberOf (decodedOf q y) ≡ 27
+unfolding decodedOf
+not-askable q y e = simp e
+
+-- ---- a request is a frame that its meter hears
+
+request-sealed : (q : Request) → BytesRequest q → isSealed (requestFrame q) ≡ true
+unfolding isSealed requestFrame
+request-sealed q k =
+    let body = q .address ∷ 3 ∷ q .parameter ∷ q .offset ∷ q .tariff ∷ q .detail ∷ [] in
+    let l : length (framed body) ≡ 8 = length-framed body in
+    let b : OfBytes body =
+    bytes-cons (q .address) (k .repeated .address) (bytes-cons 3 (lit≤ tt) (bytes-cons (q .parameter) (k .repeated .parameter)
+    (bytes-cons (q .offset) (k .offset) (bytes-cons (q .tariff) (k .tariff) (bytes-cons (q .detail) (k .detail) nil))))) in
+    ap₂ _&&_ (ap₂ _&&_ (le-leb 4 (length (framed body)) (omega (arith, l))) (le-leb (length (framed body)) 64 (omega (arith, l)))) (crcFits-framed body (b .each))
+
+request-address : (q : Request) → byteAt (requestFrame q) 0 ≡ q .address
+unfolding requestFrame framed
+request-address q = refl
+
+pub hears-request : (r : Record) (q : Request) → BytesRequest q → (eqb (q .address) 0 || eqb (q .address) (r .address)) ≡ true
+    → heard r (requestFrame q) ≡ true
+unfolding heard
+hears-request r q k e =
+    ap₂ _&&_ (request-sealed q k) (ap (λ (a : ℕ). eqb a 0 || eqb a (r .address)) (request-address q) ∙ e)
+
+-- ---- a meter from the factory, of 15 minutes, with the request's address
+
+telemetry : Telemetry
+telemetry = record { k = 40000; ke = 1; reserve = 0 }
+
+clock : DateTime
+clock = record { date = record { year = 0; month = 1; day = 1 }; hour = 0; minute = 0; second = 0 }
+
+abbrev meterAt : ℕ → Record
+meterAt address = fresh address 15 telemetry clock Winter
+
+meter-within : (a : ℕ) → leb 1 a ≡ true → Within (meterAt a)
+unfolding fresh telemetry clock isProtection isFitting isTime isDate daysInMonth isTelemetry isMinutes arePowers inBounds monthLengths le ofBits
+meter-within a h = record {
+  address = h;
+  protection = refl;
+  time = refl;
+  telemetry = refl;
+  minutes = refl;
+  next = refl;
+  active = refl;
+  reactive = refl;
+}
+
+meter-fits : (a : ℕ) → a < 256 → FitsRecord (meterAt a)
+unfolding fresh telemetry fits ofBits
+meter-fits a h = record {
+  address = h;
+  main = lit≤ tt;
+  auxiliary = lit≤ tt;
+  telemetry = record { k = lit≤ tt; ke = lit≤ tt; reserve = lit≤ tt };
+  parameters = lit≤ tt;
+  tariffs = lit≤ tt;
+  directions = lit≤ tt;
+  active = record { a = tt; b = tt; c = tt };
+  reactive = record { a = tt; b = tt; c = tt };
+  next = lit≤ tt;
+}
+
+zero-bytes : (n : ℕ) → Bytes (replicate n 0)
+zero-bytes zero i = zero-lt-suc 255
+zero-bytes (suc n) zero = zero-lt-suc 255
+zero-bytes (suc n) (suc i) = zero-bytes n i
+
+zeros-sound : (r : Record) (n : ℕ) → n ≡ storeBytes → Within r → isSound r (replicate n 0) ≡ true
+unfolding isSound
+zeros-sound r n e w = ap₂ _&&_ (eq-eqb _ _ (length-replicate n 0 ∙ e)) (is-within r w)
+
+minutes-most : (a : ℕ) → slotsOf ((meterAt a) .minutes) ≡ mostSlots
+unfolding fresh slotsOf isMinutes
+minutes-most a = refl
+
+meter-address : (a : ℕ) → (meterAt a) .address ≡ a
+unfolding fresh
+meter-address a = refl
+
+answers-at : (q : Request) (a : ℕ) → BytesRequest q → a < 256 → leb 1 a ≡ true → (eqb (q .address) 0 || eqb (q .address) a) ≡ true
+    → askable (subjectOf q mostSlots) ≡ true → Answerable q
+answers-at q a k small from own h =
+    let r = meterAt a in
+    let s : List ℕ = replicate storeBytes 0 in
+    let out : List ℕ = replicate 64 0 in
+    record {
+      meter = r;
+      store = s;
+      out = out;
+      fits = meter-fits a small;
+      bytes = zero-bytes storeBytes;
+      answers = read-done r s q out
+          (record {
+            room = omega (arith, length-replicate {A = ℕ} 64 0);
+            sound = zeros-sound r storeBytes refl (meter-within a from);
+            hears = hears-request r q k (ap (λ (x : ℕ). eqb (q .address) 0 || eqb (q .address) x) (meter-address a) ∙ own);
+          })
+          (ap (λ (n : ℕ). askable (subjectOf q n)) (minutes-most a) ∙ h);
+    }
+
+answers-most : (q : Request) → BytesRequest q → askable (subjectOf q mostSlots) ≡ true → Answerable q
+answers-most q k h = go (eqb (q .address) 0) refl
+  where
+    go : (b : Bool) → eqb (q .address) 0 ≡ b → Answerable q
+    go true e = answers-at q 1 k (lit≤ tt) refl (ap (λ (b : Bool). b || eqb (q .address) 1) e) h
+    go false e =
+        answers-at q (q .address) k (k .repeated .address) (le-leb 1 (q .address) (omega (arith, eqb-false (q .address) 0 e)))
+        (ap₂ _||_ e (eq-eqb (q .address) (q .address) refl)) h
+
+pub in-range : (q : Request) (y : List ℕ) → BytesRequest q → (decoding.numberOf (decodedOf q y) ≡ 27 → ⊥) → Answerable q
+in-range q y k n = go (askable (subjectOf q mostSlots)) refl
+  where
+    go : (b : Bool) → askable (subjectOf q mostSlots) ≡ b → Answerable q
+    go true e = answers-most q k e
+    go false e = absurd (n (not-askable q y e))
+
+-- ---- where a request is made
+
+pub out-of-range-made : (q : Request) (frame : List ℕ) → making.numberOf ((requested q frame) .result) ≡ 27
+    → (r : Record) (s out : List ℕ) → answerNumber (answered r s q out) ≡ 0 → ⊥
+unfolding requested
+out-of-range-made q frame h r s out z = go (ltb (length frame) 8) refl
+  where
+    go : (b : Bool) → ltb (length frame) 8 ≡ b → ⊥
+    go true e = omega (arith, simp e at h)
+    go false e = omega (arith, simp (e, asked-most r s q out z) at h)
+
+pub in-range-made : (q : Request) (frame : List ℕ) → BytesRequest q → making.numberOf ((requested q frame) .result) ≡ 0 → Answerable q
+unfolding requested
+in-range-made q frame k h = go (ltb (length frame) 8) refl (askable (subjectOf q mostSlots)) refl
+  where
+    go : (a : Bool) → ltb (length frame) 8 ≡ a → (b : Bool) → askable (subjectOf q mostSlots) ≡ b → Answerable q
+    go true e b c = absurd (omega (arith, simp e at h))
+    go false e true c = answers-most q k c
+    go false e false c = absurd (omega (arith, simp (e, c) at h))
