@@ -71,14 +71,14 @@ uint8_t metlazuel_log_fresh(uint8_t *log, size_t room, uint8_t year, uint8_t mon
 
 // The open ask is METLAZUEL_ASK_BYTES: 0 and three bytes that nobody looks at where none is open (so four zero bytes to begin with), or
 // 1, address, day and slot. Bytes of another length, or with another first byte, are UNSOUND. A call that is refused leaves them as they
-// are, but for the two refusals of metlazuel_take that close the ask; an ask that is closed is left as four zeros.
+// are, but for the two refusals of metlazuel_take that close the ask; a call that closes the ask leaves four zeros.
 
 // Opens an ask to a meter for a slot of a day, both counted from 0, and puts its request to the front of out: METLAZUEL_REQUEST_BYTES.
 // TOO_SHORT, UNSOUND (log or ask), ASK_ALREADY_OPEN, NOT_IN_LOG, else DONE.
 uint8_t metlazuel_ask(const uint8_t *log, size_t n, uint8_t *ask, size_t size, uint8_t address, uint8_t day, uint8_t slot,
                       uint8_t *out, size_t room);
 
-// No reply came: closes the ask, if one is open. UNSOUND, else DONE.
+// No reply came: closes the ask; with none open the bytes stay as they are. UNSOUND, else DONE.
 uint8_t metlazuel_lapse(uint8_t *ask, size_t size);
 
 // Takes a reply for the open ask into the log. UNSOUND (log or ask), NO_ASK_OPEN, NOT_IN_LOG, MALFORMED (the ask stays open),
@@ -132,8 +132,8 @@ uint8_t metlazuel_decode(uint8_t address, uint8_t parameter, uint8_t offset, uin
 uint8_t metlazuel_meter_make(uint8_t *meter, size_t n, uint8_t address, uint8_t minutes, uint32_t k, uint16_t ke, uint16_t reserve,
                              uint8_t year, uint8_t month, uint8_t day, uint8_t hour, uint8_t minute, uint8_t second, uint8_t season);
 
-// Answers a frame. The reply goes to the front of out, which has at least METLAZUEL_FRAME_BYTES, and its length, 0 for silence, to *length.
-// TOO_SHORT, UNSOUND, SILENT, UNKNOWN_FUNCTION to WRONG_ARGUMENT, else DONE.
+// Answers a frame. The reply goes to the front of out, which has at least METLAZUEL_FRAME_BYTES, and its length to *length. TOO_SHORT,
+// UNSOUND, SILENT (nothing is to be sent, and *length is left as it was), UNKNOWN_FUNCTION to WRONG_ARGUMENT (six bytes), else DONE.
 uint8_t metlazuel_meter_answer(uint8_t *meter, size_t n, uint8_t *store, size_t size, const uint8_t *frame, size_t bytes, uint8_t *out,
                                size_t room, size_t *length);
 

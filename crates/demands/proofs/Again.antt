@@ -1,8 +1,8 @@
 -- Demand 2, what was written is read: the record after a change, a zeroing or a bench call, read and decoded.
 use mathlib.Core.Path.{_≡_, refl, sym, ap, ap₂, _∙_}
 use mathlib.Core.Bool.{Bool, true, false, cond, _&&_, _||_, false≢true}
-use mathlib.Core.List.{List}
-use Prim.Native.Nat.{ℕ, _≤_, _<_}
+use mathlib.Core.List.{List, [], _∷_}
+use Prim.Native.Nat.{ℕ, _-_, _≤_, _<_}
 use native.Mathlib.Omega.{arith}
 use lib.Dec.{eqb, leb, ltb, lit≤}
 use lib.ListN.{length}
@@ -21,9 +21,10 @@ use Rattle.slots.proofs.DayLaws.{slots-at-most}
 use Rattle.request.specs.Subject.{unused, isPhase, subjectOf, subjectFor, askable}
 use Rattle.request.specs.declared.request.Request.{Request}
 use Rattle.reader.specs.Reply.{readFigures}
+use Rattle.reader.specs.Rows as rows
 use Rattle.reader.specs.declared.reply.Decoded.the-variants as decoded
 use Rattle.meter_clock.specs.Season.{onHour, sunday}
-use Rattle.meter_store.specs.Store.{places, storeBytes, countAt, zeroRow, sliceOf, putStore, cleared}
+use Rattle.meter_store.specs.Store.{places, storeBytes, countAt, zeroRow, sliceOf, sixOf, later, putStore, cleared}
 use Rattle.meter_store.proofs.StoreLaws.{put-then-read, cleared-absent}
 use Rattle.meter_record.proofs.RangeLaws as ranges
 use Rattle.meter_record.proofs.RangeLaws.{within, powers-within}
@@ -42,26 +43,33 @@ use Rattle.meter.specs.Bench.{slicePut}
 use Rattle.meter.specs.Effect.{renewed, afterBy, clearsBy}
 use Rattle.meter.specs.Reply.{isSound, answerOf}
 use Rattle.meter.proofs.KeepLaws.{handsBack, answer-sound, put-sound}
+use Rattle.demands.specs.Demand1.{answerNumber}
+use Rattle.demands.specs.Demand2.{answered, replyIn}
 use Rattle.demands.specs.Demand2Done.{BytesRequest}
 use Rattle.demands.specs.Demand2Again.{readOf, sliceRead, readBack, Next}
 use Rattle.demands.specs.Figures.{ownPower, fourCounts, ownFigures}
 use Rattle.demands.proofs.Changes.{after-done, store-done, verdict-done}
 use Rattle.demands.proofs.Done.{read-done}
+use Rattle.demands.proofs.Fits.{cleared-bytes, change-fits, zeroing-fits}
 use Rattle.demands.proofs.Range.{hears-request}
 use Rattle.demands.proofs.Replies as replies
 
 -- ---- a sound meter's own figures
 
-pub own : (r : Record) (s : List ℕ) (q : Request) (out : List ℕ) → FitsRecord r → Bytes s → BytesRequest q → 64 ≤ length out
-    → isSound r s ≡ true → q .address ≡ r .address → askable (subjectOf q (slotsOf (r .minutes))) ≡ true
-    → readBack r s q out ≡ ownFigures (parameterOf (q .parameter)) r s q
-own r s q out f b k room sound e h =
+own-done : (r : Record) (s : List ℕ) (q : Request) (out : List ℕ) → BytesRequest q → 64 ≤ length out
+    → isSound r s ≡ true → q .address ≡ r .address → askable (subjectOf q (slotsOf (r .minutes))) ≡ true → answerNumber (answered r s q out) ≡ 0
+own-done r s q out k room sound e h =
     let hears = hears-request r q k (ap (λ (x : Bool). eqb (q .address) 0 || x) (eq-eqb (q .address) (r .address) e) ∙ or-true (eqb (q .address) 0)) in
-    replies.read r s q out f b (k .repeated) (read-done r s q out (record { room = room; sound = sound; hears = hears }) h)
+    read-done r s q out (record { room = room; sound = sound; hears = hears }) h
   where
     or-true : (a : Bool) → (a || true) ≡ true
     or-true true = refl
     or-true false = refl
+
+pub own : (r : Record) (s : List ℕ) (q : Request) (out : List ℕ) → FitsRecord r → Bytes s → BytesRequest q → 64 ≤ length out
+    → isSound r s ≡ true → q .address ≡ r .address → askable (subjectOf q (slotsOf (r .minutes))) ≡ true
+    → readBack r s q out ≡ ownFigures (parameterOf (q .parameter)) r s q
+own r s q out f b k room sound e h = replies.read r s q out f b (k .repeated) (own-done r s q out k room sound e h)
 
 -- ---- what the reads ask for
 
@@ -79,10 +87,10 @@ record Bounds (k : Key) : Type 0 where
   day : k .day < 256
   number : k .number < 256
 
-bounds : (k : Key) (m : ℕ) → isLegal k (slotsOf m) ≡ true → Bounds k
+bounds : (k : Key) (slots : ℕ) → slots ≤ 96 → isLegal k slots ≡ true → Bounds k
 unfolding isLegal
-bounds k m h =
-    let a = both (leb 1 (k .month) && leb (k .month) 12 && leb 1 (k .day) && leb (k .day) 31) (ltb (k .number) (slotsOf m)) h in
+bounds k slots most h =
+    let a = both (leb 1 (k .month) && leb (k .month) 12 && leb 1 (k .day) && leb (k .day) 31) (ltb (k .number) slots) h in
     let b = both (leb 1 (k .month) && leb (k .month) 12 && leb 1 (k .day)) (leb (k .day) 31) (a .0) in
     let c = both (leb 1 (k .month) && leb (k .month) 12) (leb 1 (k .day)) (b .0) in
     let d = both (leb 1 (k .month)) (leb (k .month) 12) (c .0) in
@@ -90,13 +98,13 @@ bounds k m h =
       month-from = leb-true 1 (k .month) (d .0);
       month = omega (arith, leb-true (k .month) 12 (d .1));
       day = omega (arith, leb-true (k .day) 31 (b .1));
-      number = omega (arith, ltb-true (k .number) (slotsOf m) (a .1), slots-at-most m);
+      number = omega (arith, ltb-true (k .number) slots (a .1), most);
     }
 
-slice-bytes : (r : Record) (k : Key) (m : ℕ) → FitsRecord r → isLegal k (slotsOf m) ≡ true → BytesRequest (sliceRead r 36 k)
-slice-bytes r k m f h =
-    let b = bounds k m h in
-    record { repeated = record { address = f .address; parameter = lit≤ tt }; offset = b .month; tariff = b .day; detail = b .number }
+slice-bytes : (r : Record) (n : ℕ) (k : Key) (slots : ℕ) → FitsRecord r → n < 256 → slots ≤ 96 → isLegal k slots ≡ true → BytesRequest (sliceRead r n k)
+slice-bytes r n k slots f small most h =
+    let b = bounds k slots most h in
+    record { repeated = record { address = f .address; parameter = small }; offset = b .month; tariff = b .day; detail = b .number }
 
 slice-askable : (r : Record) (k : Key) (slots : ℕ) → isLegal k slots ≡ true → askable (subjectOf (sliceRead r 36 k) slots) ≡ true
 unfolding subjectOf subjectFor parameterOf firstOf isLegal
@@ -121,17 +129,35 @@ plain-askable parameter.Unknown r n slots c e = absurd (false≢true c)
 
 -- ---- after a command
 
-module _ (r : Record) (s f out room : List ℕ) (n : Next (answerOf r s f out) room) where
-  x : Record
-  x = (answerOf r s f out) .answer .after
+after-sound : (r : Record) (s f out room : List ℕ) → Next r s (answerOf r s f out) room
+    → let o = answerOf r s f out in isSound (o .answer .after) (o .store) ≡ true
+after-sound r s f out room n = answer-sound r s f out (replies.passed r s f out (n .zero) .sound)
 
-  t : List ℕ
-  t = (answerOf r s f out) .store
+fits-changed : (r : Record) (s f out room : List ℕ) → functionIn f ≡ function.Change → Bytes f → Next r s (answerOf r s f out) room
+    → FitsRecord ((answerOf r s f out) .answer .after)
+unfolding afterBy
+fits-changed r s f out room e b n = rw (after-done r s f out function.Change e (n .zero)) (change-fits r (parameterIn f) f (n .fits) b)
 
-  own-after : (q : Request) → BytesRequest q → q .address ≡ x .address → askable (subjectOf q (slotsOf (x .minutes))) ≡ true
-      → readBack x t q room ≡ ownFigures (parameterOf (q .parameter)) x t q
-  unfolding x t
-  own-after q k e h = own x t q room (n .fits) (n .bytes) k (n .room) (answer-sound r s f out (replies.passed r s f out (n .zero) .sound)) e h
+bytes-changed : (r : Record) (s f out room : List ℕ) → functionIn f ≡ function.Change → Next r s (answerOf r s f out) room
+    → Bytes ((answerOf r s f out) .store)
+unfolding clearsBy
+bytes-changed r s f out room e n = rw (store-done r s f out function.Change e (n .zero)) (n .bytes)
+
+fits-zeroed : (r : Record) (s f out room : List ℕ) → functionIn f ≡ function.Zero → Next r s (answerOf r s f out) room
+    → FitsRecord ((answerOf r s f out) .answer .after)
+unfolding afterBy
+fits-zeroed r s f out room e n = rw (after-done r s f out function.Zero e (n .zero)) (zeroing-fits r (parameterIn f) (n .fits))
+
+bytes-zeroed : (r : Record) (s f out room : List ℕ) → functionIn f ≡ function.Zero → Next r s (answerOf r s f out) room
+    → Bytes ((answerOf r s f out) .store)
+bytes-zeroed r s f out room e n =
+    rw (store-done r s f out function.Zero e (n .zero)) (either Bytes (clearsBy function.Zero (parameterIn f)) (cleared-bytes s) (n .bytes))
+
+zeroed-own : (r : Record) (s f out room : List ℕ) → functionIn f ≡ function.Zero → let o = answerOf r s f out in Next r s o room → (q : Request)
+    → BytesRequest q → q .address ≡ (o .answer .after) .address → askable (subjectOf q (slotsOf ((o .answer .after) .minutes))) ≡ true
+    → readBack (o .answer .after) (o .store) q room ≡ ownFigures (parameterOf (q .parameter)) (o .answer .after) (o .store) q
+zeroed-own r s f out room e n q k a h =
+    own _ _ q room (fits-zeroed r s f out room e n) (bytes-zeroed r s f out room e n) k (n .room) (after-sound r s f out room n) a h
 
 -- ---- a change
 
@@ -158,23 +184,24 @@ parameter-small f b =
     either small (leb (length f) 4) (lit≤ tt) (either small (named (functionIn f)) (b 2) (lit≤ tt))
 
 pub change-read : (r : Record) (s f out room : List ℕ) → Bytes f → functionIn f ≡ function.Change → (rowOf (parameterIn f)) .readable ≡ true
-    → let o = answerOf r s f out in Next o room
+    → let o = answerOf r s f out in Next r s o room
     → readBack (o .answer .after) (o .store) (readOf (o .answer .after) (parameterByte f) 0) room ≡ readFigures (parameterIn f) 0 (dataIn f)
-unfolding x t subjectOf verdictBy afterBy
+unfolding subjectOf verdictBy afterBy
 change-read r s f out room b e w n =
     let o = answerOf r s f out in
     let y = o .answer .after in
     let q = readOf y (parameterByte f) 0 in
     let c = change-accepted r f (verdict-done r s f out function.Change e (n .zero)) .opens in
-    own-after r s f out room n q (read-bytes y (parameterByte f) 0 (n .fits) (parameter-small f b) (lit≤ tt)) refl
-    (plain-askable (parameterIn f) y (parameterByte f) (slotsOf (y .minutes)) c w)
+    let fits = fits-changed r s f out room e b n in
+    own y (o .store) q room fits (bytes-changed r s f out room e n) (read-bytes y (parameterByte f) 0 fits (parameter-small f b) (lit≤ tt)) (n .room)
+    (after-sound r s f out room n) refl (plain-askable (parameterIn f) y (parameterByte f) (slotsOf (y .minutes)) c w)
     ∙ ap (λ (z : Record). ownFigures (parameterIn f) z (o .store) q) (after-done r s f out function.Change e (n .zero))
     ∙ changed-figures (parameterIn f) r (o .store) f q c
 
 -- ---- a zeroing
 
 zeroed-is : (r : Record) (s f out room : List ℕ) (p : Parameter) → functionIn f ≡ function.Zero → parameterIn f ≡ p
-    → Next (answerOf r s f out) room → (answerOf r s f out) .answer .after ≡ renewed (zeroed p r)
+    → Next r s (answerOf r s f out) room → (answerOf r s f out) .answer .after ≡ renewed (zeroed p r)
 unfolding afterBy
 zeroed-is r s f out room p e g n =
     after-done r s f out function.Zero e (n .zero) ∙ ap (λ (z : Parameter). renewed (zeroed z r)) g
@@ -185,26 +212,26 @@ unfolding subjectOf
 date-askable p r n slots e c w = ap (λ (z : Parameter). askable (subjectFor z (readOf r n 0) slots)) e ∙ plain-askable p r n slots c w
 
 pub summer-zeroed : (r : Record) (s f out room : List ℕ) → functionIn f ≡ function.Zero → parameterIn f ≡ parameter.SummerDate
-    → let o = answerOf r s f out in Next o room
+    → let o = answerOf r s f out in Next r s o room
     → readBack (o .answer .after) (o .store) (readOf (o .answer .after) 27 0) room ≡ decoded.DateTime (onHour (sunday (r .time .clock .date .year) 3) 2)
-unfolding x t parameterOf firstOf zeroed
+unfolding parameterOf firstOf zeroed
 summer-zeroed r s f out room e g n =
     let o = answerOf r s f out in
     let y = o .answer .after in
     let q = readOf y 27 0 in
-    own-after r s f out room n q (read-bytes y 27 0 (n .fits) (lit≤ tt) (lit≤ tt)) refl
+    zeroed-own r s f out room e n q (read-bytes y 27 0 (fits-zeroed r s f out room e n) (lit≤ tt) (lit≤ tt)) refl
     (date-askable parameter.SummerDate y 27 (slotsOf (y .minutes)) refl refl refl)
     ∙ ap (λ (z : Record). ownFigures parameter.SummerDate z (o .store) q) (zeroed-is r s f out room parameter.SummerDate e g n)
 
 pub winter-zeroed : (r : Record) (s f out room : List ℕ) → functionIn f ≡ function.Zero → parameterIn f ≡ parameter.WinterDate
-    → let o = answerOf r s f out in Next o room
+    → let o = answerOf r s f out in Next r s o room
     → readBack (o .answer .after) (o .store) (readOf (o .answer .after) 28 0) room ≡ decoded.DateTime (onHour (sunday (r .time .clock .date .year) 10) 3)
-unfolding x t parameterOf firstOf zeroed
+unfolding parameterOf firstOf zeroed
 winter-zeroed r s f out room e g n =
     let o = answerOf r s f out in
     let y = o .answer .after in
     let q = readOf y 28 0 in
-    own-after r s f out room n q (read-bytes y 28 0 (n .fits) (lit≤ tt) (lit≤ tt)) refl
+    zeroed-own r s f out room e n q (read-bytes y 28 0 (fits-zeroed r s f out room e n) (lit≤ tt) (lit≤ tt)) refl
     (date-askable parameter.WinterDate y 28 (slotsOf (y .minutes)) refl refl refl)
     ∙ ap (λ (z : Record). ownFigures parameter.WinterDate z (o .store) q) (zeroed-is r s f out room parameter.WinterDate e g n)
 
@@ -213,19 +240,68 @@ slice-figures : (r : Record) (s : List ℕ) (k : Key) (row : List ℕ) → slice
 unfolding parameterOf firstOf
 slice-figures r s k row e = ap (λ (w : List ℕ). decoded.Slice (fourCounts w)) e
 
+-- what a zeroing of the slices leaves: the interval, and a store that is clear
+minutes-kept : (r : Record) (s f out room : List ℕ) → functionIn f ≡ function.Zero → parameterIn f ≡ parameter.Slice
+    → let o = answerOf r s f out in Next r s o room → (o .answer .after) .minutes ≡ r .minutes
+unfolding zeroed
+minutes-kept r s f out room e g n = ap (λ (z : Record). z .minutes) (zeroed-is r s f out room parameter.Slice e g n)
+
+store-clear : (r : Record) (s f out room : List ℕ) → functionIn f ≡ function.Zero → parameterIn f ≡ parameter.Slice
+    → let o = answerOf r s f out in Next r s o room → o .store ≡ cleared s
+unfolding clearsBy
+store-clear r s f out room e g n =
+    store-done r s f out function.Zero e (n .zero) ∙ ap (λ (z : Parameter). cond (clearsBy function.Zero z) (cleared s) s) g
+
 pub slices-zeroed : (r : Record) (s f out room : List ℕ) (k : Key) → functionIn f ≡ function.Zero → parameterIn f ≡ parameter.Slice
-    → isLegal k (slotsOf (r .minutes)) ≡ true → let o = answerOf r s f out in Next o room
+    → isLegal k (slotsOf (r .minutes)) ≡ true → let o = answerOf r s f out in Next r s o room
     → readBack (o .answer .after) (o .store) (sliceRead (o .answer .after) 36 k) room ≡ decoded.Slice (fourCounts zeroRow)
-unfolding x t zeroed clearsBy
 slices-zeroed r s f out room k e g h n =
     let o = answerOf r s f out in
     let y = o .answer .after in
-    let m : y .minutes ≡ r .minutes = ap (λ (z : Record). z .minutes) (zeroed-is r s f out room parameter.Slice e g n) in
+    let m = minutes-kept r s f out room e g n in
     let legal : isLegal k (slotsOf (y .minutes)) ≡ true = ap (λ (i : ℕ). isLegal k (slotsOf i)) m ∙ h in
-    let c : o .store ≡ cleared s =
-    store-done r s f out function.Zero e (n .zero) ∙ ap (λ (z : Parameter). cond (clearsBy function.Zero z) (cleared s) s) g in
-    own-after r s f out room n (sliceRead y 36 k) (slice-bytes y k (y .minutes) (n .fits) legal) refl (slice-askable y k (slotsOf (y .minutes)) legal)
-    ∙ slice-figures y (o .store) k zeroRow (ap (λ (z : List ℕ). sliceOf z k) c ∙ cleared-absent s k (bounds k (r .minutes) h .month-from))
+    let c = store-clear r s f out room e g n in
+    zeroed-own r s f out room e n (sliceRead y 36 k)
+    (slice-bytes y 36 k (slotsOf (y .minutes)) (fits-zeroed r s f out room e n) (lit≤ tt) (slots-at-most (y .minutes)) legal)
+    refl (slice-askable y k (slotsOf (y .minutes)) legal)
+    ∙ slice-figures y (o .store) k zeroRow (ap (λ (z : List ℕ). sliceOf z k) c ∙ cleared-absent s k (bounds k (slotsOf (r .minutes)) (slots-at-most (r .minutes)) h .month-from))
+
+six-askable : (r : Record) (k : Key) (slots : ℕ) → isLegal k (slots - 5) ≡ true → askable (subjectOf (sliceRead r 40 k) slots) ≡ true
+unfolding subjectOf subjectFor parameterOf firstOf isLegal
+six-askable r k slots h = simp h
+
+six-absent : (s : List ℕ) (k : Key) → 1 ≤ k .month → sixOf (cleared s) k ≡ zeroRow ∷ zeroRow ∷ zeroRow ∷ zeroRow ∷ zeroRow ∷ zeroRow ∷ []
+unfolding sixOf
+six-absent s k h = simp (
+  cleared-absent s k h,
+  cleared-absent s (later k 1) h,
+  cleared-absent s (later k 2) h,
+  cleared-absent s (later k 3) h,
+  cleared-absent s (later k 4) h,
+  cleared-absent s (later k 5) h,
+)
+
+is-six : parameterOf 40 ≡ parameter.SixSlices
+unfolding parameterOf firstOf
+is-six = refl
+
+pub six-zeroed : (r : Record) (s f out room : List ℕ) (k : Key) → functionIn f ≡ function.Zero → parameterIn f ≡ parameter.Slice
+    → isLegal k (slotsOf (r .minutes) - 5) ≡ true → let o = answerOf r s f out in Next r s o room
+    → rows.sixOf (rows.replyData (replyIn (answered (o .answer .after) (o .store) (sliceRead (o .answer .after) 40 k) room)))
+    ≡ zeroRow ∷ zeroRow ∷ zeroRow ∷ zeroRow ∷ zeroRow ∷ zeroRow ∷ []
+six-zeroed r s f out room k e g h n =
+    let o = answerOf r s f out in
+    let y = o .answer .after in
+    let q = sliceRead y 40 k in
+    let slots = slotsOf (y .minutes) in
+    let m = minutes-kept r s f out room e g n in
+    let legal : isLegal k (slots - 5) ≡ true = ap (λ (i : ℕ). isLegal k (slotsOf i - 5)) m ∙ h in
+    let most : slots - 5 ≤ 96 = omega (arith, slots-at-most (y .minutes)) in
+    let bytes = slice-bytes y 40 k (slots - 5) (fits-zeroed r s f out room e n) (lit≤ tt) most legal in
+    replies.six-slices y (o .store) q room (bytes-zeroed r s f out room e n) is-six
+    (own-done y (o .store) q room bytes (n .room) (after-sound r s f out room n) refl (six-askable y k slots legal))
+    ∙ ap (λ (z : List ℕ). sixOf z k) (store-clear r s f out room e g n)
+    ∙ six-absent s k (bounds k (slots - 5) most legal .month-from)
 
 -- ---- the bench
 
@@ -277,10 +353,15 @@ put-read r y s k row room h f b four below space =
     let a = both (eqb (length s) storeBytes) (isWithin r) (p .sound) in
     let back : sliceOf (putStore s (r .next) k row) k ≡ row =
     put-then-read s (r .next) k row (eqb-true (length s) storeBytes (a .0)) (ltb-true (r .next) places (within r (a .1) .next)) (record { four = four; below = below }) in
-    own y (o .left) (sliceRead y 36 k) room f b (slice-bytes y k (y .minutes) f legal) space sound refl (slice-askable y k (slotsOf (y .minutes)) legal)
+    own y (o .left) (sliceRead y 36 k) room f b
+    (slice-bytes y 36 k (slotsOf (y .minutes)) f (lit≤ tt) (slots-at-most (y .minutes)) legal) space sound refl (slice-askable y k (slotsOf (y .minutes)) legal)
     ∙ slice-figures y (o .left) k row (ap (λ (z : List ℕ). sliceOf z k) (p .left) ∙ back)
 
 -- powers
+
+pub powers-done : (r : Record) (p : Phases) → isWithin r ≡ true → arePowers p ≡ true → (numberOf (setPowers r 8 p) ≡ 0) × (numberOf (setPowers r 9 p) ≡ 0)
+unfolding setPowers powersSet
+powers-done r p w h = (simp (w, h), simp (w, h))
 
 powers-handed : (r y : Record) (n : ℕ) (p : Phases) → setPowers r n p ≡ Done y → setPowers r n p ≡ powersSet r n p
 unfolding setPowers

@@ -58,12 +58,12 @@ use Rattle.logger.specs.declared.take.Taken.{Taken}
 use Rattle.demands.specs.Demand1.{inTable, Ends, EndsBy, closes}
 
 -- 0, whatever was done
-done : {A : Type 0} (before after : A) → Ends 0 before after
+pub done : {A : Type 0} (before after : A) → Ends 0 before after
 unfolding inTable
 done before after = record { in-table = refl; unchanged = λ n. absurd (n refl) }
 
 -- a number of the table, and nothing done
-stays : {A : Type 0} (number : ℕ) (x : A) → inTable number ≡ true → Ends number x x
+pub stays : {A : Type 0} (number : ℕ) (x : A) → inTable number ≡ true → Ends number x x
 stays number x t = record { in-table = t; unchanged = λ n. refl }
 
 -- a check of a call, and a header that is read: what holds of the refusal and of what follows

@@ -125,7 +125,7 @@ read-changes-nothing r s f out e h = record { after = after-done r s f out funct
 
 -- ---- what is refused leaves all as it was
 
-refused-leaves : (r : Record) (s f out : List ℕ) → (answerNumber (answerOf r s f out) ≡ 0 → ⊥) → Leaves r s (answerOf r s f out)
+pub refused-leaves : (r : Record) (s f out : List ℕ) → (answerNumber (answerOf r s f out) ≡ 0 → ⊥) → Leaves r s (answerOf r s f out)
 refused-leaves r s f out n =
     let e = answer r s f out .unchanged n in
     record { after = ap (λ (p : Record × List ℕ). p .0) e; slices = ap (λ (p : Record × List ℕ). p .1) e }

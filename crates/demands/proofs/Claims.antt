@@ -59,6 +59,8 @@ demand-2 = record {
 pub demand-2-done : Demand2Done
 demand-2-done = record {
   read-done = done.read-done;
+  inquired-done = inquiry.inquired-done;
+  inquired-leaves = inquiry.inquired-leaves;
   change-done = done.change-done;
   zeroing-done = done.zeroing-done;
   unlock-done = done.unlock-done;
@@ -76,8 +78,10 @@ demand-2-again = record {
   summer-zeroed = again.summer-zeroed;
   winter-zeroed = again.winter-zeroed;
   slices-zeroed = again.slices-zeroed;
+  six-zeroed = again.six-zeroed;
   put-done = again.put-done;
   put-read = again.put-read;
+  powers-done = again.powers-done;
   active-read = again.active-read;
   reactive-read = again.reactive-read;
 }

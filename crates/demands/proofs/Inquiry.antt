@@ -4,11 +4,15 @@ use mathlib.Core.Bool.{Bool, true, false, cond}
 use mathlib.Core.List.{List}
 use Prim.Native.Nat.{ℕ, _≤_}
 use native.Mathlib.Omega.{arith}
-use lib.Dec.{ltb}
+use lib.Dec.{eqb, ltb}
 use lib.ListN.{length}
-use borrow.Author.Tests.{ltb-false, le-ltb}
+use borrow.Author.Tests.{ltb-false, le-ltb, eqb-true, eqb-false}
+use Rattle.case_laws.proofs.Test.{either}
 use Rattle.words.specs.Number.{Bytes}
 use Rattle.frame.specs.Table.{parameterOf}
+use Rattle.slots.specs.Day.{slotsOf}
+use Rattle.slots.proofs.DayLaws.{slots-at-most}
+use Rattle.request.proofs.RequestLaws.{subject-wider}
 use Rattle.request.specs.Request.{requestFrame}
 use Rattle.request.specs.Subject.{subjectOf, mostSlots, askable}
 use Rattle.request.specs.declared.request.Request.{Request}
@@ -24,11 +28,14 @@ use Rattle.reader.specs.declared.reply.Decoded.the-variants as decoded
 use Rattle.meter_inquiry.specs.Inquiry as inquiry
 use Rattle.meter_inquiry.specs.Inquiry.{isSilent, toldOf, asked}
 use Rattle.meter_inquiry.specs.declared.Inquired.the-variants.{TooShort, Unsound, Silent, Told}
-use Rattle.demands.specs.Demand1.{inTable}
+use Rattle.demands.specs.Demand1.{inTable, answerNumber}
 use Rattle.demands.specs.Figures.{ownFigures}
 use Rattle.demands.specs.Demand2.{answered, replyIn, FitsRequest}
+use Rattle.demands.specs.Demand2Done.{Ready}
 use Rattle.demands.proofs.Calls.{decode}
-use Rattle.demands.proofs.Replies.{done-only, read, refused}
+use Rattle.demands.proofs.Changes.{read-changes-nothing, refused-leaves}
+use Rattle.demands.proofs.Done.{read-done}
+use Rattle.demands.proofs.Replies.{done-only, passed, request-read, read, refused}
 
 -- a reply that the reader takes for a refusal is not told with 0
 told-refused : (o : Outcome) (q : Request) (result : ℕ) → decodedOf q (replyIn o) ≡ decoded.MeterRefused result
@@ -94,6 +101,37 @@ inquired r s q out f b k h = go (heard r (requestFrame q)) refl (isDone (verdict
         ap (λ (o : inquiry.Outcome). o .answer) (t .whole)
         ∙ told-done (answered r s q out) q v
         ∙ ap Told (read r s q out f b k (ap numberOf v))
+
+-- ---- what asks for figures that the meter has is told them
+
+pub inquired-done : (r : Record) (s : List ℕ) (q : Request) (out : List ℕ) → Ready r s (requestFrame q) out → FitsRecord r → Bytes s → FitsRequest q
+    → askable (subjectOf q (slotsOf (r .minutes))) ≡ true → (inquiry.inquired r s q out) .answer ≡ Told (ownFigures (parameterOf (q .parameter)) r s q)
+unfolding inquiry.inquired asked
+inquired-done r s q out y f b k h =
+    let z = read-done r s q out y h in
+    let m : askable (subjectOf q mostSlots) ≡ true = ap askable (subject-wider q (slotsOf (r .minutes)) (slots-at-most (r .minutes)) h) ∙ h in
+    let v : (answered r s q out) .answer .verdict ≡ Done = ap (λ (o : Outcome). o .answer .verdict) (passed r s (requestFrame q) out z .whole) in
+    let whole : inquiry.inquired r s q out ≡ toldOf (answered r s q out) q = simp (le-ltb (length out) 64 (y .room), y .sound, m) in
+    ap (λ (o : inquiry.Outcome). o .answer) whole ∙ told-done (answered r s q out) q v ∙ ap Told (read r s q out f b k z)
+
+-- ---- the store stays
+
+answered-leaves : (r : Record) (s : List ℕ) (q : Request) (out : List ℕ) → (answered r s q out) .store ≡ s
+answered-leaves r s q out = go (eqb (answerNumber (answered r s q out)) 0) refl
+  where
+    go : (b : Bool) → eqb (answerNumber (answered r s q out)) 0 ≡ b → (answered r s q out) .store ≡ s
+    go true e = read-changes-nothing r s (requestFrame q) out (request-read q) (eqb-true _ 0 e) .slices
+    go false e = refused-leaves r s (requestFrame q) out (eqb-false _ 0 e) .slices
+
+pub inquired-leaves : (r : Record) (s : List ℕ) (q : Request) (out : List ℕ) → (inquiry.inquired r s q out) .store ≡ s
+unfolding inquiry.inquired asked toldOf
+inquired-leaves r s q out =
+    let stays : inquiry.Outcome → Type 0 = λ o. o .store ≡ s in
+    let kept = answered-leaves r s q out in
+    either stays (ltb (length out) 64) refl
+    (either stays (isSound r s)
+    (either stays (askable (subjectOf q mostSlots)) (either stays (isSilent ((answered r s q out) .answer .verdict)) kept kept) refl)
+    refl)
 
 -- ---- demand 1
 

@@ -6,6 +6,7 @@ pub mod Six
 pub mod Replies
 pub mod Inquiry
 pub mod Changes
+pub mod Fits
 pub mod Done
 pub mod Range
 pub mod Again

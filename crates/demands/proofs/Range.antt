@@ -2,15 +2,13 @@
 use mathlib.Core.Path.{_≡_, refl, sym, ap, ap₂, _∙_}
 use mathlib.Core.Bool.{Bool, true, false, _&&_, _||_, false≢true}
 use mathlib.Core.List.{List, [], _∷_}
-use Prim.Native.Nat.{ℕ, zero, suc, _+_, _<_}
-use native.Mathlib.Nat.{zero-lt-suc}
+use Prim.Native.Nat.{ℕ, _+_, _<_}
 use native.Mathlib.Omega.{arith}
 use lib.Dec.{eqb, leb, ltb, lit≤}
 use lib.Ieee.{le, fits, ofBits}
 use lib.ListN.{length, replicate, length-replicate}
 use borrow.Author.Tests.{le-leb, eq-eqb, eqb-false}
 use Rattle.case_laws.proofs.Test.{either}
-use Rattle.words.specs.Number.{Bytes}
 use Rattle.words.specs.Place.{byteAt}
 use Rattle.calendar.specs.Date.{isDate, daysInMonth, monthLengths}
 use Rattle.calendar.specs.Time.{isTime}
@@ -57,6 +55,7 @@ use Rattle.demands.specs.Demand1.{answerNumber}
 use Rattle.demands.specs.Demand2.{answered}
 use Rattle.demands.specs.Demand2Done.{BytesRequest, Answerable}
 use Rattle.demands.proofs.Done.{read-done}
+use Rattle.demands.proofs.Fits.{zero-bytes}
 use Rattle.demands.proofs.Replies as replies
 use Rattle.demands.proofs.Wire.{OfBytes, nil, bytes-cons}
 
@@ -186,11 +185,6 @@ meter-fits a h = record {
   reactive = record { a = tt; b = tt; c = tt };
   next = lit≤ tt;
 }
-
-zero-bytes : (n : ℕ) → Bytes (replicate n 0)
-zero-bytes zero i = zero-lt-suc 255
-zero-bytes (suc n) zero = zero-lt-suc 255
-zero-bytes (suc n) (suc i) = zero-bytes n i
 
 zeros-sound : (r : Record) (n : ℕ) → n ≡ storeBytes → Within r → isSound r (replicate n 0) ≡ true
 unfolding isSound

@@ -95,7 +95,7 @@ passed r s f out h = go (ltb (length out) 64) refl (isSound r s) refl (heard r f
 
 -- ---- the request's frame, as the meter takes it apart
 
-request-read : (q : Request) → functionIn (requestFrame q) ≡ function.Read
+pub request-read : (q : Request) → functionIn (requestFrame q) ≡ function.Read
 unfolding requestFrame framed functionOf
 request-read q = refl
 

@@ -8,7 +8,7 @@ use lib.ListN.{length}
 use Rattle.words.specs.Number.{Bytes}
 use Rattle.words.specs.Place.{byteAt, numberAt}
 use Rattle.frame.specs.Layout.{parameterPlace, bareSize, unlockSize}
-use Rattle.frame.specs.Table.{rowOf}
+use Rattle.frame.specs.Table.{rowOf, parameterOf}
 use Rattle.frame.specs.declared.code.Function.the-variants as function
 use Rattle.slots.specs.Day.{slotsOf}
 use Rattle.request.specs.Request as making
@@ -23,8 +23,11 @@ use Rattle.meter_command.specs.Access.{isMain, changeAllowed, passwordFor}
 use Rattle.meter_command.specs.Judgement.{argumentFits}
 use Rattle.meter_command.specs.Parts.{functionIn, parameterIn, detailIn}
 use Rattle.meter.specs.Reply.{isSound, heard, answerOf}
+use Rattle.meter_inquiry.specs.Inquiry.{inquired}
+use Rattle.meter_inquiry.specs.declared.Inquired.the-variants.{Told}
 use Rattle.demands.specs.Demand1.{answerNumber}
 use Rattle.demands.specs.Demand2.{answered, FitsRequest}
+use Rattle.demands.specs.Figures.{ownFigures}
 
 -- the meter is ready for a frame: room for the reply, its record and store within their ranges, and the frame is one that it hears
 pub record Ready (r : Record) (s f out : List ℕ) : Type 0 where
@@ -52,6 +55,10 @@ pub record Demand2Done : Type 0 where
   -- what asks for figures that a meter of its interval has, it answers
   pub read-done : (r : Record) (s : List ℕ) (q : Request) (out : List ℕ) → Ready r s (requestFrame q) out
       → askable (subjectOf q (slotsOf (r .minutes))) ≡ true → answerNumber (answered r s q out) ≡ 0
+  -- the same as one call, `inquire`, which leaves the store as it was whatever it answers
+  pub inquired-done : (r : Record) (s : List ℕ) (q : Request) (out : List ℕ) → Ready r s (requestFrame q) out → FitsRecord r → Bytes s → FitsRequest q
+      → askable (subjectOf q (slotsOf (r .minutes))) ≡ true → (inquired r s q out) .answer ≡ Told (ownFigures (parameterOf (q .parameter)) r s q)
+  pub inquired-leaves : (r : Record) (s : List ℕ) (q : Request) (out : List ℕ) → (inquired r s q out) .store ≡ s
   -- a change and a zeroing of a parameter that can be changed or zeroed, of its length, with the access it needs and a right argument
   pub change-done : (r : Record) (s f out : List ℕ) → Ready r s f out → functionIn f ≡ function.Change → let w = rowOf (parameterIn f) in
       w .changeable ≡ true → length f ≡ bareSize + w .«change_bytes» → changeAllowed (parameterIn f) (r .protection .level) ≡ true

@@ -1,3 +1,5 @@
 pub mod BitsLaws
 pub mod WireLaws
 pub mod LogLaws
+pub mod Ends
+pub mod Claims

@@ -24,7 +24,7 @@ use Rattle.c_values.proofs.AskLaws.{ask-size, ask-again}
 use Rattle.c_values.specs.declared.ask.AskRead.the-variants.{Read}
 use Rattle.logger.specs.Ask as ask
 use Rattle.logger.specs.Take as take
-use Rattle.metlazuel.specs.LogCalls.{askLeft, askForC, lapseForC, closes, takeForC}
+use Rattle.metlazuel.specs.LogCalls.{askLeft, askForC, lapseLeft, lapseForC, closes, takeForC}
 
 module _ (bs : List ℕ) where
   -- the bytes after an ask's outcome are its ask
@@ -47,8 +47,9 @@ module _ (bs : List ℕ) where
   ask-left log held address day slot out e = rw e (ask-opened log held address day slot out e)
 
   pub lapse-left : (held : OpenAsk) → askOf bs ≡ Read held → askOf (lapseForC (askOf bs) bs .left) ≡ Read Closed
-  unfolding lapseForC
-  lapse-left held e = rw e (ask-again bs Closed (ask-size bs held e))
+  unfolding lapseForC lapseLeft
+  lapse-left Closed e = rw e e
+  lapse-left (Open address day slot) e = rw e (ask-again bs Closed (ask-size bs (Open address day slot) e))
 
   -- the bytes after a reply's outcome are its ask
   abbrev Left : Outcome Taken (List ℕ) → Type 0

@@ -19,7 +19,7 @@ use Rattle.logger.specs.Take as take
 use Rattle.logger.specs.declared.ask.Asked.{Asked}
 use Rattle.logger.specs.declared.take.Taken.{Taken}
 use Rattle.logger.specs.declared.held.OpenAsk.{OpenAsk}
-use Rattle.logger.specs.declared.held.OpenAsk.the-variants.{Closed}
+use Rattle.logger.specs.declared.held.OpenAsk.the-variants.{Closed, Open}
 use Rattle.c_values.specs.Ask.{askBytes}
 use Rattle.c_values.specs.declared.ask.AskRead.{AskRead}
 use Rattle.c_values.specs.declared.ask.AskRead.the-variants.{Read, Unreadable}
@@ -69,8 +69,12 @@ askForC (Read held) log bs address day slot out = askedForC (ask.asked log held 
 askForC Unreadable log bs address day slot out = outcome (unreadNumber (length out) readSize) (bs, out)
 
 -- "A lapse closes it; with nothing open a lapse does nothing and answers 0"
+unfoldable pub lapseLeft : OpenAsk → List ℕ → List ℕ
+lapseLeft Closed bs = bs
+lapseLeft (Open address day slot) bs = written bs 0 (askBytes Closed)
+
 unfoldable pub lapseForC : AskRead → List ℕ → Outcome ℕ (List ℕ)
-lapseForC (Read held) bs = outcome 0 (written bs 0 (askBytes Closed))
+lapseForC (Read held) bs = outcome 0 (lapseLeft held bs)
 lapseForC Unreadable bs = outcome 28 bs
 
 -- the numbers with which a reply closes the ask: 0, and those with "ask closed"

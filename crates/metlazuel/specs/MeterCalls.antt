@@ -2,7 +2,7 @@
 use mathlib.Core.Bool.{cond}
 use mathlib.Core.List.{List, [], _∷_}
 use Prim.Native.Nat.{ℕ}
-use lib.Dec.{ltb}
+use lib.Dec.{eqb, ltb}
 use lib.Ieee.{binary32, ofBits}
 use lib.ListN.{length}
 use Rattle.refusal.specs.Outcome.{Outcome, outcome}
@@ -96,11 +96,15 @@ putForC o bs = outcome (numberOf (o .result)) (bytesAfter (o .result) bs, o .lef
 unfoldable pub bytesLeft : Answered → List ℕ → List ℕ → List ℕ
 bytesLeft a f bs = cond (verdict.isDone (a .verdict)) (cond (isRead (functionIn f)) bs (written bs 0 (recordBytes (a .after)))) bs
 
--- left: the reply's length, the record's bytes, the store and the output
-abbrev pub answeredForC : reply.Outcome → List ℕ → List ℕ → Outcome ℕ (ℕ × List ℕ × List ℕ × List ℕ)
-answeredForC o f bs =
-    outcome (verdict.numberOf (o .answer .verdict)) (o .answer .length, bytesLeft (o .answer) f bs, o .store, o .out)
+-- the lent length: the reply's, which has six bytes or more; untouched where the meter sends none
+unfoldable pub sentLength : ℕ → ℕ → ℕ
+sentLength sent before = cond (eqb sent 0) before sent
 
-unfoldable pub answerForC : RecordRead → List ℕ → List ℕ → List ℕ → List ℕ → Outcome ℕ (ℕ × List ℕ × List ℕ × List ℕ)
-answerForC (Read r) bs s f out = answeredForC (answerOf r s f out) f bs
-answerForC Unreadable bs s f out = outcome (unreadNumber (length out) longest) (0, bs, s, out)
+-- left: the reply's length, the record's bytes, the store and the output
+abbrev pub answeredForC : reply.Outcome → ℕ → List ℕ → List ℕ → Outcome ℕ (ℕ × List ℕ × List ℕ × List ℕ)
+answeredForC o before f bs =
+    outcome (verdict.numberOf (o .answer .verdict)) (sentLength (o .answer .length) before, bytesLeft (o .answer) f bs, o .store, o .out)
+
+unfoldable pub answerForC : RecordRead → ℕ → List ℕ → List ℕ → List ℕ → List ℕ → Outcome ℕ (ℕ × List ℕ × List ℕ × List ℕ)
+answerForC (Read r) before bs s f out = answeredForC (answerOf r s f out) before f bs
+answerForC Unreadable before bs s f out = outcome (unreadNumber (length out) longest) (before, bs, s, out)

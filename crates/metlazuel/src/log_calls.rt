@@ -15,7 +15,7 @@ ghost use Rattle.log.specs.Fresh.{freshOf, freshNumber};
 ghost use Rattle.logfile.specs.Write.{writtenFile, writeNumber};
 ghost use Rattle.c_values.specs.Ask.{askOf};
 ghost use Rattle.metlazuel.specs.Calls.{sized};
-ghost use Rattle.metlazuel.specs.LogCalls.{headerFrom, imageLength, fileLength, askLeft, askForC, lapseForC, closes, takeForC};
+ghost use Rattle.metlazuel.specs.LogCalls.{headerFrom, imageLength, fileLength, askLeft, askForC, lapseLeft, lapseForC, closes, takeForC};
 
 // uint8_t metlazuel_log_fresh(uint8_t *log, size_t room, uint8_t year, uint8_t month, uint8_t day, uint8_t days, uint8_t minutes,
 //     uint16_t ke, size_t *length)
@@ -123,7 +123,7 @@ fn put_left(ask: &mut [u8], moved: bool, held: OpenAsk)
 
 // uint8_t metlazuel_lapse(uint8_t *ask, size_t size)
 //
-// No reply came.
+// No reply came: an open ask is closed, and with none open the bytes stay as they are.
 #[no_mangle]
 pub extern "C" fn metlazuel_lapse(ask: &mut [u8]) -> u8
     ensures { λ n. ⌜ outcome n (now (ask .exit)) ≡ lapseForC (askOf (now (ask .entry))) (now (ask .entry)) ⌝ }
@@ -131,8 +131,18 @@ pub extern "C" fn metlazuel_lapse(ask: &mut [u8]) -> u8
     let AskRead::Read(held) = c_values::ask_of(ask) else {
         return refusal::UNSOUND;
     };
-    c_values::put_ask(ask, logger::lapse(held));
+    put_lapsed(ask, held);
     refusal::DONE
+}
+
+// The ask's bytes after a lapse.
+fn put_lapsed(ask: &mut [u8], held: OpenAsk)
+    ensures { λ _. ⌜ now (ask .exit) ≡ lapseLeft held (now (ask .entry)) ⌝ }
+{
+    match held {
+        OpenAsk::Closed => {}
+        OpenAsk::Open(_, _, _) => c_values::put_ask(ask, logger::lapse(held)),
+    }
 }
 
 // uint8_t metlazuel_take(uint8_t *log, size_t n, uint8_t *ask, size_t size, const uint8_t *reply, size_t bytes, uint8_t *result)

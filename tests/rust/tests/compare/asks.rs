@@ -202,11 +202,15 @@ impl Logs {
         log::ask(&self.image, &mut open, ask)
     }
 
+    /// The ask's bytes change only where one was open.
     fn lapse(&mut self) -> Answer {
         let outcome = open_of(&self.ask).ok_or(Refusal::Unsound);
-        if let Ok(mut open) = outcome {
+        if let Ok(before) = outcome {
+            let mut open = before;
             log::lapse(&mut open);
-            self.ask = bytes_of(open);
+            if open != before {
+                self.ask = bytes_of(open);
+            }
         }
         let library_number = library::lapse(&mut self.library_ask);
         same("number", number(&outcome), library_number)?;

@@ -93,13 +93,15 @@ impl Twin {
         }
     }
 
+    /// Where nothing is sent, the lent length is left.
     fn frame(&mut self, frame: &[u8], out: &[u8]) -> Answer {
         let (mut ours, mut theirs) = (out.to_vec(), out.to_vec());
-        let (outcome, length) = self.model_answer(frame, &mut ours);
+        let (outcome, sent) = self.model_answer(frame, &mut ours);
         if frame.get(1) != Some(&READ) {
             self.renew(&outcome);
         }
         let mut library_length = usize::MAX;
+        let length = if sent == 0 { library_length } else { sent };
         let library_number =
             library::answer(&mut self.library_kept, &mut self.library_store, frame, &mut theirs, &mut library_length);
         same("number", number(&outcome), library_number)?;

@@ -1,7 +1,7 @@
 -- The bytes are a record or none, and each case of `answerForC` is what the callees leave.
-use mathlib.Core.Path.{sym, ap, _∙_}
-use Rattle.meter.specs.Reply.{Outcome}
 use Rattle.metlazuel.specs.MeterCalls.{answerForC, answeredForC}
+use Rattle.meter.specs.Reply.{Outcome}
+use mathlib.Core.Path.{sym, ap, _∙_}
 use borrow.Author.Needs.{needs}
 use Rattle.metlazuel.proofs.answer_call.metlazuel_meter_answer.Statement.{statement}
 use Rattle.metlazuel.proofs.answer_call.metlazuel_meter_answer.Tie as tie
@@ -33,6 +33,9 @@ answer-requires c κs = search needs
 put-after-requires : tie.Need-put-after-requires
 put-after-requires c κs = search needs
 
+sent-length-requires : tie.Need-sent-length-requires
+sent-length-requires c κs = search needs
+
 number-requires : tie.Need-number-requires
 number-requires c κs = search needs
 
@@ -48,13 +51,17 @@ same-length-4 c = search needs
 returns-2 : tie.Need-returns-2
 unfolding answerForC
 returns-2 c =
-    let put = c .before .before .before in
+    let put = c .before .before .before .before .before in
     let answered = put .before .before .before .before .before .before in
     let known = answered .before .before .before .before in
     let read = known .before .before in
     let start = read .before .before .before .before .before .before .args in
-    simp (sym (read .record-of .ensures) ∙ known .r .given .1, c .number .ensures, put .put-after .ensures)
-    (ap (λ (o : Outcome). answeredForC o (start .frame .now) (start .meter .now)) (answered .answer .ensures))
+    simp (
+      sym (read .record-of .ensures) ∙ known .r .given .1,
+      c .number .ensures,
+      put .put-after .ensures,
+      c .before .sent-length .ensures,
+    ) (ap (λ (o : Outcome). answeredForC o (start .length .now) (start .frame .now) (start .meter .now)) (answered .answer .ensures))
 
 pub metlazuel-meter-answer-spec : {M : Type 1} → statement M
 metlazuel-meter-answer-spec =
@@ -68,6 +75,7 @@ metlazuel-meter-answer-spec =
     returns
     answer-requires
     put-after-requires
+    sent-length-requires
     number-requires
     same-length-2
     same-length-3

@@ -1,4 +1,4 @@
--- `metlazuel_meter_make` meets its contract: the test of the room picks the branch of `makeTold`; `keep` then tells what `made_in` ensures.
+-- `metlazuel_meter_make` meets its contract: the test of the room picks the branch of `makeForC`; `keep` then gives what `made_in` ensures.
 use mathlib.Core.Path.{ap, _∙_}
 use borrow.Author.Tests.{lt-ltb, le-ltb}
 use Rattle.meter_record.specs.declared.record.RecordAnswer.{RecordAnswer}

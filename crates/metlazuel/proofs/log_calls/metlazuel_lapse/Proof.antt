@@ -1,6 +1,6 @@
--- `metlazuel_lapse` meets its contract: what `ask_of` reads picks the clause of `lapseTold`; `lapse` ensures none open, and `put_ask` writes that.
-use Rattle.metlazuel.specs.LogCalls.{lapseForC}
+-- `metlazuel_lapse` meets its contract: what `ask_of` reads picks the clause of `lapseForC`, and `put_lapsed` ensures the bytes.
 use mathlib.Core.Path.{sym, _∙_}
+use Rattle.metlazuel.specs.LogCalls.{lapseForC}
 use borrow.Author.Needs.{needs}
 use Rattle.metlazuel.proofs.log_calls.metlazuel_lapse.Statement.{statement}
 use Rattle.metlazuel.proofs.log_calls.metlazuel_lapse.Tie as tie
@@ -21,11 +21,8 @@ returns : tie.Need-returns
 unfolding lapseForC
 returns c = simp (sym (c .before .before .ask-of .ensures) ∙ c .enum-told .given .1)
 
-lapse-requires : tie.Need-lapse-requires
-lapse-requires c κs = search needs
-
-put-ask-requires : tie.Need-put-ask-requires
-put-ask-requires c κs = search needs
+put-lapsed-requires : tie.Need-put-lapsed-requires
+put-lapsed-requires c κs = search needs
 
 same-length-2 : tie.Need-same-length-2
 same-length-2 c = search needs
@@ -33,10 +30,9 @@ same-length-2 c = search needs
 returns-2 : tie.Need-returns-2
 unfolding lapseForC
 returns-2 c =
-    let at-lapse = c .before .before .before in
-    let at-held = at-lapse .before .before .before in
-    let at-ask-of = at-held .before .before in
-    simp (sym (at-ask-of .ask-of .ensures) ∙ at-held .held .given .1, c .before .before .put-ask .ensures, at-lapse .lapse .ensures)
+    let at-put = c .before .before in
+    let at-held = at-put .before .before .before in
+    simp (sym (at-held .before .before .ask-of .ensures) ∙ at-held .held .given .1, at-put .put-lapsed .ensures)
 
 pub metlazuel-lapse-spec : {M : Type 1} → statement M
 metlazuel-lapse-spec =
@@ -47,7 +43,6 @@ metlazuel-lapse-spec =
     enum-told
     same-length
     returns
-    lapse-requires
-    put-ask-requires
+    put-lapsed-requires
     same-length-2
     returns-2)

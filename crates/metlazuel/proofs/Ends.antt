@@ -1,0 +1,301 @@
+-- Demand 1 at the boundary: what the proved calls below leave, and the lent words and bytes that C adds to it.
+use mathlib.Core.Path.{_≡_, refl, ap}
+use mathlib.Core.Bool.{Bool, true, false, cond}
+use mathlib.Core.List.{List}
+use Prim.Native.Nat.{ℕ, _+_}
+use native.Mathlib.Omega.{arith}
+use borrow.Author.Tests.{ne-eqb}
+use lib.Dec.{ltb}
+use lib.ListN.{length}
+use Rattle.case_laws.proofs.Test.{either}
+use Rattle.words.specs.Place.{written}
+use Rattle.refusal.specs.Outcome.{Outcome, outcome}
+use Rattle.frame.specs.Layout.{bareSize, readSize, longest}
+use Rattle.request.specs.Request as request-of
+use Rattle.request.specs.Subject.{subjectOf, mostSlots}
+use Rattle.request.specs.declared.request.Request.{Request}
+use Rattle.reader.specs.Reply as reader
+use Rattle.reader.specs.declared.reply.Decoded.{Decoded}
+use Rattle.reader.specs.declared.reply.Decoded.the-variants as decoded
+use Rattle.meter_record.specs.Record as record-of
+use Rattle.meter_record.specs.declared.record.Record.{Record}
+use Rattle.meter_record.specs.declared.record.RecordAnswer.{RecordAnswer}
+use Rattle.meter_record.specs.declared.record.RecordAnswer.the-variants as given
+use Rattle.meter_record_bytes.specs.Record.{recordOf, recordSize}
+use Rattle.meter_record_bytes.specs.declared.record.RecordRead.{RecordRead}
+use Rattle.meter_record_bytes.specs.declared.record.RecordRead.the-variants as of-record
+use Rattle.meter_command.specs.Judgement.{verdictOf}
+use Rattle.meter_command.specs.Verdict.{numberOf, isDone}
+use Rattle.meter_command.specs.declared.verdict.Verdict.{Verdict}
+use Rattle.meter_command.specs.declared.verdict.Verdict.the-variants as verdict
+use Rattle.meter.specs.Reply as reply
+use Rattle.meter.specs.Reply.{isSound, heard, replied, answerOf}
+use Rattle.slots.specs.declared.key.Key.{Key}
+use Rattle.log.specs.Fresh.{freshOf, freshNumber}
+use Rattle.log.specs.declared.fresh.FreshAnswer.{FreshAnswer}
+use Rattle.log.specs.declared.fresh.FreshAnswer.the-variants as made
+use Rattle.dayreport.specs.Report.{reportOf, reportNumber}
+use Rattle.logfile.specs.Read.{readFile, readNumber}
+use Rattle.logfile.specs.Write.{writtenFile, writeNumber}
+use Rattle.logfile.specs.declared.read.ReadAnswer.{ReadAnswer}
+use Rattle.logfile.specs.declared.read.ReadAnswer.the-variants as file
+use Rattle.logfile.specs.declared.write.WriteAnswer.{WriteAnswer}
+use Rattle.logfile.specs.declared.write.WriteAnswer.the-variants as wrote
+use Rattle.logger.specs.declared.held.OpenAsk.{OpenAsk}
+use Rattle.logger.specs.declared.held.OpenAsk.the-variants.{Closed, Open}
+use Rattle.c_values.specs.Ask.{askOf, askBytes}
+use Rattle.c_values.specs.Row.{figuresFor, figureRow}
+use Rattle.c_values.specs.declared.ask.AskRead.{AskRead}
+use Rattle.c_values.specs.declared.ask.AskRead.the-variants.{Read, Unreadable}
+use Rattle.demands.specs.Demand1.{inTable, Ends, EndsBy, givesFrame}
+use Rattle.demands.proofs.Calls.{done, stays}
+use Rattle.demands.proofs.Claims as claims
+use Rattle.metlazuel.specs.Calls.{numbered, sized, unreadNumber, resultAfter}
+use Rattle.metlazuel.specs.LogCalls.{headerFrom, imageLength, fileLength, lengthAfter, askLeft, askForC, lapseLeft, lapseForC, closes, takeForC}
+use Rattle.metlazuel.specs.WireCalls.{requestFrom, countAfter, decodedForC, decodeForC}
+use Rattle.metlazuel.specs.MeterCalls.{telemetryFrom, clockFrom, phasesFrom, key, row, madeIn, secondIn, powersIn, sliceIn}
+use Rattle.metlazuel.specs.MeterCalls.{bytesAfter, benchForC, makeForC, putForC, bytesLeft, sentLength, answerForC}
+use Rattle.metlazuel.specs.Demand1.{EndsForC, RefusedOutput}
+
+-- 1 or 28 for bytes that are no ask or no record, and nothing done
+unread : {A : Type 0} (room least : ℕ) (x : A) → Ends (unreadNumber room least) x x
+unfolding unreadNumber inTable
+unread room least x = either (λ (n : ℕ). Ends n x x) (ltb room least) (stays 1 x refl) (stays 28 x refl)
+
+-- ---- the log: a length that a refusal leaves, beside what the call below leaves
+
+sized-ends : {A : Type 0} (number : A → ℕ) (size : A → ℕ → ℕ) → ((a : A) (n : ℕ) → (number a ≡ 0 → ⊥) → size a n ≡ n)
+    → (o : Outcome A (List ℕ)) (out : List ℕ) (n : ℕ) → EndsBy number out o → EndsForC (n, out) (sized number size o n)
+sized-ends number size left o out n e =
+    record { in-table = e .in-table; unchanged = λ r. rw (left (o .result) n r, e .unchanged r) }
+
+image-kept : (a : FreshAnswer) (n : ℕ) → (freshNumber a ≡ 0 → ⊥) → imageLength a n ≡ n
+unfolding imageLength
+image-kept (made.Done k) n r = absurd (r refl)
+image-kept made.OutOfRange n r = refl
+image-kept made.TooShort n r = refl
+
+file-kept : (a : WriteAnswer) (n : ℕ) → (writeNumber a ≡ 0 → ⊥) → fileLength a n ≡ n
+unfolding fileLength
+file-kept (wrote.Done k) n r = absurd (r refl)
+file-kept wrote.Unsound n r = refl
+file-kept wrote.TooShort n r = refl
+
+length-kept : (a : ReadAnswer) (n : ℕ) → (readNumber a ≡ 0 → ⊥) → lengthAfter a n ≡ n
+unfolding lengthAfter
+length-kept (file.Done k) n r = absurd (r refl)
+length-kept file.WrongMark n r = refl
+length-kept file.WrongVersion n r = refl
+length-kept file.WrongHeader n r = refl
+length-kept file.WrongLength n r = refl
+length-kept file.WrongCrc n r = refl
+length-kept file.WrongCell n r = refl
+length-kept file.TooShort n r = refl
+
+pub log-fresh : (year month day days minutes ke : ℕ) (log : List ℕ) (n : ℕ)
+    → EndsForC (n, log) (sized freshNumber imageLength (freshOf (headerFrom year month day days minutes ke) log) n)
+log-fresh year month day days minutes ke log n =
+    let h = headerFrom year month day days minutes ke in
+    sized-ends freshNumber imageLength image-kept (freshOf h log) log n (claims.demand-1 .fresh-log h log)
+
+pub day-report : (log : List ℕ) (day : ℕ) (row : List ℕ) → EndsForC row (numbered reportNumber (reportOf log day row))
+day-report log day row = claims.demand-1 .day-report log day row
+
+pub write-file : (log out : List ℕ) (n : ℕ) → EndsForC (n, out) (sized writeNumber fileLength (writtenFile log out) n)
+write-file log out n = sized-ends writeNumber fileLength file-kept (writtenFile log out) out n (claims.demand-1 .write-file log out)
+
+pub read-file : (f out : List ℕ) (n : ℕ) → EndsForC (n, out) (sized readNumber lengthAfter (readFile f out) n)
+read-file f out n = sized-ends readNumber lengthAfter length-kept (readFile f out) out n (claims.demand-1 .read-file f out)
+
+-- ---- asks, lapses and replies
+
+ask-read : (a : AskRead) (log bs : List ℕ) (address day slot : ℕ) (out : List ℕ) → EndsForC (bs, out) (askForC a log bs address day slot out)
+unfolding askForC askLeft
+ask-read (Read held) log bs address day slot out =
+    let e = claims.demand-1 .put-ask log held address day slot out in
+    record { in-table = e .in-table; unchanged = λ n. rw (ne-eqb _ _ n, ap (λ (p : OpenAsk × List ℕ). p .1) (e .unchanged n)) }
+ask-read Unreadable log bs address day slot out = unread (length out) readSize (bs, out)
+
+pub ask : (log bs : List ℕ) (address day slot : ℕ) (out : List ℕ) → EndsForC (bs, out) (askForC (askOf bs) log bs address day slot out)
+ask log bs address day slot out = ask-read (askOf bs) log bs address day slot out
+
+lapse-read : (a : AskRead) (bs : List ℕ) → EndsForC bs (lapseForC a bs)
+unfolding lapseForC inTable
+lapse-read (Read held) bs = done bs _
+lapse-read Unreadable bs = stays 28 bs refl
+
+pub lapse : (bs : List ℕ) → EndsForC bs (lapseForC (askOf bs) bs)
+lapse bs = lapse-read (askOf bs) bs
+
+pub lapse-none : (bs : List ℕ) → askOf bs ≡ Read Closed → lapseForC (askOf bs) bs ≡ outcome 0 bs
+unfolding lapseForC lapseLeft
+lapse-none bs e = rw e
+
+closed-bytes : (b : Bool) (held left : OpenAsk) (bs : List ℕ) → left ≡ cond b Closed held → askLeft b left bs ≡ cond b (written bs 0 (askBytes Closed)) bs
+unfolding askLeft
+closed-bytes true held left bs e = rw e
+closed-bytes false held left bs e = refl
+
+take-read : (a : AskRead) (log bs reply : List ℕ) (result : ℕ) → let o = takeForC a log bs reply result in
+    Ends {A = ℕ × List ℕ × List ℕ} (o .result) (resultAfter (o .result) reply result, log, cond (closes (o .result)) (written bs 0 (askBytes Closed)) bs) (o .left)
+unfolding takeForC closes resultAfter inTable
+take-read (Read held) log bs reply result =
+    let e = claims.demand-1 .take-reply log held reply in
+    record {
+      in-table = e .in-table;
+      unchanged = λ n. rw (e .unchanged n, closed-bytes _ held _ bs (claims.demand-1 .ask-after log held reply));
+    }
+take-read Unreadable log bs reply result = record { in-table = refl; unchanged = λ n. refl }
+
+pub take : (log bs reply : List ℕ) (result : ℕ) → let o = takeForC (askOf bs) log bs reply result in
+    Ends {A = ℕ × List ℕ × List ℕ} (o .result) (resultAfter (o .result) reply result, log, cond (closes (o .result)) (written bs 0 (askBytes Closed)) bs) (o .left)
+take log bs reply result = take-read (askOf bs) log bs reply result
+
+-- ---- requests, and replies decoded
+
+pub request : (address parameter offset tariff detail : ℕ) (out : List ℕ)
+    → EndsForC out (numbered request-of.numberOf (request-of.requested (requestFrom address parameter offset tariff detail) out))
+request address parameter offset tariff detail out = claims.demand-1 .put-request (requestFrom address parameter offset tariff detail) out
+
+row-kept : (d : Decoded) (reply row : List ℕ) → (reader.numberOf d ≡ 0 → ⊥) → written row 0 (figureRow d reply) ≡ row
+unfolding figureRow written
+row-kept decoded.OutOfRange reply row n = refl
+row-kept (decoded.Malformed fault) reply row n = refl
+row-kept (decoded.MeterRefused result) reply row n = refl
+row-kept decoded.NotFinite reply row n = refl
+row-kept (decoded.Address a) reply row n = absurd (n refl)
+row-kept (decoded.Telemetry t) reply row n = absurd (n refl)
+row-kept (decoded.DateTime t) reply row n = absurd (n refl)
+row-kept (decoded.DisplayMask m) reply row n = absurd (n refl)
+row-kept (decoded.Powers p) reply row n = absurd (n refl)
+row-kept (decoded.OnePower p) reply row n = absurd (n refl)
+row-kept (decoded.Slice c) reply row n = absurd (n refl)
+row-kept decoded.SixSlices reply row n = absurd (n refl)
+
+module _ (q : Request) (reply row : List ℕ) (count result : ℕ) where
+  abbrev Told : Outcome ℕ (ℕ × ℕ × List ℕ) → Type 0
+  Told o = Ends {A = ℕ × ℕ × List ℕ} (o .result) (count, resultAfter (o .result) reply result, row) (o .left)
+
+  decoded-ends : (d : Decoded) → Told (decodedForC d reply row count result)
+  unfolding countAfter
+  decoded-ends d = record { in-table = claims.demand-1 .decode d; unchanged = λ n. rw (ne-eqb _ _ n, row-kept d reply row n) }
+
+  pub decode : Told (decodeForC q reply row count result)
+  unfolding decodeForC resultAfter inTable
+  decode =
+      either Told (ltb (length row) (figuresFor (subjectOf q mostSlots))) (record { in-table = refl; unchanged = λ n. refl })
+      (decoded-ends (reader.decodedOf q reply))
+
+-- ---- the bench meter
+
+bytes-kept : (a : RecordAnswer) (bs : List ℕ) → (record-of.numberOf a ≡ 0 → ⊥) → bytesAfter a bs ≡ bs
+unfolding bytesAfter
+bytes-kept (given.Done r) bs n = absurd (n refl)
+bytes-kept given.OutOfRange bs n = refl
+bytes-kept given.Unsound bs n = refl
+
+bench : (a : RecordAnswer) (bs : List ℕ) → EndsForC bs (benchForC a bs)
+bench a bs = record { in-table = claims.demand-1 .record-given a; unchanged = bytes-kept a bs }
+
+pub meter-make : (address minutes k ke reserve year month day hour minute second season : ℕ) (bs : List ℕ)
+    → EndsForC bs (makeForC (madeIn address minutes (telemetryFrom k ke reserve) (clockFrom year month day hour minute second) season) bs)
+unfolding makeForC inTable
+meter-make address minutes k ke reserve year month day hour minute second season bs =
+    let a = madeIn address minutes (telemetryFrom k ke reserve) (clockFrom year month day hour minute second) season in
+    either (EndsForC bs) (ltb (length bs) recordSize) (stays 1 bs refl) (bench a bs)
+
+pub meter-second : (bs : List ℕ) → EndsForC bs (benchForC (secondIn (recordOf bs)) bs)
+meter-second bs = bench (secondIn (recordOf bs)) bs
+
+pub meter-powers : (bs : List ℕ) (parameter a b c : ℕ) → EndsForC bs (benchForC (powersIn (recordOf bs) parameter (phasesFrom a b c)) bs)
+meter-powers bs parameter a b c = bench (powersIn (recordOf bs) parameter (phasesFrom a b c)) bs
+
+slice-ends : (read : RecordRead) (bs s : List ℕ) (k : Key) (counts : List ℕ) → EndsForC (bs, s) (putForC (sliceIn read s k counts) bs)
+unfolding sliceIn bytesAfter inTable
+slice-ends (of-record.Read r) bs s k counts =
+    let e = claims.demand-1 .put-slice r s k counts in
+    record { in-table = e .in-table; unchanged = λ n. rw (bytes-kept _ bs n, e .unchanged n) }
+slice-ends of-record.Unreadable bs s k counts = stays 28 (bs, s) refl
+
+pub meter-slice : (bs s : List ℕ) (month day number e+ e- r+ r- : ℕ)
+    → EndsForC (bs, s) (putForC (sliceIn (recordOf bs) s (key month day number) (row e+ e- r+ r-)) bs)
+meter-slice bs s month day number e+ e- r+ r- = slice-ends (recordOf bs) bs s (key month day number) (row e+ e- r+ r-)
+
+-- ---- a frame answered
+
+sent : (b : Bool) (n : ℕ) → sentLength (cond b bareSize 0) n ≡ cond b bareSize n
+unfolding sentLength
+sent true n = refl
+sent false n = refl
+
+not-done : (v : Verdict) → (numberOf v ≡ 0 → ⊥) → isDone v ≡ false
+not-done verdict.Done n = absurd (n refl)
+not-done verdict.TooShort n = refl
+not-done verdict.Unsound n = refl
+not-done verdict.Silent n = refl
+not-done verdict.UnknownFunction n = refl
+not-done verdict.UnknownParameter n = refl
+not-done verdict.NotOpen n = refl
+not-done verdict.WrongLength n = refl
+not-done verdict.NoAccess n = refl
+not-done verdict.WrongArgument n = refl
+
+module _ (n : ℕ) (bs s f out : List ℕ) where
+  abbrev Answers : Outcome ℕ (ℕ × List ℕ × List ℕ × List ℕ) → Type 0
+  Answers o = Ends {A = ℕ × List ℕ × List ℕ} (o .result) (cond (givesFrame (o .result)) bareSize n, bs, s) (o .left .0, o .left .1, o .left .2)
+
+  unread-answers : (b : Bool) → Answers (outcome (cond b 1 28) (n, bs, s, out))
+  unfolding inTable
+  unread-answers true = record { in-table = refl; unchanged = λ r. refl }
+  unread-answers false = record { in-table = refl; unchanged = λ r. refl }
+
+  read-answers : (read : RecordRead) → Answers (answerForC read n bs s f out)
+  unfolding answerForC bytesLeft unreadNumber
+  read-answers (of-record.Read r) =
+      let e = claims.demand-1 .answer r s f out in
+      record {
+        in-table = e .in-table;
+        unchanged = λ k.
+            rw (claims.demand-1 .answer-length r s f out k, sent _ n, not-done _ k, ap (λ (p : Record × List ℕ). p .1) (e .unchanged k));
+      }
+  read-answers of-record.Unreadable = unread-answers (ltb (length out) longest)
+
+  pub meter-answer : Answers (answerForC (recordOf bs) n bs s f out)
+  meter-answer = read-answers (recordOf bs)
+
+  unread-output : (b : Bool) → RefusedOutput (cond b 1 28) f out out
+  unread-output true = record { verdict = verdict.TooShort; its-number = refl; output = refl }
+  unread-output false = record { verdict = verdict.Unsound; its-number = refl; output = refl }
+
+  read-output : (read : RecordRead) → let o = answerForC read n bs s f out in (o .result ≡ 0 → ⊥) → RefusedOutput (o .result) f out (o .left .3)
+  unfolding answerForC unreadNumber
+  read-output (of-record.Read r) k =
+      record { verdict = (answerOf r s f out) .answer .verdict; its-number = refl; output = claims.demand-1 .answer-output r s f out k }
+  read-output of-record.Unreadable k = unread-output (ltb (length out) longest)
+
+  pub meter-output : let o = answerForC (recordOf bs) n bs s f out in (o .result ≡ 0 → ⊥) → RefusedOutput (o .result) f out (o .left .3)
+  meter-output = read-output (recordOf bs)
+
+-- a reply has a length: the six bytes around its data, and the data's
+long-sent : (n k : ℕ) → sentLength (bareSize + k) n ≡ bareSize + k
+unfolding sentLength
+long-sent n k = rw (ne-eqb (bareSize + k) 0 (λ z. omega arith))
+
+module _ (r : Record) (n : ℕ) (s f out : List ℕ) where
+  abbrev Stored : reply.Outcome → Type 0
+  Stored o = numberOf (o .answer .verdict) ≡ 0 → sentLength (o .answer .length) n ≡ o .answer .length
+
+  stored : Stored (answerOf r s f out)
+  unfolding answerOf replied
+  stored =
+      either Stored (ltb (length out) longest) (λ e. absurd (omega arith))
+      (either Stored (isSound r s)
+      (either Stored (heard r f)
+      (either Stored (isDone (verdictOf r f)) (λ e. long-sent n _) (λ e. long-sent n 0))
+      (λ e. absurd (omega arith)))
+      (λ e. absurd (omega arith)))
+
+pub meter-length : (r : Record) (n : ℕ) (bs s f out : List ℕ) → recordOf bs ≡ of-record.Read r
+    → let o = answerForC (recordOf bs) n bs s f out in o .result ≡ 0 → o .left .0 ≡ (answerOf r s f out) .answer .length
+unfolding answerForC
+meter-length r n bs s f out e = rw e (stored r n s f out)

@@ -1,0 +1,79 @@
+-- Demand 1 of the functions that firmware links. "Every call ends with an answer from document 01's table, for every input. A refused call
+-- leaves the log and the meter's record as they stood, and writes nothing into a lent buffer but the short refusal frame where the table
+-- gives one."
+--
+-- One claim a function, by its name, over the definition that its contract cites and with all that it is lent to write in, the words behind
+-- `length`, `count` and `result` too. `metlazuel_crc16` has no answer, and is lent nothing to write in. Proofs: `demand-1`, proofs/Claims.antt.
+use mathlib.Core.Path.{_≡_}
+use mathlib.Core.Bool.{cond}
+use mathlib.Core.List.{List}
+use Prim.Native.Nat.{ℕ}
+use Rattle.words.specs.Place.{written}
+use Rattle.refusal.specs.Outcome.{Outcome, outcome}
+use Rattle.frame.specs.Layout.{bareSize}
+use Rattle.frame.specs.Sealing.{framed}
+use Rattle.request.specs.Request as request
+use Rattle.request.specs.declared.request.Request.{Request}
+use Rattle.meter_record.specs.declared.record.Record.{Record}
+use Rattle.meter_record_bytes.specs.Record.{recordOf}
+use Rattle.meter_record_bytes.specs.declared.record.RecordRead.the-variants as read
+use Rattle.meter_command.specs.Verdict.{numberOf}
+use Rattle.meter_command.specs.declared.verdict.Verdict.{Verdict}
+use Rattle.meter.specs.Reply.{headOf, answerOf}
+use Rattle.log.specs.Fresh.{freshOf, freshNumber}
+use Rattle.dayreport.specs.Report.{reportOf, reportNumber}
+use Rattle.logfile.specs.Read.{readFile, readNumber}
+use Rattle.logfile.specs.Write.{writtenFile, writeNumber}
+use Rattle.logger.specs.declared.held.OpenAsk.the-variants.{Closed}
+use Rattle.c_values.specs.Ask.{askOf, askBytes}
+use Rattle.c_values.specs.declared.ask.AskRead.the-variants.{Read}
+use Rattle.demands.specs.Demand1.{Ends, givesFrame}
+use Rattle.metlazuel.specs.Calls.{numbered, sized, resultAfter}
+use Rattle.metlazuel.specs.LogCalls.{headerFrom, imageLength, fileLength, lengthAfter, askForC, lapseForC, closes, takeForC}
+use Rattle.metlazuel.specs.WireCalls.{requestFrom, decodeForC}
+use Rattle.metlazuel.specs.MeterCalls.{telemetryFrom, clockFrom, phasesFrom, key, row, madeIn, secondIn, powersIn, sliceIn}
+use Rattle.metlazuel.specs.MeterCalls.{benchForC, makeForC, putForC, answerForC}
+
+-- how a function ends: its number is the table's, and a refused one leaves what it is lent as it stood
+abbrev pub EndsForC : {L : Type 0} → L → Outcome ℕ L → Type 0
+EndsForC before o = Ends (o .result) before (o .left)
+
+-- the output after a frame f that was refused: "the short refusal frame where the table gives one", by the verdict that has the number
+pub record RefusedOutput (number : ℕ) (f before after : List ℕ) : Type 0 where
+  pub verdict : Verdict
+  pub its-number : numberOf verdict ≡ number
+  pub output : after ≡ cond (givesFrame number) (written before 0 (framed (headOf verdict f))) before
+
+pub record Demand1C : Type 0 where
+  -- the log: length and image, length and file, the row; the ask's bytes and the output
+  pub log-fresh : (year month day days minutes ke : ℕ) (log : List ℕ) (length : ℕ)
+      → EndsForC (length, log) (sized freshNumber imageLength (freshOf (headerFrom year month day days minutes ke) log) length)
+  pub day-report : (log : List ℕ) (day : ℕ) (row : List ℕ) → EndsForC row (numbered reportNumber (reportOf log day row))
+  pub write-file : (log out : List ℕ) (length : ℕ) → EndsForC (length, out) (sized writeNumber fileLength (writtenFile log out) length)
+  pub read-file : (file out : List ℕ) (length : ℕ) → EndsForC (length, out) (sized readNumber lengthAfter (readFile file out) length)
+  pub ask : (log bs : List ℕ) (address day slot : ℕ) (out : List ℕ) → EndsForC (bs, out) (askForC (askOf bs) log bs address day slot out)
+  -- "A lapse closes it; with nothing open a lapse does nothing and answers 0"
+  pub lapse : (bs : List ℕ) → EndsForC bs (lapseForC (askOf bs) bs)
+  pub lapse-none : (bs : List ℕ) → askOf bs ≡ Read Closed → lapseForC (askOf bs) bs ≡ outcome 0 bs
+  -- result, log and ask: 24 "meter's result not 0; returned; ask closed, log kept", 25 "ask closed, log kept"
+  pub take : (log bs reply : List ℕ) (result : ℕ) → let o = takeForC (askOf bs) log bs reply result in
+      Ends {A = ℕ × List ℕ × List ℕ} (o .result) (resultAfter (o .result) reply result, log, cond (closes (o .result)) (written bs 0 (askBytes Closed)) bs) (o .left)
+  -- requests, and replies decoded: count, result and row
+  pub request : (address parameter offset tariff detail : ℕ) (out : List ℕ)
+      → EndsForC out (numbered request.numberOf (request.requested (requestFrom address parameter offset tariff detail) out))
+  pub decode : (q : Request) (reply row : List ℕ) (count result : ℕ) → let o = decodeForC q reply row count result in
+      Ends {A = ℕ × ℕ × List ℕ} (o .result) (count, resultAfter (o .result) reply result, row) (o .left)
+  -- the bench meter: the record's bytes, and with a slice the store
+  pub meter-make : (address minutes k ke reserve year month day hour minute second season : ℕ) (bs : List ℕ)
+      → EndsForC bs (makeForC (madeIn address minutes (telemetryFrom k ke reserve) (clockFrom year month day hour minute second) season) bs)
+  pub meter-second : (bs : List ℕ) → EndsForC bs (benchForC (secondIn (recordOf bs)) bs)
+  pub meter-powers : (bs : List ℕ) (parameter a b c : ℕ) → EndsForC bs (benchForC (powersIn (recordOf bs) parameter (phasesFrom a b c)) bs)
+  pub meter-slice : (bs s : List ℕ) (month day number e+ e- r+ r- : ℕ)
+      → EndsForC (bs, s) (putForC (sliceIn (recordOf bs) s (key month day number) (row e+ e- r+ r-)) bs)
+  -- a frame: length, record and store, where a refusal frame is six bytes long; then the output; and the length of a reply of 0
+  pub meter-answer : (length : ℕ) (bs s f out : List ℕ) → let o = answerForC (recordOf bs) length bs s f out in
+      Ends {A = ℕ × List ℕ × List ℕ} (o .result) (cond (givesFrame (o .result)) bareSize length, bs, s) (o .left .0, o .left .1, o .left .2)
+  pub meter-output : (length : ℕ) (bs s f out : List ℕ) → let o = answerForC (recordOf bs) length bs s f out in
+      (o .result ≡ 0 → ⊥) → RefusedOutput (o .result) f out (o .left .3)
+  pub meter-length : (r : Record) (length : ℕ) (bs s f out : List ℕ) → recordOf bs ≡ read.Read r → let o = answerForC (recordOf bs) length bs s f out in
+      o .result ≡ 0 → o .left .0 ≡ (answerOf r s f out) .answer .length
