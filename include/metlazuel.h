@@ -62,7 +62,9 @@ uint16_t metlazuel_crc16(const uint8_t *bytes, size_t n);
 // ---- the log
 //
 // A log is its image: bytes that metlazuel_log_fresh or metlazuel_read_file put at the front of a lent buffer, with their number in
-// *length; a refusal leaves both. The other calls are lent exactly these bytes.
+// *length; a refusal leaves both. The other calls are lent exactly these bytes. A slot's cell is a gap as long as no well-formed reply with
+// result 0 came for it; empty where such replies came and all were zeros, which the meter answers for a slice that it does not have, too;
+// and else measured, with the counts of the first such reply that was not all zeros.
 
 // A fresh log, all gaps, that starts on a date (the year counts from 2000) and has 1 to 62 days of slots of 15 or 30 minutes, and ke
 // milliwatt-hours a count. OUT_OF_RANGE, TOO_SHORT, else DONE.
@@ -78,7 +80,7 @@ uint8_t metlazuel_log_fresh(uint8_t *log, size_t room, uint8_t year, uint8_t mon
 uint8_t metlazuel_ask(const uint8_t *log, size_t n, uint8_t *ask, size_t size, uint8_t address, uint8_t day, uint8_t slot,
                       uint8_t *out, size_t room);
 
-// No reply came: closes the ask; with none open the bytes stay as they are. UNSOUND, else DONE.
+// No well-formed reply came: closes the ask; with none open the bytes stay as they are. UNSOUND, else DONE.
 uint8_t metlazuel_lapse(uint8_t *ask, size_t size);
 
 // Takes a reply for the open ask into the log. UNSOUND (log or ask), NO_ASK_OPEN, NOT_IN_LOG, MALFORMED (the ask stays open),

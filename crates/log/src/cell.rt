@@ -4,9 +4,9 @@ ghost use Rattle.words.specs.Place.{written};
 ghost use Rattle.log.specs.Cell.{cellOf, cellBytes, kindBytes, kindCell, noCounts};
 
 pub enum Cell {
-    // Nothing is known.
+    // No well-formed reply with result 0 came.
     Gap,
-    // The meter had nothing: a slice of zeros.
+    // Such replies came, and all were zeros.
     Empty,
     // E+, E-, R+, R-, not all zero.
     Measured(u16, u16, u16, u16),

@@ -34,7 +34,8 @@ keyAt s i = keyOf (byteAt s (11 * i)) (byteAt s (11 * i + 1)) (byteAt s (11 * i 
 unfoldable pub sameKey : Key → Key → Bool
 sameKey a b = eqb (a .month) (b .month) && eqb (a .day) (b .day) && eqb (a .number) (b .number)
 
--- "a key already there (the first such place ..)": the first of the n places from i on that has the key, or the one behind them
+-- "a key already there (the first such place ..)": the first of the n places from i on that has the key, or the one behind them.
+-- "A place with an illegal key counts as unused" where the key looked for is legal, as are all that the meter asks for and puts.
 unfoldable pub firstFrom : List ℕ → Key → ℕ → ℕ → ℕ
 firstFrom s k i zero = i
 firstFrom s k i (suc n) = cond (sameKey (keyAt s i) k) i (firstFrom s k (suc i) n)
