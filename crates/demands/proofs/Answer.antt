@@ -31,7 +31,7 @@ use Rattle.demands.specs.Demand1.{inTable, Ends, givesFrame, answerNumbe
 
 -- ---- a command that is heard
 
-Judged : Verdict → Type 0
+unfoldable pub Judged : Verdict → Type 0
 Judged v = (eqb (numberOf v) 0 || givesFrame (numberOf v)) ≡ true
 
 checked-judged : (a b c d e : Bool) → Judged (checked a b c d e)
@@ -58,7 +58,7 @@ module _ (r : Record) (f : List ℕ) where
       either Judged (eqb (length f) 6) (either Judged (eqb (byteAt f 2) 0) (either Judged (eqb (byteAt f 3) 0) refl refl) refl) refl
   judged-by function.Unknown = refl
 
-  judged : Judged (verdictOf r f)
+  pub judged : Judged (verdictOf r f)
   unfolding verdictOf
   judged = judged-by (functionIn f)
 

@@ -1,5 +1,6 @@
 -- The theorems: every claim of specs/ with its proof, which has the claim's name.
 use Rattle.demands.specs.Demand1.{Demand1}
+use Rattle.demands.specs.Demand1Inquire.{Demand1Inquire}
 use Rattle.demands.specs.Demand2.{Demand2}
 use Rattle.demands.specs.Demand2Again.{Demand2Again}
 use Rattle.demands.specs.Demand2Done.{Demand2Done}
@@ -13,6 +14,7 @@ use Rattle.demands.proofs.Done as done
 use Rattle.demands.proofs.Examples as examples
 use Rattle.demands.proofs.History as history
 use Rattle.demands.proofs.Inquiry as inquiry
+use Rattle.demands.proofs.Left as left
 use Rattle.demands.proofs.Range as range
 use Rattle.demands.proofs.Replies as replies
 
@@ -40,12 +42,16 @@ demand-1 = record {
   past-frame = answer.past-frame;
 }
 
+pub demand-1-inquire : Demand1Inquire
+demand-1-inquire = record { store-kept = left.store-kept; output = left.output; refused-output = left.refused-output }
+
 pub demand-2 : Demand2
 demand-2 = record {
   read = replies.read;
   six-slices = replies.six-slices;
   refused = replies.refused;
   inquired = inquiry.inquired;
+  inquired-six = inquiry.inquired-six;
   change = changes.change;
   zeroing = changes.zeroing;
   change-without-access = changes.change-without-access;
@@ -60,7 +66,6 @@ pub demand-2-done : Demand2Done
 demand-2-done = record {
   read-done = done.read-done;
   inquired-done = inquiry.inquired-done;
-  inquired-leaves = inquiry.inquired-leaves;
   change-done = done.change-done;
   zeroing-done = done.zeroing-done;
   unlock-done = done.unlock-done;

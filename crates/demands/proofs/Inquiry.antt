@@ -4,18 +4,20 @@ use mathlib.Core.Bool.{Bool, true, false, cond}
 use mathlib.Core.List.{List}
 use Prim.Native.Nat.{ℕ, _≤_}
 use native.Mathlib.Omega.{arith}
-use lib.Dec.{eqb, ltb}
+use lib.Dec.{ltb}
 use lib.ListN.{length}
-use borrow.Author.Tests.{ltb-false, le-ltb, eqb-true, eqb-false}
+use borrow.Author.Tests.{ltb-false, le-ltb}
 use Rattle.case_laws.proofs.Test.{either}
 use Rattle.words.specs.Number.{Bytes}
 use Rattle.frame.specs.Table.{parameterOf}
+use Rattle.frame.specs.declared.code.Parameter.the-variants.{SixSlices}
 use Rattle.slots.specs.Day.{slotsOf}
 use Rattle.slots.proofs.DayLaws.{slots-at-most}
 use Rattle.request.proofs.RequestLaws.{subject-wider}
 use Rattle.request.specs.Request.{requestFrame}
-use Rattle.request.specs.Subject.{subjectOf, mostSlots, askable}
+use Rattle.request.specs.Subject.{keyOf, subjectOf, mostSlots, askable}
 use Rattle.request.specs.declared.request.Request.{Request}
+use Rattle.meter_store.specs.Store.{sixOf}
 use Rattle.meter_record.specs.Widths.{FitsRecord}
 use Rattle.meter_record.specs.declared.record.Record.{Record}
 use Rattle.meter_command.specs.Judgement.{verdictOf}
@@ -23,19 +25,19 @@ use Rattle.meter_command.specs.Verdict.{numberOf, isDone}
 use Rattle.meter_command.specs.declared.verdict.Verdict.the-variants.{Done}
 use Rattle.meter.specs.Reply.{Outcome, isSound, heard, replied, answerOf}
 use Rattle.reader.specs.Reply.{decodedOf}
+use Rattle.reader.specs.Rows.{replyData, sixOf as sixIn}
 use Rattle.reader.specs.declared.reply.Decoded.{Decoded}
 use Rattle.reader.specs.declared.reply.Decoded.the-variants as decoded
 use Rattle.meter_inquiry.specs.Inquiry as inquiry
 use Rattle.meter_inquiry.specs.Inquiry.{isSilent, toldOf, asked}
 use Rattle.meter_inquiry.specs.declared.Inquired.the-variants.{TooShort, Unsound, Silent, Told}
-use Rattle.demands.specs.Demand1.{inTable, answerNumber}
+use Rattle.demands.specs.Demand1.{inTable}
 use Rattle.demands.specs.Figures.{ownFigures}
 use Rattle.demands.specs.Demand2.{answered, replyIn, FitsRequest}
 use Rattle.demands.specs.Demand2Done.{Ready}
 use Rattle.demands.proofs.Calls.{decode}
-use Rattle.demands.proofs.Changes.{read-changes-nothing, refused-leaves}
 use Rattle.demands.proofs.Done.{read-done}
-use Rattle.demands.proofs.Replies.{done-only, passed, request-read, read, refused}
+use Rattle.demands.proofs.Replies.{done-only, passed, read, six-in-output, refused}
 
 -- a reply that the reader takes for a refusal is not told with 0
 told-refused : (o : Outcome) (q : Request) (result : ℕ) → decodedOf q (replyIn o) ≡ decoded.MeterRefused result
@@ -81,9 +83,10 @@ done-verdict : (r : Record) (s : List ℕ) (q : Request) (out : List ℕ) → 64
 unfolding answerOf replied
 done-verdict r s q out room sound hear d = simp (le-ltb (length out) 64 room, sound, hear, d)
 
-pub inquired : (r : Record) (s : List ℕ) (q : Request) (out : List ℕ) → FitsRecord r → Bytes s → FitsRequest q
-    → let o = inquiry.inquired r s q out in inquiry.numberOf (o .answer) ≡ 0 → o .answer ≡ Told (ownFigures (parameterOf (q .parameter)) r s q)
-inquired r s q out f b k h = go (heard r (requestFrame q)) refl (isDone (verdictOf r (requestFrame q))) refl
+-- so the meter's own answer is 0
+own-done : (r : Record) (s : List ℕ) (q : Request) (out : List ℕ) → FitsRequest q → inquiry.numberOf ((inquiry.inquired r s q out) .answer) ≡ 0
+    → (answered r s q out) .answer .verdict ≡ Done
+own-done r s q out k h = go (heard r (requestFrame q)) refl (isDone (verdictOf r (requestFrame q))) refl
   where
     t : Sent r s q out
     t = sent r s q out h
@@ -92,15 +95,31 @@ inquired r s q out f b k h = go (heard r (requestFrame q)) refl (isDone (verdict
     told = ap (λ (o : inquiry.Outcome). inquiry.numberOf (o .answer)) (sym (t .whole)) ∙ h
 
     go : (c : Bool) → heard r (requestFrame q) ≡ c → (d : Bool) → isDone (verdictOf r (requestFrame q)) ≡ d
-        → (inquiry.inquired r s q out) .answer ≡ Told (ownFigures (parameterOf (q .parameter)) r s q)
+        → (answered r s q out) .answer .verdict ≡ Done
     go false e d g = absurd (silent-told r s q out (t .room) (t .sound) e told)
     go true e false g =
         absurd (told-refused (answered r s q out) q _ (refused r s q out k (t .askable-is) (t .room) (t .sound) e g) told)
-    go true e true g =
-        let v : (answered r s q out) .answer .verdict ≡ Done = done-verdict r s q out (t .room) (t .sound) e g ∙ done-only _ g in
-        ap (λ (o : inquiry.Outcome). o .answer) (t .whole)
-        ∙ told-done (answered r s q out) q v
-        ∙ ap Told (read r s q out f b k (ap numberOf v))
+    go true e true g = done-verdict r s q out (t .room) (t .sound) e g ∙ done-only _ g
+
+pub inquired : (r : Record) (s : List ℕ) (q : Request) (out : List ℕ) → FitsRecord r → Bytes s → FitsRequest q
+    → let o = inquiry.inquired r s q out in inquiry.numberOf (o .answer) ≡ 0 → o .answer ≡ Told (ownFigures (parameterOf (q .parameter)) r s q)
+inquired r s q out f b k h =
+    let v = own-done r s q out k h in
+    ap (λ (o : inquiry.Outcome). o .answer) (sent r s q out h .whole)
+    ∙ told-done (answered r s q out) q v
+    ∙ ap Told (read r s q out f b k (ap numberOf v))
+
+-- the output is the meter's, told or not
+told-output : (o : Outcome) (q : Request) → (toldOf o q) .out ≡ o .out
+unfolding toldOf
+told-output o q = either (λ (x : inquiry.Outcome). x .out ≡ o .out) (isSilent (o .answer .verdict)) refl refl
+
+pub inquired-six : (r : Record) (s : List ℕ) (q : Request) (out : List ℕ) → Bytes s → FitsRequest q → parameterOf (q .parameter) ≡ SixSlices
+    → let o = inquiry.inquired r s q out in inquiry.numberOf (o .answer) ≡ 0 → sixIn (replyData (o .out)) ≡ sixOf s (keyOf q)
+inquired-six r s q out b k e h =
+    ap (λ (o : inquiry.Outcome). sixIn (replyData (o .out))) (sent r s q out h .whole)
+    ∙ ap (λ (x : List ℕ). sixIn (replyData x)) (told-output (answered r s q out) q)
+    ∙ six-in-output r s q out b e (ap numberOf (own-done r s q out k h))
 
 -- ---- what asks for figures that the meter has is told them
 
@@ -113,25 +132,6 @@ inquired-done r s q out y f b k h =
     let v : (answered r s q out) .answer .verdict ≡ Done = ap (λ (o : Outcome). o .answer .verdict) (passed r s (requestFrame q) out z .whole) in
     let whole : inquiry.inquired r s q out ≡ toldOf (answered r s q out) q = simp (le-ltb (length out) 64 (y .room), y .sound, m) in
     ap (λ (o : inquiry.Outcome). o .answer) whole ∙ told-done (answered r s q out) q v ∙ ap Told (read r s q out f b k z)
-
--- ---- the store stays
-
-answered-leaves : (r : Record) (s : List ℕ) (q : Request) (out : List ℕ) → (answered r s q out) .store ≡ s
-answered-leaves r s q out = go (eqb (answerNumber (answered r s q out)) 0) refl
-  where
-    go : (b : Bool) → eqb (answerNumber (answered r s q out)) 0 ≡ b → (answered r s q out) .store ≡ s
-    go true e = read-changes-nothing r s (requestFrame q) out (request-read q) (eqb-true _ 0 e) .slices
-    go false e = refused-leaves r s (requestFrame q) out (eqb-false _ 0 e) .slices
-
-pub inquired-leaves : (r : Record) (s : List ℕ) (q : Request) (out : List ℕ) → (inquiry.inquired r s q out) .store ≡ s
-unfolding inquiry.inquired asked toldOf
-inquired-leaves r s q out =
-    let stays : inquiry.Outcome → Type 0 = λ o. o .store ≡ s in
-    let kept = answered-leaves r s q out in
-    either stays (ltb (length out) 64) refl
-    (either stays (isSound r s)
-    (either stays (askable (subjectOf q mostSlots)) (either stays (isSilent ((answered r s q out) .answer .verdict)) kept kept) refl)
-    refl)
 
 -- ---- demand 1
 

@@ -9,6 +9,7 @@ pub mod Changes
 pub mod Fits
 pub mod Done
 pub mod Range
+pub mod Left
 pub mod Again
 pub mod History
 pub mod Examples

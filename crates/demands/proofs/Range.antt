@@ -98,7 +98,7 @@ figures-no-27 parameter.SixSlices detail bs e h = omega (arith, h)
 figures-no-27 parameter.Password detail bs e h = false≢true e
 figures-no-27 parameter.Unknown detail bs e h = false≢true e
 
-decoded-no-27 : (q : Request) (y : List ℕ) → askable (subjectOf q mostSlots) ≡ true → No27 (decodedOf q y)
+pub decoded-no-27 : (q : Request) (y : List ℕ) → askable (subjectOf q mostSlots) ≡ true → decoding.numberOf (decodedOf q y) ≡ 27 → ⊥
 unfolding No27 decodedOf repliedOf subjectOf
 decoded-no-27 q y a h = go (formOf (q .address) (q .parameter) (6 + dataBytes (subjectFor p q mostSlots)) y) refl (eqb (byteAt y 3) 0) refl
   where

@@ -1,15 +1,16 @@
 -- Demand 2, reads: what an answer with 0 has passed, its reply as the reader takes it, and a refusal frame decoded.
 use mathlib.Core.Path.{_≡_, refl, sym, ap, _∙_}
 use mathlib.Core.Bool.{Bool, true, false, false≢true}
-use mathlib.Core.List.{List, [], _∷_, _++_}
+use mathlib.Core.List.{List, [], _∷_, _++_, append-assoc}
 use Prim.Native.Nat.{ℕ, _+_, _≤_, _<_}
 use native.Mathlib.Omega.{arith}
 use lib.Dec.{eqb, ltb, lit≤}
-use lib.ListN.{length, take}
+use lib.ListN.{length, take, drop}
 use borrow.Author.Tests.{ltb-false, le-ltb, eq-eqb}
 use Rattle.case_laws.proofs.Test.{both}
 use Rattle.words.specs.Number.{Bytes, bytesOf}
 use Rattle.words.specs.Place.{written}
+use Rattle.words.proofs.PlaceLaws.{written-fits}
 use Rattle.frame.specs.Code.{functionOf}
 use Rattle.frame.specs.Table.{parameterOf}
 use Rattle.frame.proofs.TableLaws.{reply-small}
@@ -176,6 +177,26 @@ six-slices r s q out b e h =
     let figures : figuresOf (parameterOf (q .parameter)) r s q ≡ sixBytes (sixOf s (keyOf q)) = ap (λ (x : Parameter). figuresOf x r s q) e in
     ap (λ (y : List ℕ). sixIn (replyData y)) (reply-is r s q out p ∙ ap (λ (x : List ℕ). framed (replyBody q x)) figures)
     ∙ six-again s (keyOf q) (bytesOf 2 (crcOf (replyBody q (sixBytes (sixOf s (keyOf q)))))) b
+
+-- the same from all of the output, with what stands behind the reply
+pub six-in-output : (r : Record) (s : List ℕ) (q : Request) (out : List ℕ) → Bytes s
+    → parameterOf (q .parameter) ≡ parameter.SixSlices → answerNumber (answered r s q out) ≡ 0
+    → sixIn (replyData ((answered r s q out) .out)) ≡ sixOf s (keyOf q)
+unfolding framed
+six-in-output r s q out b e h =
+    let p = passed r s (requestFrame q) out h in
+    let rows = sixBytes (sixOf s (keyOf q)) in
+    let figures : figuresOf (parameterOf (q .parameter)) r s q ≡ rows = ap (λ (x : Parameter). figuresOf x r s q) e in
+    let crc = bytesOf 2 (crcOf (replyBody q rows)) in
+    let frame = framed (replyBody q rows) in
+    let small : length rows ≤ 48 = rw (sym figures) (figures-small (parameterOf (q .parameter)) r s q) in
+    let l : length frame ≡ 6 + length rows = length-framed (replyBody q rows) ∙ omega arith in
+    let fits : 0 + length frame ≤ length out = omega (arith, l, small, p .room) in
+    ap (λ (o : meter.Outcome). sixIn (replyData (o .out))) (p .whole)
+    ∙ ap (λ (x : List ℕ). sixIn (replyData (written out 0 (framed x)))) (body r s q ∙ ap (replyBody q) figures)
+    ∙ ap (λ (x : List ℕ). sixIn (replyData x)) (written-fits out 0 frame fits)
+    ∙ ap sixIn (append-assoc rows crc (drop (0 + length frame) out))
+    ∙ six-again s (keyOf q) (crc ++ drop (0 + length frame) out) b
 
 -- ---- "A refusal frame decodes to 24 with its result"
 

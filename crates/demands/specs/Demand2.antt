@@ -61,6 +61,9 @@ pub record Demand2 : Type 0 where
       → decodedOf q (replyIn (answered r s q out)) ≡ decoded.MeterRefused (resultOf (verdictOf r (requestFrame q)))
   pub inquired : (r : Record) (s : List ℕ) (q : Request) (out : List ℕ) → FitsRecord r → Bytes s → FitsRequest q
       → let o = inquiry.inquired r s q out in inquiry.numberOf (o .answer) ≡ 0 → o .answer ≡ Told (ownFigures (parameterOf (q .parameter)) r s q)
+  -- the rows that the console says after `inquire`: it hands all of the output to the reader's `six_slices`
+  pub inquired-six : (r : Record) (s : List ℕ) (q : Request) (out : List ℕ) → Bytes s → FitsRequest q → parameterOf (q .parameter) ≡ parameter.SixSlices
+      → let o = inquiry.inquired r s q out in inquiry.numberOf (o .answer) ≡ 0 → rows.sixOf (rows.replyData (o .out)) ≡ sixOf s (keyOf q)
   -- "A change happens only with the access it needs, and then changes the named parameter alone, save that protection's 240 seconds start
   -- again"; a zeroing needs main access, and that of the slices makes the store empty. What is refused leaves all (demand 1)
   pub change : (r : Record) (s f out : List ℕ) → functionIn f ≡ function.Change → let o = answerOf r s f out in answerNumber o ≡ 0

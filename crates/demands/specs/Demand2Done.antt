@@ -55,10 +55,9 @@ pub record Demand2Done : Type 0 where
   -- what asks for figures that a meter of its interval has, it answers
   pub read-done : (r : Record) (s : List ℕ) (q : Request) (out : List ℕ) → Ready r s (requestFrame q) out
       → askable (subjectOf q (slotsOf (r .minutes))) ≡ true → answerNumber (answered r s q out) ≡ 0
-  -- the same as one call, `inquire`, which leaves the store as it was whatever it answers
+  -- the same as one call, `inquire` (that it leaves the store, `Demand1Inquire` says)
   pub inquired-done : (r : Record) (s : List ℕ) (q : Request) (out : List ℕ) → Ready r s (requestFrame q) out → FitsRecord r → Bytes s → FitsRequest q
       → askable (subjectOf q (slotsOf (r .minutes))) ≡ true → (inquired r s q out) .answer ≡ Told (ownFigures (parameterOf (q .parameter)) r s q)
-  pub inquired-leaves : (r : Record) (s : List ℕ) (q : Request) (out : List ℕ) → (inquired r s q out) .store ≡ s
   -- a change and a zeroing of a parameter that can be changed or zeroed, of its length, with the access it needs and a right argument
   pub change-done : (r : Record) (s f out : List ℕ) → Ready r s f out → functionIn f ≡ function.Change → let w = rowOf (parameterIn f) in
       w .changeable ≡ true → length f ≡ bareSize + w .«change_bytes» → changeAllowed (parameterIn f) (r .protection .level) ≡ true
