@@ -1,6 +1,10 @@
--- The theorem: every claim of specs/Demand1.antt with its proof, which has the claim's name.
+-- The theorems: every claim of specs/ with its proof, which has the claim's name.
 use Rattle.metlazuel.specs.Demand1.{Demand1C}
+use Rattle.metlazuel.specs.Demand2.{Demand2C}
+use Rattle.metlazuel.specs.Demand3.{Demand3C}
 use Rattle.metlazuel.proofs.Ends as ends
+use Rattle.metlazuel.proofs.History as history
+use Rattle.metlazuel.proofs.Kept as kept
 
 pub demand-1 : Demand1C
 demand-1 = record {
@@ -21,4 +25,17 @@ demand-1 = record {
   meter-answer = ends.meter-answer;
   meter-output = ends.meter-output;
   meter-length = ends.meter-length;
+}
+
+pub demand-2 : Demand2C
+demand-2 = record { start = kept.start; call = kept.call; list = kept.list; change = kept.change }
+
+pub demand-3 : Demand3C
+demand-3 = record {
+  log = history.log;
+  answers = history.answers;
+  ask-left = history.ask-left;
+  elsewhere = history.elsewhere;
+  as-long = history.as-long;
+  unread = history.unread;
 }

@@ -1,0 +1,131 @@
+-- Demand 3 at the boundary: a list of C's calls is a list of the proved calls below them, on the log and on the ask that the bytes are read as.
+use mathlib.Core.Path.{_≡_, refl, ap, ap₂, _∙_}
+use mathlib.Core.List.{List, [], _∷_}
+use Prim.Native.Nat.{ℕ}
+use lib.ListN.{length}
+use Rattle.refusal.specs.Outcome.{Outcome}
+use Rattle.words.specs.Place.{byteAt}
+use Rattle.logger.specs.Ask as ask-of
+use Rattle.logger.specs.Take as take
+use Rattle.logger.specs.Reply.{rowOf}
+use Rattle.logger.specs.Book.{Call, ask, lapse, reply, Answer, plain, runOf, AllBytes}
+use Rattle.logger.specs.Run.{State, takeAnswer, step, run}
+use Rattle.logger.proofs.TakeLaws.{taken-cases, update-cases}
+use Rattle.logger.specs.declared.ask.AskAnswer.{AskAnswer}
+use Rattle.logger.specs.declared.ask.AskAnswer.the-variants as asked
+use Rattle.logger.specs.declared.take.Decision.{Decision}
+use Rattle.logger.specs.declared.held.OpenAsk.{OpenAsk}
+use Rattle.c_values.specs.Ask.{askOf}
+use Rattle.c_values.specs.declared.ask.AskRead.{AskRead}
+use Rattle.c_values.specs.declared.ask.AskRead.the-variants.{Read, Unreadable}
+use Rattle.demands.specs.Demand3.{Elsewhere, begin, booked, logAfresh}
+use Rattle.demands.proofs.Claims as claims
+use Rattle.metlazuel.specs.Calls.{resultAfter}
+use Rattle.metlazuel.specs.LogCalls.{askForC, lapseForC, takeForC}
+use Rattle.metlazuel.specs.Demand3.{Lent, told, stepForC, ranForC, Begins}
+use Rattle.metlazuel.proofs.LogLaws as left
+
+-- ---- what C is told is the call's answer
+
+asked-told : (a : AskAnswer) (word : ℕ) → told (ask-of.numberOf a) word ≡ plain (ask-of.numberOf a)
+unfolding told
+asked-told asked.Done word = refl
+asked-told asked.TooShort word = refl
+asked-told asked.Unsound word = refl
+asked-told asked.AlreadyOpen word = refl
+asked-told asked.NotInLog word = refl
+
+module _ (y : List ℕ) (word : ℕ) where
+  abbrev Told : Decision → Type 0
+  Told d =
+      let n = take.numberOf (d .taken .answer) in
+      told n (resultAfter n y word) ≡ takeAnswer (d .taken .answer)
+
+  taken-told : (log : List ℕ) (held : OpenAsk) → Told (take.decided log held y)
+  unfolding told resultAfter
+  taken-told log held =
+      taken-cases Told log held y (λ u. refl) (λ h u.
+      record {
+        no-ask = λ o. refl;
+        outside = λ a d t o n. refl;
+        malformed = λ i o fault n. refl;
+        refused = λ i o r. refl;
+        bad-cell = λ i o b. refl;
+        counted = λ i o r c g. update-cases Told (take.updateOf c (rowOf y)) i (λ new. refl) refl refl;
+      })
+
+-- ---- one call
+
+-- C's memory is the log and the ask of a state
+pub record Holds (m : Lent) (s : State) : Type 0 where
+  pub log : m .log ≡ s .log
+  pub ask : askOf (m .ask) ≡ Read (s .held)
+
+-- an outcome for C is that of the call below
+pub record Alike (o : Outcome Answer Lent) (p : Outcome Answer State) : Type 0 where
+  pub answer : o .result ≡ p .result
+  pub holds : Holds (o .left) (p .left)
+
+abbrev stateOf : Lent → OpenAsk → State
+stateOf m held = record { log = m .log; held = held }
+
+zero-told : (word : ℕ) → told 0 word ≡ plain 0
+unfolding told
+zero-told word = refl
+
+step-alike : (m : Lent) (held : OpenAsk) (c : Call) → askOf (m .ask) ≡ Read held → Alike (stepForC m c) (step (stateOf m held) c)
+unfolding stepForC step askForC lapseForC takeForC take.taken
+step-alike m held (ask address day slot out) e = record {
+  answer = rw e (asked-told (ask-of.asked (m .log) held address day slot out .result .answer) (m .result));
+  holds = record { log = refl; ask = left.ask-left (m .ask) (m .log) held address day slot out e };
+}
+step-alike m held lapse e = record { answer = rw e (zero-told (m .result)); holds = record { log = refl; ask = left.lapse-left (m .ask) held e } }
+step-alike m held (reply y) e = record {
+  answer = rw e (taken-told y (m .result) (m .log) held);
+  holds = record { log = rw e refl; ask = left.take-left (m .ask) (m .log) held y (m .result) e };
+}
+
+-- ---- a list of calls
+
+run-alike : (m : Lent) (s : State) (calls : List Call) → Holds m s → Holds (ranForC m calls .left) (run s calls .left) × (ranForC m calls .result ≡ run s calls .result)
+unfolding runOf
+run-alike m s [] h = (h, refl)
+run-alike m s (c ∷ calls) h =
+    let a = step-alike m (s .held) c (h .ask) in
+    let same : stateOf m (s .held) ≡ s = ap (λ (l : List ℕ). record { log = l; held = s .held }) (h .log) in
+    let next : Alike (stepForC m c) (step s c) = rw same at a in
+    let rest = run-alike (stepForC m c .left) (step s c .left) calls (next .holds) in
+    (rest .0, ap₂ (λ (x : Answer) (xs : List Answer). x ∷ xs) (next .answer) (rest .1))
+
+module _ (m : Lent) (b : Begins m) (calls : List Call) (k : AllBytes calls) where
+  whole : Holds (ranForC m calls .left) (run (begin (m .log)) calls .left) × (ranForC m calls .result ≡ run (begin (m .log)) calls .result)
+  whole = run-alike m (begin (m .log)) calls (record { log = refl; ask = b .closed })
+
+  pub log : ranForC m calls .left .log ≡ logAfresh (b .start) calls
+  log = whole .0 .log ∙ claims.demand-3 .log (m .log) (b .start) calls k
+
+  pub answers : ranForC m calls .result ≡ booked (b .start) calls .result
+  answers = whole .1 ∙ claims.demand-3 .answers (m .log) (b .start) calls k
+
+  pub ask-left : askOf (ranForC m calls .left .ask) ≡ Read (booked (b .start) calls .left .held)
+  ask-left = whole .0 .ask ∙ ap Read (claims.demand-3 .ask-left (m .log) (b .start) calls k)
+
+-- ---- what a call leaves alone
+
+pub elsewhere : (m : Lent) (held : OpenAsk) (c : Call) (j : ℕ) → askOf (m .ask) ≡ Read held → Elsewhere (stateOf m held) j
+    → byteAt (stepForC m c .left .log) j ≡ byteAt (m .log) j
+elsewhere m held c j e k =
+    ap (λ (l : List ℕ). byteAt l j) (step-alike m held c e .holds .log) ∙ claims.demand-3 .elsewhere (stateOf m held) c j k
+
+pub unread : (m : Lent) (c : Call) → askOf (m .ask) ≡ Unreadable → stepForC m c .left ≡ m
+unfolding stepForC askForC lapseForC takeForC
+unread m (ask address day slot out) e = rw e refl
+unread m lapse e = rw e refl
+unread m (reply y) e = rw e refl
+
+pub as-long : (m : Lent) (c : Call) → length (stepForC m c .left .log) ≡ length (m .log)
+as-long m c = go (askOf (m .ask)) refl
+  where
+    go : (a : AskRead) → askOf (m .ask) ≡ a → length (stepForC m c .left .log) ≡ length (m .log)
+    go (Read held) e = ap length (step-alike m held c e .holds .log) ∙ claims.demand-3 .as-long (stateOf m held) c
+    go Unreadable e = ap (λ (x : Lent). length (x .log)) (unread m c e)

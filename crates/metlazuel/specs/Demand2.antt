@@ -1,0 +1,55 @@
+-- Demand 2 of the functions that firmware links, whose meter's record is lent bytes: what a call leaves is what the next one reads, for any list
+-- of calls. So what demands/specs/Demand2.antt says of the record holds of its bytes: "A change happens only with the access it needs, and then
+-- changes the named parameter alone, save that protection's 240 seconds start again."
+--
+-- The calls run by the definitions that their contracts cite (specs/MeterRun.antt). Proofs: `demand-2`, proofs/Claims.antt.
+use mathlib.Core.Path.{_≡_}
+use mathlib.Core.List.{List, [], _∷_}
+use Prim.Native.Nat.{ℕ}
+use Rattle.refusal.specs.Outcome.{Outcome}
+use Rattle.words.specs.Number.{Bytes}
+use Rattle.frame.specs.declared.code.Function.the-variants as function
+use Rattle.meter_record.specs.Widths.{FitsRecord}
+use Rattle.meter_record.specs.declared.record.Record.{Record}
+use Rattle.meter_record_bytes.specs.Record.{recordOf}
+use Rattle.meter_record_bytes.specs.declared.record.RecordRead.the-variants.{Read}
+use Rattle.meter_command.specs.Access.{changeAllowed}
+use Rattle.meter_command.specs.Parts.{functionIn, parameterIn}
+use Rattle.meter.specs.Reply.{answerOf}
+use Rattle.demands.specs.Changes.{Permitted}
+use Rattle.metlazuel.specs.MeterRun.{MeterCall, second, powers, slice, frame, Meter, meter, recordStep, bytesStep, meterRun}
+
+-- the lent bytes are read as the record, whose numbers fit their widths, and the stores are the same
+pub record Holds (m : Meter (List ℕ)) (x : Meter Record) : Type 0 where
+  pub bytes : recordOf (m .kept) ≡ Read (x .kept)
+  pub widths : FitsRecord (x .kept)
+  pub store : m .store ≡ x .store
+
+-- both end alike: they tell the same, and what is left is held
+pub record EndAlike {A : Type 0} (o : Outcome A (Meter (List ℕ))) (p : Outcome A (Meter Record)) : Type 0 where
+  pub told : o .result ≡ p .result
+  pub left : Holds (o .left) (p .left)
+
+-- the bytes of a frame are bytes
+abbrev pub FrameBytes : MeterCall → Type 0
+FrameBytes second = Unit
+FrameBytes (powers n a b c) = Unit
+FrameBytes (slice k row) = Unit
+FrameBytes (frame f out word) = Bytes f
+
+abbrev pub AllFrames : List MeterCall → Type 0
+AllFrames [] = Unit
+AllFrames (c ∷ cs) = FrameBytes c × AllFrames cs
+
+pub record Demand2C : Type 0 where
+  -- any bytes that are read as a record are its start
+  pub start : (bs s : List ℕ) (r : Record) → Bytes bs → recordOf bs ≡ Read r → Holds (meter bs s) (meter r s)
+  -- what a call leaves is what the next one reads: one call, and any list of them, whatever is answered
+  pub call : (m : Meter (List ℕ)) (x : Meter Record) (c : MeterCall) → Holds m x → FrameBytes c → EndAlike (bytesStep m c) (recordStep x c)
+  pub list : (m : Meter (List ℕ)) (x : Meter Record) (cs : List MeterCall) → Holds m x → AllFrames cs
+      → EndAlike (meterRun bytesStep m cs) (meterRun recordStep x cs)
+  -- "changes the named parameter alone": the bytes after a change that is done are read as the record of which demand 2 says it
+  pub change : (m : Meter (List ℕ)) (x : Meter Record) (f out : List ℕ) (word : ℕ) → Holds m x → Bytes f → functionIn f ≡ function.Change
+      → bytesStep m (frame f out word) .result .number ≡ 0 → let o = answerOf (x .kept) (x .store) f out in
+      (recordOf (bytesStep m (frame f out word) .left .kept) ≡ Read (o .answer .after))
+      × Permitted (changeAllowed (parameterIn f) (x .kept .protection .level)) f (x .kept) (x .store) o

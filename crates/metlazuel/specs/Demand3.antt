@@ -1,0 +1,65 @@
+-- Demand 3 of the functions that firmware links, over the memory that it lends them. "Then come asks, lapses and replies, refused ones
+-- included, in any list and whatever bytes the replies hold. Each call that takes the log or the open ask gets it as the calls before left it."
+--
+-- The calls run by the definitions that the contracts of `metlazuel_ask`, `metlazuel_lapse` and `metlazuel_take` cite. The history is that of
+-- demands/specs/Demand3.antt, which never sees an image or an ask's bytes. Proofs: `demand-3`, proofs/Claims.antt.
+use mathlib.Core.Path.{_≡_}
+use mathlib.Core.Bool.{cond}
+use mathlib.Core.List.{List}
+use Prim.Native.Nat.{ℕ}
+use lib.Dec.{eqb}
+use lib.ListN.{length}
+use Rattle.refusal.specs.Outcome.{Outcome, outcome}
+use Rattle.words.specs.Place.{byteAt}
+use Rattle.logger.specs.Book.{Call, ask, lapse, reply, Answer, runOf, AllBytes}
+use Rattle.logger.specs.declared.held.OpenAsk.{OpenAsk}
+use Rattle.logger.specs.declared.held.OpenAsk.the-variants.{Closed}
+use Rattle.c_values.specs.Ask.{askOf}
+use Rattle.c_values.specs.declared.ask.AskRead.the-variants.{Read, Unreadable}
+use Rattle.demands.specs.Demand3.{Start, booked, logAfresh, Elsewhere}
+use Rattle.metlazuel.specs.LogCalls.{askForC, lapseForC, takeForC}
+
+-- what C lends to one call after the other: the log, the ask's bytes, and the word behind `result`
+pub record Lent : Type 0 where
+  pub log : List ℕ
+  pub ask : List ℕ
+  pub result : ℕ
+
+-- what C is told: the number, and with 24 ("meter's result not 0; returned") the word behind `result`
+unfoldable pub told : ℕ → ℕ → Answer
+told n word = record { number = n; result = cond (eqb n 24) word 0 }
+
+-- one call, by the definition that its contract cites: what C is told, and its memory after it
+unfoldable pub stepForC : Lent → Call → Outcome Answer Lent
+stepForC m (ask address day slot out) =
+    let o = askForC (askOf (m .ask)) (m .log) (m .ask) address day slot out in
+    outcome (told (o .result) (m .result)) (record { log = m .log; ask = o .left .0; result = m .result })
+stepForC m lapse =
+    let o = lapseForC (askOf (m .ask)) (m .ask) in
+    outcome (told (o .result) (m .result)) (record { log = m .log; ask = o .left; result = m .result })
+stepForC m (reply y) =
+    let o = takeForC (askOf (m .ask)) (m .log) (m .ask) y (m .result) in
+    outcome (told (o .result) (o .left .0)) (record { log = o .left .1; ask = o .left .2; result = o .left .0 })
+
+-- a list of calls, each lent the memory as the one before left it
+abbrev pub ranForC : Lent → List Call → Outcome (List Answer) Lent
+ranForC m calls = runOf stepForC m calls
+
+-- memory to begin with: a log, bytes that are read as no ask open, and any word
+pub record Begins (m : Lent) : Type 0 where
+  pub start : Start (m .log)
+  pub closed : askOf (m .ask) ≡ Read Closed
+
+pub record Demand3C : Type 0 where
+  -- "After every such list the log is byte for byte the one worked out afresh from that history."
+  pub log : (m : Lent) (b : Begins m) (calls : List Call) → AllBytes calls → ranForC m calls .left .log ≡ logAfresh (b .start) calls
+  -- "Every answer, and the ask left open, are those of document 01's plain book": each number, 24's result, and the ask as its bytes are read
+  pub answers : (m : Lent) (b : Begins m) (calls : List Call) → AllBytes calls → ranForC m calls .result ≡ booked (b .start) calls .result
+  pub ask-left : (m : Lent) (b : Begins m) (calls : List Call) → AllBytes calls
+      → askOf (ranForC m calls .left .ask) ≡ Read (booked (b .start) calls .left .held)
+  -- "None of these calls alters a byte of the log outside the cell whose ask was open before the call", whatever log is lent; bytes that are
+  -- read as no ask leave all that is lent
+  pub elsewhere : (m : Lent) (held : OpenAsk) (c : Call) (j : ℕ) → askOf (m .ask) ≡ Read held → Elsewhere (record { log = m .log; held = held }) j
+      → byteAt (stepForC m c .left .log) j ≡ byteAt (m .log) j
+  pub as-long : (m : Lent) (c : Call) → length (stepForC m c .left .log) ≡ length (m .log)
+  pub unread : (m : Lent) (c : Call) → askOf (m .ask) ≡ Unreadable → stepForC m c .left ≡ m
