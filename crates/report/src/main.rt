@@ -1,13 +1,11 @@
-// Reads the file of a log on standard input and prints its day report: a heading, and a line for each day. A file that is refused
-// prints one line instead, with the refusal's number. What is right is decided in the libraries.
+// Reads the file of a log on standard input and prints its page: the heading and a line for each day, or, for a file that is refused, one
+// line with the refusal's number. What is printed is one function of the file's bytes, `report_page::put_page_line`.
 ghost use mathlib.Core.Path.{_≡_};
 ghost use lib.ListN.{take};
 use dayreport::LINE_MOST;
 use dayreport::TextAnswer;
 use libc::STDIN_FILENO;
 use libc::STDOUT_FILENO;
-use log::Lent;
-use logfile::ReadAnswer;
 
 // One byte more than the longest file has, so that a longer one shows.
 const FILE_ROOM: usize = logfile::FILE_MOST + 1;
@@ -26,47 +24,20 @@ fn main() {
 fn begin() {
     let mut file = [0u8; FILE_ROOM];
     let n = io::read_full(STDIN_FILENO, &mut file);
-    let mut image = [0u8; FILE_ROOM];
-    let answer = logfile::read_file(&file[..n], &mut image);
-    match answer {
-        ReadAnswer::Done(length) => report(front(&image, length)),
-        _ => refuse(answer.number()),
+    lines(&file[..n]);
+}
+
+fn lines(file: &[u8]) {
+    for i in 0..report_page::LINES_MOST {
+        line(file, i);
     }
 }
 
-fn report(image: &[u8]) {
-    match log::sound(image) {
-        Lent::Sound(h) => {
-            heading();
-            lines(image, h.days);
-        }
-        Lent::Unsound => refuse(refusal::UNSOUND),
-    }
-}
-
-fn heading() {
+// Prints a line of the page; one that the page does not have is nothing.
+fn line(file: &[u8], i: u8) {
     let mut text = [0u8; LINE_MOST];
-    let answer = dayreport::put_heading(&mut text);
-    tell(answer, &text);
-}
-
-fn lines(image: &[u8], days: u8) {
-    for day in 0..days {
-        line(image, day);
-    }
-}
-
-fn line(image: &[u8], day: u8) {
-    let mut text = [0u8; LINE_MOST];
-    let answer = dayreport::put_day(image, day, &mut text);
-    tell(answer, &text);
-}
-
-// Prints a text that was made, or why it was not.
-fn tell(answer: TextAnswer, text: &[u8]) {
-    match answer {
-        TextAnswer::Done(n) => say(front(text, n)),
-        _ => refuse(answer.number()),
+    if let TextAnswer::Done(n) = report_page::put_page_line(file, i, &mut text) {
+        say(front(&text, n));
     }
 }
 
@@ -78,12 +49,6 @@ fn front(bytes: &[u8], n: usize) -> &[u8]
         return &bytes[..n];
     }
     bytes
-}
-
-fn refuse(number: u8) {
-    say(b"refused ");
-    io::print_decimal(STDOUT_FILENO, number as u64);
-    say(b"\n");
 }
 
 fn say(bytes: &[u8]) {

@@ -1,14 +1,14 @@
--- `lines` meets its contract: a day that is added to is below `days`, so one more fits a byte, and the loop ends as `days - day` shrinks.
+-- `lines` meets its contract: a line that is added to is below `LINES_MOST`, so one more fits a byte, and the loop ends as `63 - i` shrinks.
 use Prim.Native.Nat.{_-_, _≤_}
 use borrow.Author.Needs.{needs}
 use Rattle.report.proofs.lines.Statement.{statement}
 use Rattle.report.proofs.lines.Tie as tie
 
 abbrev Inv-loop : tie.InvT-loop
-Inv-loop image days day₀ day = day ≤ days
+Inv-loop file i₀ i = i ≤ 63
 
 abbrev μ-loop : tie.MeasureT-loop
-μ-loop image days day₀ day = days - day
+μ-loop file i₀ i = 63 - i
 
 loop-holds : tie.Need-loop-holds Inv-loop μ-loop
 loop-holds c = search needs
@@ -16,8 +16,8 @@ loop-holds c = search needs
 line-requires : tie.Need-line-requires Inv-loop μ-loop
 line-requires c κs = search needs
 
-add-day : tie.Need-add-day Inv-loop μ-loop
-add-day c = search needs
+add-i : tie.Need-add-i Inv-loop μ-loop
+add-i c = search needs
 
 loop-less : tie.Need-loop-less Inv-loop μ-loop
 loop-less c = search needs
@@ -31,4 +31,4 @@ returns c = search needs
 pub lines-spec : {M : Type 1} → statement M
 lines-spec =
     tie.close
-    (tie.spec Inv-loop μ-loop loop-holds line-requires add-day loop-less loop-again returns)
+    (tie.spec Inv-loop μ-loop loop-holds line-requires add-i loop-less loop-again returns)

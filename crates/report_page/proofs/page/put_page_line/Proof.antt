@@ -1,0 +1,40 @@
+-- `put_page_line` meets its contract: the answer is that of `readFile` into room for the longest image.
+use Prim.Native.Nat.{ℕ}
+use mathlib.Core.List.{List}
+use mathlib.Core.Path.{ap, _∙_}
+use Rattle.logfile.specs.declared.read.ReadAnswer.{ReadAnswer}
+use Rattle.refusal.specs.Outcome.{Outcome}
+use Rattle.report_page.specs.Page.{pageLine, room, readLine}
+use borrow.Author.Needs.{needs}
+use Rattle.report_page.proofs.page.put_page_line.Statement.{statement}
+use Rattle.report_page.proofs.page.put_page_line.Tie as tie
+
+slice-aggregate-read-file : tie.Need-slice-aggregate-read-file
+slice-aggregate-read-file c = search needs
+
+read-file-requires : tie.Need-read-file-requires
+read-file-requires c κs = search needs
+
+put-read-line-requires : tie.Need-put-read-line-requires
+put-read-line-requires c κs = search needs
+
+same-length : tie.Need-same-length
+same-length c = search needs
+
+returns : tie.Need-returns
+unfolding pageLine room
+returns c =
+    let args = c .before .before .before .before .before .before .before .before .before .args in
+    let read-file = c .before .before .before .before .before .read-file in
+    c .before .before .put-read-line .ensures
+    ∙ ap (λ (o : Outcome ReadAnswer (List ℕ)). readLine (o .result) (args .file .now) (args .i) (args .out .now)) (read-file .ensures)
+
+pub put-page-line-spec : {M : Type 1} → statement M
+put-page-line-spec =
+    tie.close
+    (tie.spec
+    slice-aggregate-read-file
+    read-file-requires
+    put-read-line-requires
+    same-length
+    returns)

@@ -1,0 +1,53 @@
+-- What is printed for a log's file, line by line. Source: document 01, "Marked examples": the report of a file, and "A refused file prints
+-- one line, as `refused 31`".
+use Prim.Native.Nat.{ℕ, _-_}
+use mathlib.Core.Bool.{cond}
+use mathlib.Core.List.{List, [], _∷_, _++_}
+use lib.Dec.{eqb}
+use lib.ListN.{take, replicate}
+use Rattle.refusal.specs.Outcome.{Outcome, outcome}
+use Rattle.text.specs.Ascii.{ascii}
+use Rattle.text.specs.Decimal.{decimal}
+use Rattle.dayreport.specs.declared.answer.TextAnswer.{TextAnswer}
+use Rattle.dayreport.specs.declared.answer.TextAnswer.the-variants.{NotInLog}
+use Rattle.dayreport.specs.Text.{lineFeed, headingText, putText}
+use Rattle.dayreport.specs.Day.{dayText}
+use Rattle.logfile.specs.Read.{readNumber, readFile}
+use Rattle.logfile.specs.declared.read.ReadAnswer.{ReadAnswer}
+use Rattle.logfile.specs.declared.read.ReadAnswer.the-variants.{Done, WrongMark, WrongVersion, WrongHeader, WrongLength, WrongCrc, WrongCell, TooShort}
+
+-- "as `refused 31`"
+unfoldable pub refusedText : ℕ → List ℕ
+refusedText number = ascii "refused " ++ (decimal number ++ (lineFeed ∷ []))
+
+-- "A refused file prints one line": line 0, and no other
+unfoldable pub refusedLine : ℕ → ℕ → List ℕ → Outcome TextAnswer (List ℕ)
+refusedLine number i out = cond (eqb i 0) (putText (refusedText number) out) (outcome NotInLog out)
+
+-- line 0 is the heading, and line i that of day i - 1; past the last day 22
+unfoldable pub reportLine : List ℕ → ℕ → List ℕ → Outcome TextAnswer (List ℕ)
+reportLine image i out = cond (eqb i 0) (putText headingText out) (dayText image (i - 1) out)
+
+-- the length of the image that a file was read to be; a file that was refused has none
+unfoldable pub imageSize : ReadAnswer → ℕ
+imageSize (Done n) = n
+imageSize WrongMark = 0
+imageSize WrongVersion = 0
+imageSize WrongHeader = 0
+imageSize WrongLength = 0
+imageSize WrongCrc = 0
+imageSize WrongCell = 0
+imageSize TooShort = 0
+
+-- the report of the image at the file's front where the file was read, else the refusal
+unfoldable pub readLine : ReadAnswer → List ℕ → ℕ → List ℕ → Outcome TextAnswer (List ℕ)
+readLine read file i out =
+    cond (eqb (readNumber read) 0) (reportLine (take (imageSize read) file) i out) (refusedLine (readNumber read) i out)
+
+-- room for the longest image: its header, and the cells of 62 days of 96
+unfoldable pub room : List ℕ
+room = replicate 53582 0
+
+-- line i of what is printed for a file
+unfoldable pub pageLine : List ℕ → ℕ → List ℕ → Outcome TextAnswer (List ℕ)
+pageLine file i out = readLine (readFile file room .result) file i out

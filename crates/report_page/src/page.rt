@@ -1,0 +1,74 @@
+// The lines of a file's page. A line that the page does not have answers 22.
+ghost use mathlib.Core.Path.{_≡_};
+ghost use lib.ListN.{take};
+ghost use Rattle.refusal.specs.Outcome.{outcome};
+ghost use Rattle.report_page.specs.Page.{imageSize, refusedLine, reportLine, readLine, pageLine};
+use dayreport::TextAnswer;
+use logfile::ReadAnswer;
+
+// The heading, and the lines of the most days that a log has.
+pub const LINES_MOST: u8 = 63;
+
+// Line i of what is printed for a file, to the front of out, whose rest stays as it was; a refusal leaves all of it so.
+pub fn put_page_line(file: &[u8], i: u8, out: &mut [u8]) -> TextAnswer
+    ensures { λ r. ⌜ outcome r (now (out .exit)) ≡ pageLine (now (file .entry)) i (now (out .entry)) ⌝ }
+{
+    let mut room = [0u8; log::IMAGE_MOST];
+    let answer = logfile::read_file(file, &mut room);
+    put_read_line(answer, file, i, out)
+}
+
+fn put_read_line(answer: ReadAnswer, file: &[u8], i: u8, out: &mut [u8]) -> TextAnswer
+    ensures { λ r. ⌜ outcome r (now (out .exit)) ≡ readLine answer (now (file .entry)) i (now (out .entry)) ⌝ }
+{
+    let number = answer.number();
+    if number == refusal::DONE {
+        return put_report_line(front(file, image_size(answer)), i, out);
+    }
+    put_refused_line(number, i, out)
+}
+
+// The heading, then the days.
+fn put_report_line(image: &[u8], i: u8, out: &mut [u8]) -> TextAnswer
+    ensures { λ r. ⌜ outcome r (now (out .exit)) ≡ reportLine (now (image .entry)) i (now (out .entry)) ⌝ }
+{
+    if i == 0 {
+        return dayreport::put_heading(out);
+    }
+    dayreport::put_day(image, i - 1, out)
+}
+
+fn put_refused_line(number: u8, i: u8, out: &mut [u8]) -> TextAnswer
+    ensures { λ r. ⌜ outcome r (now (out .exit)) ≡ refusedLine number i (now (out .entry)) ⌝ }
+{
+    if i == 0 {
+        return crate::refused::put_refused(number, out);
+    }
+    TextAnswer::NotInLog
+}
+
+// The image's length where there is one.
+fn image_size(answer: ReadAnswer) -> usize
+    ensures { λ r. ⌜ r ≡ imageSize answer ⌝ }
+{
+    match answer {
+        ReadAnswer::Done(n) => n,
+        ReadAnswer::WrongMark => 0,
+        ReadAnswer::WrongVersion => 0,
+        ReadAnswer::WrongHeader => 0,
+        ReadAnswer::WrongLength => 0,
+        ReadAnswer::WrongCrc => 0,
+        ReadAnswer::WrongCell => 0,
+        ReadAnswer::TooShort => 0,
+    }
+}
+
+// The first n bytes; all of them where there are no more.
+fn front(bytes: &[u8], n: usize) -> &[u8]
+    ensures { λ r. ⌜ now r ≡ take n (now (bytes .entry)) ⌝ }
+{
+    if n < bytes.len() {
+        return &bytes[..n];
+    }
+    bytes
+}
