@@ -8,6 +8,7 @@ pub use logs::ask;
 pub use logs::cell;
 pub use logs::fresh;
 pub use logs::lapse;
+pub use logs::loaded;
 pub use logs::open_ask;
 pub use logs::reply;
 pub use logs::report;

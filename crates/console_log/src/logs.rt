@@ -13,9 +13,16 @@ use log::FreshAnswer;
 use log::Header;
 use log::Interval;
 use log::Lent;
+use logfile::ReadAnswer;
 use logger::AskAnswer;
 use logger::OpenAsk;
 use logger::TakeAnswer;
+ghost use mathlib.Core.Path.{_≡_};
+ghost use Rattle.refusal.specs.Outcome.{outcome};
+ghost use Rattle.log.specs.Fresh.{freshOf};
+ghost use Rattle.logfile.specs.Read.{readFile};
+ghost use Rattle.console.specs.Form.{shortIn, yearOf};
+ghost use Rattle.console_log.specs.Log.{keptAfter, newLog, keptLoaded, loadedLog, freshIn, freshLine, askedFor, askLine, lapseLine, replyOf, replyLine};
 
 // What is kept of the log beside its image: its length, 0 where there is no log, and the open ask.
 pub struct Kept {
@@ -23,20 +30,27 @@ pub struct Kept {
     pub held: OpenAsk,
 }
 
-fn unread(kept: Kept) -> Kept {
+// All stays as it was.
+fn unread(kept: Kept) -> Kept
+    ensures { λ r. ⌜ r ≡ kept ⌝ }
+{
     say::unread();
     kept
 }
 
 // YEAR MONTH DAY DAYS MINUTES KE
-pub fn fresh(line: &[u8], image: &mut [u8], kept: Kept) -> Kept {
+pub fn fresh(line: &[u8], image: &mut [u8], kept: Kept) -> Kept
+    ensures { λ r. ⌜ outcome r (now (image .exit)) ≡ freshLine (now (line .entry)) (now (image .entry)) kept ⌝ }
+{
     if console::is_form(line, &[SHORT, BYTE, BYTE, BYTE, BYTE, SHORT]) {
         return fresh_from(line, image, kept);
     }
     unread(kept)
 }
 
-fn fresh_from(line: &[u8], image: &mut [u8], kept: Kept) -> Kept {
+fn fresh_from(line: &[u8], image: &mut [u8], kept: Kept) -> Kept
+    ensures { λ r. ⌜ outcome r (now (image .exit)) ≡ freshIn (yearOf (shortIn (now (line .entry)) 1)) (now (line .entry)) (now (image .entry)) kept ⌝ }
+{
     let YearAnswer::Year(year) = console::year(line, 1) else {
         say::number_line(refusal::OUT_OF_RANGE);
         return kept;
@@ -55,9 +69,17 @@ fn fresh_from(line: &[u8], image: &mut [u8], kept: Kept) -> Kept {
     fresh_of(header, image, kept)
 }
 
-fn fresh_of(h: Header, image: &mut [u8], kept: Kept) -> Kept {
+fn fresh_of(h: Header, image: &mut [u8], kept: Kept) -> Kept
+    ensures { λ r. ⌜ outcome r (now (image .exit)) ≡ newLog kept (freshOf h (now (image .entry))) ⌝ }
+{
     let answer = log::fresh_log(h, image);
     say::number_line(answer.number());
+    kept_after(answer, kept)
+}
+
+fn kept_after(answer: FreshAnswer, kept: Kept) -> Kept
+    ensures { λ r. ⌜ r ≡ keptAfter answer kept ⌝ }
+{
     match answer {
         FreshAnswer::Done(n) => Kept {
             length: n,
@@ -68,15 +90,46 @@ fn fresh_of(h: Header, image: &mut [u8], kept: Kept) -> Kept {
     }
 }
 
+// The bytes of a file.
+pub fn loaded(bytes: &[u8], image: &mut [u8], kept: Kept) -> Kept
+    ensures { λ r. ⌜ outcome r (now (image .exit)) ≡ loadedLog kept (readFile (now (bytes .entry)) (now (image .entry))) ⌝ }
+{
+    let answer = logfile::read_file(bytes, image);
+    say::number_line(answer.number());
+    kept_loaded(answer, kept)
+}
+
+fn kept_loaded(answer: ReadAnswer, kept: Kept) -> Kept
+    ensures { λ r. ⌜ r ≡ keptLoaded answer kept ⌝ }
+{
+    match answer {
+        ReadAnswer::Done(n) => Kept {
+            length: n,
+            held: OpenAsk::Closed,
+        },
+        ReadAnswer::WrongMark => kept,
+        ReadAnswer::WrongVersion => kept,
+        ReadAnswer::WrongHeader => kept,
+        ReadAnswer::WrongLength => kept,
+        ReadAnswer::WrongCrc => kept,
+        ReadAnswer::WrongCell => kept,
+        ReadAnswer::TooShort => kept,
+    }
+}
+
 // ADDRESS DAY SLOT
-pub fn ask(line: &[u8], image: &[u8], kept: Kept) -> Kept {
+pub fn ask(line: &[u8], image: &[u8], kept: Kept) -> Kept
+    ensures { λ r. ⌜ r ≡ askLine (now (line .entry)) (now (image .entry)) kept ⌝ }
+{
     if console::is_form(line, &[BYTE, BYTE, BYTE]) {
         return ask_for(image, kept, byte(line, 1), byte(line, 2), byte(line, 3));
     }
     unread(kept)
 }
 
-fn ask_for(image: &[u8], kept: Kept, address: u8, day: u8, slot: u8) -> Kept {
+fn ask_for(image: &[u8], kept: Kept, address: u8, day: u8, slot: u8) -> Kept
+    ensures { λ r. ⌜ r ≡ askedFor (now (image .entry)) kept address day slot ⌝ }
+{
     let mut frame = [0u8; frame::layout::READ_BYTES];
     let held = kept.held;
     let asked = logger::put_ask(
@@ -88,15 +141,7 @@ fn ask_for(image: &[u8], kept: Kept, address: u8, day: u8, slot: u8) -> Kept {
         &mut frame,
     );
     let answer = asked.answer;
-    say::first(answer.number());
-    match answer {
-        AskAnswer::Done => say::hex(&frame),
-        AskAnswer::TooShort => {}
-        AskAnswer::Unsound => {}
-        AskAnswer::AlreadyOpen => {}
-        AskAnswer::NotInLog => {}
-    }
-    say::end();
+    say_asked(answer, &frame);
     let after = asked.held;
     Kept {
         length: kept.length,
@@ -104,7 +149,21 @@ fn ask_for(image: &[u8], kept: Kept, address: u8, day: u8, slot: u8) -> Kept {
     }
 }
 
-pub fn lapse(line: &[u8], kept: Kept) -> Kept {
+fn say_asked(answer: AskAnswer, frame: &[u8]) {
+    say::first(answer.number());
+    match answer {
+        AskAnswer::Done => say::hex(frame),
+        AskAnswer::TooShort => {}
+        AskAnswer::Unsound => {}
+        AskAnswer::AlreadyOpen => {}
+        AskAnswer::NotInLog => {}
+    }
+    say::end();
+}
+
+pub fn lapse(line: &[u8], kept: Kept) -> Kept
+    ensures { λ r. ⌜ r ≡ lapseLine (now (line .entry)) kept ⌝ }
+{
     if console::spaces(line) != 0 {
         return unread(kept);
     }
@@ -118,7 +177,9 @@ pub fn lapse(line: &[u8], kept: Kept) -> Kept {
 }
 
 // BYTES, or none
-pub fn reply(line: &[u8], image: &mut [u8], kept: Kept) -> Kept {
+pub fn reply(line: &[u8], image: &mut [u8], kept: Kept) -> Kept
+    ensures { λ r. ⌜ outcome r (now (image .exit)) ≡ replyLine (now (line .entry)) (now (image .entry)) kept ⌝ }
+{
     let mut bytes = [0u8; 2048];
     match crate::reads::reply_bytes(line, 1, &mut bytes) {
         BytesAnswer::Bytes(n) => reply_of(console::part(&bytes, n), image, kept),
@@ -126,7 +187,9 @@ pub fn reply(line: &[u8], image: &mut [u8], kept: Kept) -> Kept {
     }
 }
 
-fn reply_of(bytes: &[u8], image: &mut [u8], kept: Kept) -> Kept {
+fn reply_of(bytes: &[u8], image: &mut [u8], kept: Kept) -> Kept
+    ensures { λ r. ⌜ outcome r (now (image .exit)) ≡ replyOf (now (bytes .entry)) (now (image .entry)) kept ⌝ }
+{
     let length = kept.length;
     let held = kept.held;
     if image.len() < length {
@@ -134,6 +197,15 @@ fn reply_of(bytes: &[u8], image: &mut [u8], kept: Kept) -> Kept {
     }
     let taken = logger::take_reply(&mut image[..length], held, bytes);
     let answer = taken.answer;
+    say_taken(answer);
+    let after = taken.held;
+    Kept {
+        length: length,
+        held: after,
+    }
+}
+
+fn say_taken(answer: TakeAnswer) {
     say::first(answer.number());
     match answer {
         TakeAnswer::Done => {}
@@ -145,11 +217,6 @@ fn reply_of(bytes: &[u8], image: &mut [u8], kept: Kept) -> Kept {
         TakeAnswer::Unsound => {}
     }
     say::end();
-    let after = taken.held;
-    Kept {
-        length: length,
-        held: after,
-    }
 }
 
 pub fn open_ask(line: &[u8], held: OpenAsk) {

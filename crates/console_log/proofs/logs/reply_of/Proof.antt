@@ -1,6 +1,8 @@
--- `reply_of` meets its contract: the image was tested to have `length` bytes, so the part of it that `take_reply` is lent is as long as that.
-use mathlib.Core.Path.{sym}
+-- `reply_of` meets its contract: the image was tested to have `length` bytes, so `take_reply` is lent that part, and what stands behind it stays.
+use Rattle.console_log.specs.Log.{replyOf, replyTaken}
+use borrow.Author.Tests.{lt-ltb, le-ltb}
 use lib.Seq.{length-take-le}
+use mathlib.Core.Path.{sym, ap}
 use borrow.Author.Needs.{needs}
 use Rattle.console_log.proofs.logs.reply_of.Statement.{statement}
 use Rattle.console_log.proofs.logs.reply_of.Tie as tie
@@ -9,7 +11,8 @@ unread-requires : tie.Need-unread-requires
 unread-requires c κs = search needs
 
 returns : tie.Need-returns
-returns c = search needs
+unfolding replyOf
+returns c = rw (lt-ltb _ _ (c .before .if1 .taken), c .unread .ensures)
 
 slice-relend-prefix-take-reply : tie.Need-slice-relend-prefix-take-reply
 slice-relend-prefix-take-reply c = search needs
@@ -20,47 +23,19 @@ slice-aggregate-take-reply c = sym (length-take-le _ _ (c .before .if1 .left))
 take-reply-requires : tie.Need-take-reply-requires
 take-reply-requires c κs = search needs
 
-number-requires : tie.Need-number-requires
-number-requires c κs = search needs
-
-first-requires : tie.Need-first-requires
-first-requires c κs = search needs
-
-enum-told : tie.Need-enum-told
-enum-told c = search needs
-
-enum-told-2 : tie.Need-enum-told-2
-enum-told-2 c = search needs
-
-enum-told-3 : tie.Need-enum-told-3
-enum-told-3 c = search needs
-
-enum-told-4 : tie.Need-enum-told-4
-enum-told-4 c = search needs
-
-enum-known-answer : tie.Need-enum-known-answer
-enum-known-answer c = search needs
-
-cast-number : tie.Need-cast-number
-cast-number c = search needs
-
-number-requires-2 : tie.Need-number-requires-2
-number-requires-2 c κs = search needs
-
-enum-told-5 : tie.Need-enum-told-5
-enum-told-5 c = search needs
-
-enum-told-6 : tie.Need-enum-told-6
-enum-told-6 c = search needs
-
-end-requires : tie.Need-end-requires
-end-requires c κs = search needs
+say-taken-requires : tie.Need-say-taken-requires
+say-taken-requires c κs = search needs
 
 same-length : tie.Need-same-length
 same-length c = search needs
 
 returns-2 : tie.Need-returns-2
-returns-2 c = search needs
+unfolding replyOf
+returns-2 c =
+    let if1 = c .before .before .before .before .before .if1 in
+    let args = c .before .before .before .before .before .before .before .before .args in
+    let take-reply = c .before .before .before .take-reply in
+    rw (le-ltb _ _ (if1 .left)) (ap (replyTaken (args .image .now) (args .kept)) (take-reply .ensures))
 
 pub reply-of-spec : {M : Type 1} → statement M
 reply-of-spec =
@@ -71,17 +46,6 @@ reply-of-spec =
     slice-relend-prefix-take-reply
     slice-aggregate-take-reply
     take-reply-requires
-    number-requires
-    first-requires
-    enum-told
-    enum-told-2
-    enum-told-3
-    enum-told-4
-    enum-known-answer
-    cast-number
-    number-requires-2
-    enum-told-5
-    enum-told-6
-    end-requires
+    say-taken-requires
     same-length
     returns-2)

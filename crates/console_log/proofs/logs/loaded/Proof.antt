@@ -1,0 +1,38 @@
+-- `loaded` meets its contract: image and answer are what `read_file` ensures; printing the number changes neither.
+use Rattle.console_log.specs.Log.{loadedLog}
+use mathlib.Core.Path.{ap}
+use borrow.Author.Needs.{needs}
+use Rattle.console_log.proofs.logs.loaded.Statement.{statement}
+use Rattle.console_log.proofs.logs.loaded.Tie as tie
+
+read-file-requires : tie.Need-read-file-requires
+read-file-requires c κs = search needs
+
+number-requires : tie.Need-number-requires
+number-requires c κs = search needs
+
+number-line-requires : tie.Need-number-line-requires
+number-line-requires c κs = search needs
+
+kept-loaded-requires : tie.Need-kept-loaded-requires
+kept-loaded-requires c κs = search needs
+
+same-length : tie.Need-same-length
+same-length c = search needs
+
+returns : tie.Need-returns
+returns c =
+    let args = c .before .before .before .before .before .before .before .before .before .args in
+    let read-file = c .before .before .before .before .before .read-file in
+    rw (c .kept-loaded .ensures) (ap (loadedLog (args .kept)) (read-file .ensures))
+
+pub loaded-spec : {M : Type 1} → statement M
+loaded-spec =
+    tie.close
+    (tie.spec
+    read-file-requires
+    number-requires
+    number-line-requires
+    kept-loaded-requires
+    same-length
+    returns)

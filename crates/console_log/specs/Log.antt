@@ -1,0 +1,107 @@
+-- What a line of the log makes of the log and of the open ask. Source: the console's page, "Log and reader"; the calls are the logger's.
+use Prim.Native.Nat.{ℕ}
+use mathlib.Core.Bool.{cond}
+use mathlib.Core.List.{List, [], _∷_, _++_}
+use lib.Dec.{eqb, ltb}
+use lib.ListN.{length, take, drop, replicate}
+use Rattle.refusal.specs.Outcome.{Outcome, outcome}
+use Rattle.frame.specs.Layout.{readSize}
+use Rattle.log.specs.Fresh.{freshOf}
+use Rattle.log.specs.declared.header.Header.{Header}
+use Rattle.log.specs.declared.fresh.FreshAnswer.{FreshAnswer}
+use Rattle.log.specs.declared.fresh.FreshAnswer.the-variants as fresh
+use Rattle.logfile.specs.declared.read.ReadAnswer.{ReadAnswer}
+use Rattle.logfile.specs.declared.read.ReadAnswer.the-variants as file
+use Rattle.logger.specs.Ask.{asked}
+use Rattle.logger.specs.Held.{lapsed}
+use Rattle.logger.specs.Take.{taken}
+use Rattle.logger.specs.declared.take.Taken.{Taken}
+use Rattle.logger.specs.declared.held.OpenAsk.{OpenAsk}
+use Rattle.logger.specs.declared.held.OpenAsk.the-variants.{Closed}
+use Rattle.console.specs.Line.{partOf, spacesIn}
+use Rattle.console.specs.Form.{isForm, byteIn, shortIn, yearOf}
+use Rattle.console.specs.declared.form.YearAnswer.{YearAnswer}
+use Rattle.console.specs.declared.form.YearAnswer.the-variants.{Year, OutOfRange}
+use Rattle.console.specs.declared.value.BytesAnswer.{BytesAnswer}
+use Rattle.console.specs.declared.value.BytesAnswer.the-variants.{Bytes, Unread}
+use Rattle.console_log.specs.Words.{replyRead}
+use Rattle.console_log.specs.declared.logs.Kept.{Kept}
+
+-- the same log, with this ask
+abbrev pub withAsk : Kept → OpenAsk → Kept
+withAsk kept held = record { length = kept .length; held = held }
+
+-- a new log has no ask open; a refused one leaves all as it was
+unfoldable pub keptAfter : FreshAnswer → Kept → Kept
+keptAfter (fresh.Done n) kept = record { length = n; held = Closed }
+keptAfter fresh.OutOfRange kept = kept
+keptAfter fresh.TooShort kept = kept
+
+abbrev pub newLog : Kept → Outcome FreshAnswer (List ℕ) → Outcome Kept (List ℕ)
+newLog kept o = outcome (keptAfter (o .result) kept) (o .left)
+
+-- a log read from a file likewise
+unfoldable pub keptLoaded : ReadAnswer → Kept → Kept
+keptLoaded (file.Done n) kept = record { length = n; held = Closed }
+keptLoaded file.WrongMark kept = kept
+keptLoaded file.WrongVersion kept = kept
+keptLoaded file.WrongHeader kept = kept
+keptLoaded file.WrongLength kept = kept
+keptLoaded file.WrongCrc kept = kept
+keptLoaded file.WrongCell kept = kept
+keptLoaded file.TooShort kept = kept
+
+abbrev pub loadedLog : Kept → Outcome ReadAnswer (List ℕ) → Outcome Kept (List ℕ)
+loadedLog kept o = outcome (keptLoaded (o .result) kept) (o .left)
+
+-- MONTH DAY DAYS MINUTES KE behind the year
+abbrev pub headerIn : List ℕ → ℕ → Header
+headerIn line year = record {
+  start = record { year = year; month = byteIn line 2; day = byteIn line 3 };
+  days = byteIn line 4;
+  minutes = byteIn line 5;
+  ke = shortIn line 6;
+}
+
+unfoldable pub freshIn : YearAnswer → List ℕ → List ℕ → Kept → Outcome Kept (List ℕ)
+freshIn (Year year) line image kept = newLog kept (freshOf (headerIn line year) image)
+freshIn OutOfRange line image kept = outcome kept image
+
+-- YEAR MONTH DAY DAYS MINUTES KE; a line that cannot be read leaves all as it was
+unfoldable pub freshLine : List ℕ → List ℕ → Kept → Outcome Kept (List ℕ)
+freshLine line image kept =
+    cond (isForm line (65535 ∷ 255 ∷ 255 ∷ 255 ∷ 255 ∷ 65535 ∷ [])) (freshIn (yearOf (shortIn line 1)) line image kept) (outcome kept image)
+
+-- the ask of an address, a day and a slot; its frame is printed
+unfoldable pub askedFor : List ℕ → Kept → ℕ → ℕ → ℕ → Kept
+askedFor image kept address day slot =
+    withAsk kept (asked (partOf (kept .length) image) (kept .held) address day slot (replicate readSize 0) .result .held)
+
+-- ADDRESS DAY SLOT
+unfoldable pub askLine : List ℕ → List ℕ → Kept → Kept
+askLine line image kept =
+    cond (isForm line (255 ∷ 255 ∷ 255 ∷ [])) (askedFor image kept (byteIn line 1) (byteIn line 2) (byteIn line 3)) kept
+
+-- no words behind the first
+unfoldable pub lapseLine : List ℕ → Kept → Kept
+lapseLine line kept = cond (eqb (spacesIn line) 0) (withAsk kept (lapsed (kept .held))) kept
+
+-- what stands behind the log is not the log's
+abbrev pub replyTaken : List ℕ → Kept → Outcome Taken (List ℕ) → Outcome Kept (List ℕ)
+replyTaken image kept o = outcome (withAsk kept (o .result .held)) (o .left ++ drop (kept .length) image)
+
+unfoldable pub replyOf : List ℕ → List ℕ → Kept → Outcome Kept (List ℕ)
+replyOf y image kept =
+    cond (ltb (length image) (kept .length)) (outcome kept image) (replyTaken image kept (taken (take (kept .length) image) (kept .held) y))
+
+-- the bytes that were read are so many of a buffer's first
+unfoldable pub replyIn : BytesAnswer → List ℕ → List ℕ → Kept → Outcome Kept (List ℕ)
+unfolding replyOf
+replyIn (Bytes n) buffer image kept = replyOf (partOf n buffer) image kept
+replyIn Unread buffer image kept = outcome kept image
+
+-- BYTES, or none
+unfoldable pub replyLine : List ℕ → List ℕ → Kept → Outcome Kept (List ℕ)
+replyLine line image kept =
+    let o = replyRead line 1 (replicate 2048 0) in
+    replyIn (o .result) (o .left) image kept
