@@ -1,13 +1,19 @@
-// The functions of target/staticlib/libmetlazuel.a (crates/metlazuel), as C and C++ see them; tests/c/example.c uses them all.
+// The functions of target/staticlib/libmetlazuel.a (crates/metlazuel), as C and C++ see them; tests/c/example.c uses them all. The archive
+// is for Linux on x86-64, as the Rattle kit's compiler is; it calls memcpy and memset and nothing else.
 //
-// A slice is a pointer and its length. What a caller owes is what C always asks: memory as long as it says, and no lent memory that
-// overlaps another argument. Everything else is refused by a number: each call but the CRC answers with one of enum metlazuel_answer.
-// A call that is refused changes nothing but what its comment names, and output past what was written stays as it was.
+// A slice is a pointer and its length. What a caller owes is what C always asks: memory as long as it says, aligned for its type, and no
+// lent memory that overlaps another argument. No pointer is null, not even where its length is 0. Everything else is refused by a number:
+// each call but the CRC answers with one of enum metlazuel_answer. A call that is refused changes nothing but what its comment names, and
+// output past what was written stays as it was. Nothing is kept between calls and no memory is shared, so calls on other memory may run at
+// the same time.
 #ifndef METLAZUEL_H
 #define METLAZUEL_H
 
 #include <stddef.h>
 #include <stdint.h>
+
+// What is declared here, as major * 10000 + minor * 100 + patch: 1.0.0. What is there today stays as it is while the major number does.
+#define METLAZUEL_VERSION 10000
 
 #ifdef __cplusplus
 extern "C" {
@@ -32,7 +38,7 @@ enum metlazuel_answer {
     METLAZUEL_OTHER_COUNTS = 25,      // a reply with other counts than those measured
     METLAZUEL_NOT_FINITE = 26,        // a power reply with an infinity or no number
     METLAZUEL_OUT_OF_RANGE = 27,      // a bench setting, a new log's header, or a request
-    METLAZUEL_UNSOUND = 28,           // lent bytes that are no log, no ask or no meter's record
+    METLAZUEL_UNSOUND = 28,           // lent bytes that are no log, no cell of one, no ask or no meter's record
     METLAZUEL_FILE_MARK = 30,         // a file that is no log's, or of fewer than 5 bytes
     METLAZUEL_FILE_VERSION = 31,
     METLAZUEL_FILE_HEADER = 32,
@@ -52,8 +58,34 @@ enum {
     METLAZUEL_CELL_BYTES = 9,      //   and each of its cells
     METLAZUEL_LOG_BYTES = METLAZUEL_HEADER_BYTES + 62 * 96 * METLAZUEL_CELL_BYTES, // the longest log's image: 62 days of 96 slots
     METLAZUEL_FILE_BYTES = METLAZUEL_LOG_BYTES + 2, // and its file, with a CRC
+    METLAZUEL_COUNTS = 4,          // the counts of a cell, in 16-bit numbers: E+, E-, R+, R-
     METLAZUEL_ROW = 7,             // a day's report, in 32-bit numbers
     METLAZUEL_FIGURES = 24         // the most figures of a reply, in 32-bit numbers
+};
+
+// The parameters of the meter, by the numbers that it gives them (SS-301 operator's instruction 3.16, Appendix A).
+enum metlazuel_parameter {
+    METLAZUEL_PARAMETER_ACTIVE_POWER = 8,
+    METLAZUEL_PARAMETER_REACTIVE_POWER = 9,
+    METLAZUEL_PARAMETER_ADDRESS = 21,
+    METLAZUEL_PARAMETER_TELEMETRY = 24,
+    METLAZUEL_PARAMETER_SUMMER_DATE = 27,
+    METLAZUEL_PARAMETER_WINTER_DATE = 28,
+    METLAZUEL_PARAMETER_CLOCK = 32,
+    METLAZUEL_PARAMETER_DISPLAY_MASK = 35,
+    METLAZUEL_PARAMETER_SLICE = 36,
+    METLAZUEL_PARAMETER_PASSWORD = 37, // written and never read
+    METLAZUEL_PARAMETER_SIX_SLICES = 40
+};
+
+// The functions of a frame, its second byte. Every request of this library reads; a bench meter answers the others too.
+enum metlazuel_function {
+    METLAZUEL_FUNCTION_READ = 3,
+    METLAZUEL_FUNCTION_CHANGE = 16,
+    METLAZUEL_FUNCTION_ZERO = 30,
+    METLAZUEL_FUNCTION_UNLOCK = 31,   // opens the level whose password it has
+    METLAZUEL_FUNCTION_LOCK = 32,
+    METLAZUEL_FUNCTION_REFUSED = 128  // the top bit, set in a reply whose result is not 0
 };
 
 // The Modbus CRC-16.
@@ -66,10 +98,49 @@ uint16_t metlazuel_crc16(const uint8_t *bytes, size_t n);
 // result 0 came for it; empty where such replies came and all were zeros, which the meter answers for a slice that it does not have, too;
 // and else measured, with the counts of the first such reply that was not all zeros.
 
+// What a cell is.
+enum metlazuel_kind {
+    METLAZUEL_KIND_GAP = 0,
+    METLAZUEL_KIND_EMPTY = 1,
+    METLAZUEL_KIND_MEASURED = 2
+};
+
+// Where the parts of an image stand; numbers of two bytes have the lower one first. Cell I, of DAY * slots + SLOT, begins at
+// METLAZUEL_HEADER_BYTES + I * METLAZUEL_CELL_BYTES, and a day has 1440 / minutes slots. Reading is what they are for: an image that was
+// written by hand may be one that every call refuses.
+enum {
+    METLAZUEL_AT_MARK = 0,     // of the header: the letters GEL
+    METLAZUEL_AT_VERSION = 3,  //   1, two bytes
+    METLAZUEL_AT_YEAR = 5,     //   from 2000 on
+    METLAZUEL_AT_MONTH = 6,
+    METLAZUEL_AT_DAY = 7,
+    METLAZUEL_AT_DAYS = 8,
+    METLAZUEL_AT_MINUTES = 9,
+    METLAZUEL_AT_KE = 10,      //   two bytes, and two zero bytes behind them
+    METLAZUEL_AT_KIND = 0,     // of a cell: one of enum metlazuel_kind
+    METLAZUEL_AT_EPLUS = 1,    //   the counts, two bytes each
+    METLAZUEL_AT_EMINUS = 3,
+    METLAZUEL_AT_RPLUS = 5,
+    METLAZUEL_AT_RMINUS = 7
+};
+
+// In a slot's place: there is no gap.
+enum { METLAZUEL_NO_GAP = 255 };
+
 // A fresh log, all gaps, that starts on a date (the year counts from 2000) and has 1 to 62 days of slots of 15 or 30 minutes, and ke
 // milliwatt-hours a count. OUT_OF_RANGE, TOO_SHORT, else DONE.
 uint8_t metlazuel_log_fresh(uint8_t *log, size_t room, uint8_t year, uint8_t month, uint8_t day, uint8_t days, uint8_t minutes,
                             uint16_t ke, size_t *length);
+
+// The cell of a slot of a day, both counted from 0: its kind to *kind, one of enum metlazuel_kind, and its counts E+, E-, R+, R- to counts,
+// zeros unless it is measured. UNSOUND (log), NOT_IN_LOG, UNSOUND (the cell), else DONE. A refusal leaves both.
+uint8_t metlazuel_cell(const uint8_t *log, size_t n, uint8_t day, uint8_t slot, uint8_t *kind, uint16_t counts[METLAZUEL_COUNTS]);
+
+// The first slot of a day, from a slot on, whose cell is a gap, to *slot; METLAZUEL_NO_GAP where there is none, also from a slot on that
+// the day does not have. A damaged cell is no gap: metlazuel_cell and metlazuel_day_report find it. UNSOUND (log), NOT_IN_LOG (the day),
+// else DONE, found or not. A refusal leaves *slot. All gaps of a day:
+//   for (uint8_t slot = 0; metlazuel_next_gap(log, n, day, slot, &slot) == METLAZUEL_DONE && slot != METLAZUEL_NO_GAP; slot++)
+uint8_t metlazuel_next_gap(const uint8_t *log, size_t n, uint8_t day, uint8_t from, uint8_t *slot);
 
 // The open ask is METLAZUEL_ASK_BYTES: 0 and three bytes that nobody looks at where none is open (so four zero bytes to begin with), or
 // 1, address, day and slot. Bytes of another length, or with another first byte, are UNSOUND. A call that is refused leaves them as they
@@ -100,9 +171,8 @@ uint8_t metlazuel_read_file(const uint8_t *file, size_t n, uint8_t *out, size_t 
 
 // ---- read requests and their replies, without a log
 //
-// The parameters: 8 active and 9 reactive power (detail 0 for the total and A, B, C, 1 to 3 for one phase), 21 address, 24 telemetry,
-// 27 and 28 season dates, 32 clock, 35 display mask, 36 slice and 40 six slices (month, day and number in place of offset, tariff and
-// detail). Fields that a parameter does not use are 0.
+// The parameter is one of enum metlazuel_parameter. A power has detail 0 for the total and A, B, C, 1 to 3 for one phase; slice and six
+// slices have month, day and number in place of offset, tariff and detail. Fields that a parameter does not use are 0.
 
 // Puts a read request to the front of out: METLAZUEL_REQUEST_BYTES. TOO_SHORT, OUT_OF_RANGE (a request that no meter would answer with
 // result 0), else DONE.
@@ -146,7 +216,8 @@ uint8_t metlazuel_meter_second(uint8_t *meter, size_t n);
 uint8_t metlazuel_meter_slice(uint8_t *meter, size_t n, uint8_t *store, size_t size, uint8_t month, uint8_t day, uint8_t number,
                               uint16_t eplus, uint16_t eminus, uint16_t rplus, uint16_t rminus);
 
-// Sets the active powers (parameter 8) or the reactive ones (9), each as the bits of a 32-bit float. UNSOUND, OUT_OF_RANGE, else DONE.
+// Sets the powers that METLAZUEL_PARAMETER_ACTIVE_POWER or METLAZUEL_PARAMETER_REACTIVE_POWER reads, those of A, B and C, each as the bits
+// of a 32-bit float. UNSOUND, OUT_OF_RANGE, else DONE.
 uint8_t metlazuel_meter_powers(uint8_t *meter, size_t n, uint8_t parameter, uint32_t a, uint32_t b, uint32_t c);
 
 #ifdef __cplusplus

@@ -1,12 +1,12 @@
-// A day in small: a bench meter with one slice, a log that asks it for the first three half hours, the day's report, the log's file, and
-// the meter's clock and powers read without a log. What it prints stands in example.out; `tests/c/run` builds, runs and compares it, as C
-// and as C++.
+// A day in small: a bench meter with one slice, a log that asks it for the first three half hours, its cells and gaps, the day's report,
+// the log's file, and the meter's clock and powers read without a log. What it prints stands in example.out; `tests/c/run` builds, runs and
+// compares it, as C and as C++.
 #include <stdio.h>
 #include <stdlib.h>
 #include <string.h>
 #include "metlazuel.h"
 
-enum { METER = 1, ACTIVE_POWER = 8, CLOCK = 32 };
+enum { METER = 1 };
 
 static uint8_t record[METLAZUEL_RECORD_BYTES], store[METLAZUEL_STORE_BYTES];
 static uint8_t image[METLAZUEL_LOG_BYTES], file[METLAZUEL_FILE_BYTES], back[METLAZUEL_LOG_BYTES];
@@ -52,7 +52,9 @@ static void make_meter(void)
     expect("meter_second", metlazuel_meter_second(record, sizeof record), METLAZUEL_DONE);
     expect("meter_slice", metlazuel_meter_slice(record, sizeof record, store, sizeof store, 5, 17, 0, 12, 0, 3, 0), METLAZUEL_DONE);
     expect("meter_powers",
-           metlazuel_meter_powers(record, sizeof record, ACTIVE_POWER, bits_of(230.5f), bits_of(-1.25f), bits_of(0.0f)), METLAZUEL_DONE);
+           metlazuel_meter_powers(record, sizeof record, METLAZUEL_PARAMETER_ACTIVE_POWER, bits_of(230.5f), bits_of(-1.25f),
+                                  bits_of(0.0f)),
+           METLAZUEL_DONE);
 }
 
 // Asks for the first three slots of the day; the reply to the third is lost.
@@ -68,6 +70,25 @@ static void fill(size_t n)
             expect("take", metlazuel_take(image, n, ask, sizeof ask, reply, length, &result), METLAZUEL_DONE);
     }
     expect("take", metlazuel_take(image, n, ask, sizeof ask, reply, sizeof reply, &result), METLAZUEL_NO_ASK_OPEN);
+}
+
+// The cells of the three slots, and the day's gaps.
+static void show_cells(size_t n)
+{
+    static const char *const kinds[] = {"gap", "empty", "measured"};
+    uint8_t kind, first;
+    uint16_t counts[METLAZUEL_COUNTS];
+    unsigned gaps = 0;
+    for (uint8_t slot = 0; slot < 3; slot++) {
+        expect("cell", metlazuel_cell(image, n, 0, slot, &kind, counts), METLAZUEL_DONE);
+        printf("slot %u %s, E+ %u, E- %u, R+ %u, R- %u\n", slot, kinds[kind], counts[0], counts[1], counts[2], counts[3]);
+    }
+    expect("cell", metlazuel_cell(image, n, 0, 48, &kind, counts), METLAZUEL_NOT_IN_LOG);
+    expect("next_gap", metlazuel_next_gap(image, n, 0, 0, &first), METLAZUEL_DONE);
+    for (uint8_t slot = 0; metlazuel_next_gap(image, n, 0, slot, &slot) == METLAZUEL_DONE && slot != METLAZUEL_NO_GAP; slot++)
+        gaps++;
+    printf("%u gaps, from slot %u on\n", gaps, first);
+    expect("next_gap", metlazuel_next_gap(image, n, 1, 0, &first), METLAZUEL_NOT_IN_LOG);
 }
 
 static void report(size_t n)
@@ -108,7 +129,7 @@ static size_t read_figures(uint8_t parameter, uint32_t *figures)
 static void show_clock(void)
 {
     uint32_t f[METLAZUEL_FIGURES];
-    size_t count = read_figures(CLOCK, f);
+    size_t count = read_figures(METLAZUEL_PARAMETER_CLOCK, f);
     printf("clock, %u figures: 20%02u-%02u-%02u %02u:%02u:%02u\n", (unsigned)count, (unsigned)f[0], (unsigned)f[1], (unsigned)f[2],
            (unsigned)f[3], (unsigned)f[4], (unsigned)f[5]);
 }
@@ -116,7 +137,7 @@ static void show_clock(void)
 static void show_powers(void)
 {
     uint32_t f[METLAZUEL_FIGURES];
-    size_t count = read_figures(ACTIVE_POWER, f);
+    size_t count = read_figures(METLAZUEL_PARAMETER_ACTIVE_POWER, f);
     printf("powers, %u figures: total %g, A %g, B %g, C %g\n", (unsigned)count, power_of(f[0]), power_of(f[1]), power_of(f[2]),
            power_of(f[3]));
 }
@@ -127,6 +148,7 @@ int main(void)
     make_meter();
     expect("log_fresh", metlazuel_log_fresh(image, sizeof image, 24, 5, 17, 1, 30, 100, &n), METLAZUEL_DONE);
     fill(n);
+    show_cells(n);
     report(n);
     save(n);
     show_clock();

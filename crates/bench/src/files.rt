@@ -2,6 +2,7 @@
 use console_io::say;
 use console_log::Kept;
 use file_io::FileAnswer;
+use libc::STDERR_FILENO;
 use logfile::FILE_MOST;
 use logfile::WriteAnswer;
 
@@ -17,7 +18,7 @@ pub fn load(line: &[u8], image: &mut [u8], kept: Kept) -> Kept {
     match file_io::contents(console::word(line, 1), &mut bytes) {
         FileAnswer::Bytes(n) => console_log::loaded(console::part(&bytes, n), image, kept),
         FileAnswer::Failed => {
-            say::unread();
+            failed(console::word(line, 1));
             kept
         }
     }
@@ -37,6 +38,13 @@ pub fn save(line: &[u8], image: &[u8]) {
     if file_io::stored(console::word(line, 1), console::part(&bytes, n)) {
         say::number_line(refusal::DONE);
     } else {
-        say::unread();
+        failed(console::word(line, 1));
     }
+}
+
+// Why, by errno, and the answer.
+fn failed(path: &[u8]) {
+    io::write_all(STDERR_FILENO, b"bench: ");
+    os::fail(path);
+    say::failed();
 }

@@ -1,29 +1,63 @@
-// What the program reads, for whoever calls it with a word.
+// The lines that the program reads, with their answers: for whoever calls it with a word, and for the line `help`.
 use libc::STDOUT_FILENO;
 
 pub fn say() {
     put(b"bench: reads lines from standard input and answers each with document 01's number.\n");
+    lines();
+}
+
+// The line `help`.
+pub fn asked(line: &[u8]) {
+    if console::spaces(line) != 0 {
+        console_io::say::unread();
+        return;
+    }
+    lines();
+}
+
+fn lines() {
     log_lines();
+    reader_lines();
     meter_lines();
+    meter_reads();
+    put(b"\nhelp: these lines    quit: the end, as the input's own\n");
     put(b"Bytes are pairs of hex digits; a line that cannot be read is answered ?\n");
+    put(b"Any other number than 0 is a refusal of document 01's table, alone on its line.\n");
 }
 
 fn log_lines() {
     put(b"\nThe log and the reader:\n");
-    put(b"    log YEAR MONTH DAY DAYS MINUTES KE    load PATH    save PATH\n");
-    put(
-        b"    ask ADDRESS DAY SLOT    lapse    reply BYTES    open    cell DAY SLOT    report DAY\n",
-    );
-    put(b"    request ADDRESS PARAMETER OFFSET TARIFF DETAIL\n");
-    put(b"    decode ADDRESS PARAMETER OFFSET TARIFF DETAIL BYTES\n");
+    put(b"    log YEAR MONTH DAY DAYS MINUTES KE: 0\n");
+    put(b"    load PATH: 0; ? where the file cannot be read\n");
+    put(b"    save PATH: 0; ? where the file cannot be written\n");
+    put(b"    ask ADDRESS DAY SLOT: 0 FRAME\n");
+    put(b"    lapse: 0\n");
+    put(b"    reply BYTES: 0; 24 RESULT\n");
+    put(b"    open: 0 closed; 0 ADDRESS DAY SLOT\n");
+    put(b"    cell DAY SLOT: 0 gap; 0 empty; 0 measured E+ E- R+ R-\n");
+    put(b"    report DAY: 0 GAPS EMPTIES MEASURED E+ E- R+ R-\n");
+}
+
+fn reader_lines() {
+    put(b"    request ADDRESS PARAMETER OFFSET TARIFF DETAIL: 0 FRAME\n");
+    put(b"    decode ADDRESS PARAMETER OFFSET TARIFF DETAIL BYTES: 0 and the figures; 24 RESULT\n");
 }
 
 fn meter_lines() {
     put(b"\nThe bench meter:\n");
-    put(b"    meter ADDRESS MINUTES K KE RESERVE YEAR MONTH DAY HOUR MINUTE SECOND SEASON\n");
-    put(b"    power PARAMETER A B C    slice MONTH DAY NUMBER E+ E- R+ R-    second N\n");
-    put(b"    frame BYTES    record    shown\n");
-    put(b"    inquire ADDRESS PARAMETER OFFSET TARIFF DETAIL\n\n");
+    put(b"    meter ADDRESS MINUTES K KE RESERVE YEAR MONTH DAY HOUR MINUTE SECOND SEASON: 0\n");
+    put(b"    power PARAMETER A B C: 0\n");
+    put(b"    slice MONTH DAY NUMBER E+ E- R+ R-: 0\n");
+    put(b"    second N: 0\n");
+}
+
+fn meter_reads() {
+    put(
+        b"    frame BYTES: the number and the reply, of a refusal too; silence: the number alone\n",
+    );
+    put(b"    record: 0 ADDRESS LEVEL SECONDS YEAR MONTH DAY HOUR MINUTE SECOND SEASON NEXT\n");
+    put(b"    shown: 0 and six bytes\n");
+    put(b"    inquire ADDRESS PARAMETER OFFSET TARIFF DETAIL: as decode; 2 for silence\n");
 }
 
 fn put(bytes: &[u8]) {

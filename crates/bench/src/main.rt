@@ -1,11 +1,11 @@
 // The console: a line of standard input is a call, and its answer a line of standard output.
 mod files;
 mod help;
+mod typing;
 mod verb;
 
 use console_io::Rest;
 use console_log::Kept;
-use libc::STDIN_FILENO;
 use logger::OpenAsk;
 use meter_record::Record;
 use meter_record::RecordAnswer;
@@ -25,11 +25,12 @@ fn begin() {
     // The longest image, the meter's 2,976 places for slices, all unused, the longest line, and a block of the input.
     let mut image = [0u8; log::IMAGE_MOST];
     let mut store = [0u8; 32736];
-    let mut line = [0u8; 4096];
+    let mut line = [0u8; console_io::LINE_ROOM];
     let mut block = [0u8; 4096];
     let RecordAnswer::Done(record) = console_setup::first() else {
         return;
     };
+    typing::greet();
     session(&mut image, &mut store, &mut line, &mut block, record);
 }
 
@@ -43,7 +44,7 @@ fn session(image: &mut [u8], store: &mut [u8], line: &mut [u8], block: &mut [u8]
     // Nothing says that the input ends: this many lines no run has.
     let mut turns = u64::MAX;
     while 0 < turns {
-        let taken = console_io::next_line(STDIN_FILENO, block, rest, line);
+        let taken = typing::next_call(block, rest, line);
         if taken.ended {
             return;
         }
@@ -81,6 +82,7 @@ fn read(verb: usize, line: &[u8], image: &[u8], held: OpenAsk) {
         verb::REPORT => console_log::report(line, image),
         verb::REQUEST => console_log::request(line),
         verb::DECODE => console_log::decode(line),
+        verb::HELP => help::asked(line),
         _ => {}
     }
 }

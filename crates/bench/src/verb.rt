@@ -21,8 +21,10 @@ pub const REQUEST: usize = 9;
 
 pub const DECODE: usize = 10;
 
+pub const HELP: usize = 11;
+
 // A line that is passed over. What has none of the names is left to the meter.
-pub const NOTHING: usize = 11;
+pub const NOTHING: usize = 12;
 
 pub fn verb_of(line: &[u8]) -> usize {
     if console::is_passed_over(line) {
@@ -30,6 +32,6 @@ pub fn verb_of(line: &[u8]) -> usize {
     }
     console::place_of(
         console::word(line, 0),
-        b"log load ask lapse reply save open cell report request decode",
+        b"log load ask lapse reply save open cell report request decode help",
     )
 }

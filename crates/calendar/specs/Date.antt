@@ -9,6 +9,8 @@ use Rattle.calendar.specs.Count.{Place, starts, countOff}
 use Rattle.calendar.specs.declared.date.Date.{Date}
 use Rattle.calendar.specs.declared.date.DateAnswer.{DateAnswer}
 use Rattle.calendar.specs.declared.date.DateAnswer.the-variants.{On, NotADate, OutOfRange}
+use Rattle.calendar.specs.declared.date.DayAnswer.{DayAnswer}
+use Rattle.calendar.specs.declared.date.DayAnswer.the-variants as day
 
 -- whether d divides n
 abbrev pub divides : ℕ → ℕ → Bool
@@ -52,6 +54,10 @@ monthNumber d = 12 * d .year + (d .month - 1)
 -- days since 2000-01-01
 unfoldable pub dayNumber : Date → ℕ
 dayNumber d = daysBefore (monthNumber d) + (d .day - 1)
+
+-- the day number of three bytes that are a date
+unfoldable pub dayOf : Date → DayAnswer
+dayOf d = cond (isDate d) (day.Day (dayNumber d)) day.NotADate
 
 -- the date in month number p .piece that is p .rest days after the first
 unfoldable pub dateAt : Place → Date

@@ -3,7 +3,7 @@ ghost use mathlib.Core.Path.{_≡_};
 ghost use mathlib.Core.Bool.{true};
 ghost use Prim.Native.Nat.{_<_, _+_};
 ghost use Rattle.calendar.specs.Date.{isDate, daysInMonth, lengthOf, daysBefore, monthNumber, dayNumber};
-ghost use Rattle.calendar.specs.Date.{dateAt, dateOn, dateBack, daysLater, daysEarlier};
+ghost use Rattle.calendar.specs.Date.{dateAt, dateOn, dateBack, daysLater, daysEarlier, dayOf};
 
 pub struct Date {
     // Counted from 2000.
@@ -19,6 +19,12 @@ pub enum DateAnswer {
     NotADate,
     // The answer would lie outside 2000 to 2099.
     OutOfRange,
+}
+
+pub enum DayAnswer {
+    // Days since 2000-01-01.
+    Day(u32),
+    NotADate,
 }
 
 // The hundred years' years and months.
@@ -68,6 +74,30 @@ pub fn is_date(d: Date) -> bool
         return false;
     }
     d.day <= days_in_month(d.year, d.month)
+}
+
+pub fn day_number(d: Date) -> DayAnswer
+    ensures { λ r. ⌜ r ≡ dayOf d ⌝ }
+{
+    if is_date(d) {
+        DayAnswer::Day(days_before(month_number(d)) + (d.day as u32 - 1))
+    } else {
+        DayAnswer::NotADate
+    }
+}
+
+// The days of all months before one.
+fn days_before(month: u16) -> u32
+    requires { ⌜ month < 1200 ⌝ }
+    ensures { λ r. ⌜ r ≡ daysBefore month ⌝ }
+{
+    let mut at: u16 = 0;
+    let mut days: u32 = 0;
+    while at < month {
+        days += length_of(at);
+        at += 1;
+    }
+    days
 }
 
 pub fn next_day(d: Date) -> DateAnswer

@@ -8,6 +8,8 @@ mod time;
 
 pub use date::Date;
 pub use date::DateAnswer;
+pub use date::DayAnswer;
+pub use date::day_number;
 pub use date::days_in_month;
 pub use date::days_later;
 pub use date::is_date;

@@ -1,5 +1,5 @@
 -- A line's words: what stands between single spaces.
-use Prim.Native.Nat.{ℕ, zero, suc, _+_}
+use Prim.Native.Nat.{ℕ, zero, suc, _+_, _-_}
 use mathlib.Core.Bool.{Bool, true, cond}
 use mathlib.Core.List.{List, [], _∷_}
 use lib.ListN.{take, drop, length, getD}
@@ -9,6 +9,10 @@ use Rattle.bytes.specs.Bytes.{indexOf}
 -- the first n bytes, nothing where there are fewer
 unfoldable pub partOf : ℕ → List ℕ → List ℕ
 partOf n s = cond (leb n (length s)) (take n s) []
+
+-- "a carriage return at a line's end is dropped" (the console's page): one, the last byte
+unfoldable pub withoutReturn : List ℕ → List ℕ
+withoutReturn s = cond (eqb (length s) 0) s (cond (eqb (getD s (length s - 1) 0) 13) (take (length s - 1) s) s)
 
 -- how many spaces there are
 unfoldable pub spacesIn : List ℕ → ℕ

@@ -15,6 +15,7 @@ pub use form::year;
 pub use line::is_passed_over;
 pub use line::part;
 pub use line::spaces;
+pub use line::without_return;
 pub use line::word;
 pub use value::BYTE;
 pub use value::ByteAnswer;

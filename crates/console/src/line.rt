@@ -1,11 +1,13 @@
 // A line and its words.
 ghost use mathlib.Core.Path.{_≡_};
-ghost use Rattle.console.specs.Line.{partOf, spacesIn, firstWord, afterFirst, wordAt, isPassedOver};
+ghost use Rattle.console.specs.Line.{partOf, withoutReturn, spacesIn, firstWord, afterFirst, wordAt, isPassedOver};
 
 const SPACE: u8 = 32;
 
 // #
 const COMMENT: u8 = 35;
+
+const CARRIAGE_RETURN: u8 = 13;
 
 // The first bytes of a slice: nothing where it has fewer.
 pub fn part(s: &[u8], n: usize) -> &[u8]
@@ -15,6 +17,20 @@ pub fn part(s: &[u8], n: usize) -> &[u8]
         return &s[..n];
     }
     &s[..0]
+}
+
+// A line without the carriage return that ends it, where one does: some systems put it before the newline.
+pub fn without_return(line: &[u8]) -> &[u8]
+    ensures { λ r. ⌜ now r ≡ withoutReturn (now (line .entry)) ⌝ }
+{
+    if line.len() == 0 {
+        return line;
+    }
+    let last = line.len() - 1;
+    if words::byte_at(line, last) == CARRIAGE_RETURN {
+        return &line[..last];
+    }
+    line
 }
 
 // How many spaces a line has: one less than its words.

@@ -8,7 +8,7 @@ pub struct Rest {
 
 pub struct Taken {
     pub ended: bool,
-    // Of the line, without the newline.
+    // Of the line, without the newline and a carriage return before it.
     pub length: usize,
     pub rest: Rest,
 }
@@ -21,8 +21,11 @@ const COMMENT: u8 = 35;
 // What no call is named.
 const UNREAD: u8 = 63;
 
-// The next line to the front of a lent buffer. The last line may lack its newline. A line that does not fit is read to its end all the
-// same, and is given as `?` alone, or as a comment if it is one.
+// The longest line that is read, and its carriage return.
+pub const LINE_ROOM: usize = 4097;
+
+// The next line to the front of a lent buffer, which has a byte more than the longest line. The last line may lack its newline. A line
+// that does not fit is read to its end all the same, and is given as `?` alone, or as a comment if it is one.
 pub fn next_line(fd: i32, block: &mut [u8], from: Rest, line: &mut [u8]) -> Taken {
     let mut rest = from;
     let mut n: usize = 0;
@@ -87,12 +90,21 @@ fn last_line(line: &mut [u8], n: usize, long: bool) -> Taken {
     }
 }
 
+// How long the line is.
 fn fitting(line: &mut [u8], n: usize, long: bool) -> usize {
     if long {
-        if words::byte_at(line, 0) != COMMENT {
-            words::put_byte(line, 0, UNREAD);
-        }
-        return 1;
+        return too_long(line);
     }
-    n
+    let length = console::without_return(console::part(line, n)).len();
+    if length < line.len() {
+        return length;
+    }
+    too_long(line)
+}
+
+fn too_long(line: &mut [u8]) -> usize {
+    if words::byte_at(line, 0) != COMMENT {
+        words::put_byte(line, 0, UNREAD);
+    }
+    1
 }

@@ -1,4 +1,5 @@
-// Answers, on standard output.
+// Answers, on standard output, and words about them on standard error.
+use libc::STDERR_FILENO;
 use libc::STDOUT_FILENO;
 
 pub fn put(bytes: &[u8]) {
@@ -6,13 +7,21 @@ pub fn put(bytes: &[u8]) {
 }
 
 pub fn unread() {
+    failed();
+    if crate::typed::is_typed() {
+        io::write_all(STDERR_FILENO, b"not read: help prints the lines\n");
+    }
+}
+
+// A file could not be read or written: whoever tried it says why.
+pub fn failed() {
     put(b"?\n");
 }
 
 // A call's number, alone on its line.
 pub fn number_line(n: u8) {
     first(n);
-    end();
+    end_of(n);
 }
 
 // A call's number, as the first word.
@@ -22,6 +31,28 @@ pub fn first(n: u8) {
 
 pub fn end() {
     put(b"\n");
+}
+
+// Ends the answer of a call with this number. Whoever types is told what a refusal means.
+pub fn end_of(n: u8) {
+    end();
+    if n == refusal::DONE {
+        return;
+    }
+    if crate::typed::is_typed() {
+        refused(n);
+    }
+}
+
+// A refusal's number and its words, to standard error.
+pub fn refused(n: u8) {
+    let mut words = [0u8; refusal_words::WORDS_MOST];
+    let length = refusal_words::put_words(n, &mut words);
+    io::write_all(STDERR_FILENO, b"refused ");
+    io::print_decimal(STDERR_FILENO, n as u64);
+    io::write_all(STDERR_FILENO, b": ");
+    io::write_all(STDERR_FILENO, console::part(&words, length));
+    io::write_all(STDERR_FILENO, b"\n");
 }
 
 pub fn number(n: u64) {

@@ -11,7 +11,7 @@ use Rattle.log.specs.declared.header.Header.{Header}
 use Rattle.log.specs.declared.fresh.FreshAnswer.{FreshAnswer}
 use Rattle.log.specs.declared.fresh.FreshAnswer.the-variants as fresh
 use Rattle.logfile.specs.declared.read.ReadAnswer.{ReadAnswer}
-use Rattle.logfile.specs.declared.read.ReadAnswer.the-variants as file
+use Rattle.logfile.specs.Read.{ifRead}
 use Rattle.logger.specs.Ask.{asked}
 use Rattle.logger.specs.Held.{lapsed}
 use Rattle.logger.specs.Take.{taken}
@@ -42,14 +42,7 @@ newLog kept o = outcome (keptAfter (o .result) kept) (o .left)
 
 -- a log read from a file likewise
 unfoldable pub keptLoaded : ReadAnswer → Kept → Kept
-keptLoaded (file.Done n) kept = record { length = n; held = Closed }
-keptLoaded file.WrongMark kept = kept
-keptLoaded file.WrongVersion kept = kept
-keptLoaded file.WrongHeader kept = kept
-keptLoaded file.WrongLength kept = kept
-keptLoaded file.WrongCrc kept = kept
-keptLoaded file.WrongCell kept = kept
-keptLoaded file.TooShort kept = kept
+keptLoaded read kept = ifRead read kept (λ n. record { length = n; held = Closed })
 
 abbrev pub loadedLog : Kept → Outcome ReadAnswer (List ℕ) → Outcome Kept (List ℕ)
 loadedLog kept o = outcome (keptLoaded (o .result) kept) (o .left)

@@ -150,7 +150,8 @@ fn ask_for(image: &[u8], kept: Kept, address: u8, day: u8, slot: u8) -> Kept
 }
 
 fn say_asked(answer: AskAnswer, frame: &[u8]) {
-    say::first(answer.number());
+    let number = answer.number();
+    say::first(number);
     match answer {
         AskAnswer::Done => say::hex(frame),
         AskAnswer::TooShort => {}
@@ -158,7 +159,7 @@ fn say_asked(answer: AskAnswer, frame: &[u8]) {
         AskAnswer::AlreadyOpen => {}
         AskAnswer::NotInLog => {}
     }
-    say::end();
+    say::end_of(number);
 }
 
 pub fn lapse(line: &[u8], kept: Kept) -> Kept
@@ -206,7 +207,8 @@ fn reply_of(bytes: &[u8], image: &mut [u8], kept: Kept) -> Kept
 }
 
 fn say_taken(answer: TakeAnswer) {
-    say::first(answer.number());
+    let number = answer.number();
+    say::first(number);
     match answer {
         TakeAnswer::Done => {}
         TakeAnswer::NoAskOpen => {}
@@ -216,7 +218,7 @@ fn say_taken(answer: TakeAnswer) {
         TakeAnswer::OtherCounts => {}
         TakeAnswer::Unsound => {}
     }
-    say::end();
+    say::end_of(number);
 }
 
 pub fn open_ask(line: &[u8], held: OpenAsk) {
@@ -285,14 +287,15 @@ pub fn report(line: &[u8], image: &[u8]) {
 fn report_of(image: &[u8], day: u8) {
     let mut row = [0u32; dayreport::REPORT_NUMBERS];
     let answer = dayreport::day_report(image, day, &mut row);
-    say::first(answer.number());
+    let number = answer.number();
+    say::first(number);
     match answer {
         ReportAnswer::Done => say_row(row),
         ReportAnswer::TooShort => {}
         ReportAnswer::Unsound => {}
         ReportAnswer::NotInLog => {}
     }
-    say::end();
+    say::end_of(number);
 }
 
 fn say_row(row: [u32; dayreport::REPORT_NUMBERS]) {

@@ -50,13 +50,14 @@ pub fn request(line: &[u8]) {
 fn request_of(q: Request) {
     let mut frame = [0u8; frame::layout::READ_BYTES];
     let answer = request::put_request(q, &mut frame);
-    say::first(answer.number());
+    let number = answer.number();
+    say::first(number);
     match answer {
         RequestAnswer::Done => say::hex(&frame),
         RequestAnswer::TooShort => {}
         RequestAnswer::OutOfRange => {}
     }
-    say::end();
+    say::end_of(number);
 }
 
 // A request's five numbers, and BYTES, or none.
@@ -78,9 +79,10 @@ fn decode_from(line: &[u8], reply: &[u8]) {
 
 fn decode_of(q: Request, reply: &[u8]) {
     let decoded = reader::decode(q, reply);
-    say::first(decoded.number());
+    let number = decoded.number();
+    say::first(number);
     say_figures(decoded, reply);
-    say::end();
+    say::end_of(number);
 }
 
 pub fn say_figures(decoded: Decoded, reply: &[u8]) {

@@ -14,7 +14,7 @@ pub fn reply(number: u8, bytes: &[u8]) {
     if 0 < bytes.len() {
         say::hex(bytes);
     }
-    say::end();
+    say::end_of(number);
 }
 
 pub fn record(line: &[u8], r: Record) {

@@ -85,12 +85,13 @@ fn inquire(line: &[u8], store: &mut [u8], r: Record) {
 fn inquired(q: Request, store: &mut [u8], r: Record) {
     let mut out = [0u8; LONGEST];
     let answer = meter_inquiry::inquire(r, store, q, &mut out);
-    say::first(answer.number());
+    let number = answer.number();
+    say::first(number);
     match answer {
         Inquired::Told(decoded) => console_log::say_figures(decoded, &out),
         Inquired::TooShort => {}
         Inquired::Unsound => {}
         Inquired::Silent => {}
     }
-    say::end();
+    say::end_of(number);
 }

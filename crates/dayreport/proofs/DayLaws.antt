@@ -1,25 +1,39 @@
--- What a day's line says of a log's image.
-use Prim.Native.Nat.{ℕ, _+_, _*_, _<_}
-use mathlib.Core.Path.{_≡_, sym, ap, _∙_}
-use mathlib.Core.List.{List, append-nil}
+-- What a day's line says of a log's image; where there is none; and that there is always room for it.
+use Prim.Native.Nat.{ℕ, zero, suc, _+_, _*_, _^_, _<_, _≤_}
+use mathlib.Core.Path.{_≡_, refl, sym, ap, _∙_}
+use mathlib.Core.List.{List, [], _∷_, _++_, append-nil}
 use native.Mathlib.Omega.{arith}
 use mathlib.Core.Bool.{true}
-use lib.ListN.{length, take, drop}
+use lib.Dec.{ltb}
+use lib.ListN.{length, getD, take, drop}
 use Rattle.refusal.specs.Outcome.{Outcome, outcome}
 use Rattle.calendar.specs.declared.date.Date.{Date}
 use Rattle.dayreport.specs.declared.report.ReportAnswer.{ReportAnswer}
 use Rattle.calendar.specs.Date.{dayNumber, dateOf}
+use Rattle.case_laws.proofs.Test.{either}
+use Rattle.words.specs.Number.{Bytes}
 use Rattle.slots.specs.Day.{slotsOf}
-use Rattle.log.specs.Header.{cellsOf, isHeader}
-use Rattle.log.specs.Image.{imageOf, AllCells}
+use Rattle.slots.proofs.DayLaws.{slotsMost, slots-at-most}
+use borrow.Author.Tests.{le-ltb}
+use Rattle.log.specs.Header.{daysMost, cellsOf, isHeader, soundOf}
+use Rattle.log.specs.Interval.{dayDate}
+use Rattle.log.specs.declared.interval.DayAnswer.{DayAnswer}
+use Rattle.log.specs.declared.interval.DayAnswer.the-variants.{On, Outside}
+use Rattle.log.specs.declared.header.Lent.the-variants.{Sound}
+use Rattle.log.proofs.HeaderLaws.{header-ranges, sound-log, by-sound}
+use Rattle.log.specs.Image.{imageOf, allGood, goods, AllCells}
 use Rattle.log.proofs.ImageLaws.{sound-image}
 use Rattle.log.proofs.IntervalLaws.{day-on}
-use Rattle.dayreport.specs.Report.{figures}
+use Rattle.dayreport.specs.Tallies.{AtMost, talliesOf, rowOf}
+use Rattle.dayreport.specs.declared.tallies.Tallies.{Tallies}
+use Rattle.dayreport.specs.Report.{figures, dayCells, reportIn, reportOf}
+use Rattle.dayreport.proofs.TalliesLaws.{at-most-more, cells-most}
+use Rattle.dayreport.proofs.TextLaws.{line-most, Never, text-fits}
 use Rattle.dayreport.proofs.ReportLaws.{report-image}
 use Rattle.log.specs.declared.header.Header.{Header}
 use Rattle.log.specs.declared.cell.Cell.{Cell}
 use Rattle.dayreport.specs.Day.{reportedText, datedText, zeros, dayOnText, dayText}
-use Rattle.dayreport.specs.Text.{lineText, putText}
+use Rattle.dayreport.specs.Text.{lineText, lineMost, putText}
 
 -- what the report's own outcome, with this answer, makes of the line
 pub dated-by : (date : Date) (a b : ReportAnswer) (row out : List ℕ) (o : Outcome ReportAnswer (List ℕ)) → outcome a row ≡ o → a ≡ b
@@ -36,3 +50,77 @@ pub day-text-image : (h : Header) (cs : List Cell) (d : ℕ) (out : List ℕ) �
 unfolding dayText dayOnText datedText reportedText
 day-text-image h cs d out e l k day =
     simp (sound-image h cs e l, day-on h d e day, report-image h cs d zeros e l k day (omega arith), append-nil)
+
+-- ---- past the most days that a log has
+
+pub day-past : (s : List ℕ) (h : Header) (d : ℕ) → soundOf s ≡ Sound h → daysMost ≤ d → dayDate h d ≡ Outside
+unfolding dayDate
+day-past s h d p l =
+    let days = header-ranges h (sound-log s h p .ranges) .days-to in
+    simp (le-ltb d (h .days) (omega arith))
+
+-- there is no line
+pub line-past : (s : List ℕ) (d : ℕ) (out : List ℕ) → daysMost ≤ d → Never 0 (dayText s d out)
+unfolding dayText dayOnText
+line-past s d out l =
+    by-sound (Never 0) (soundOf s)
+    (λ p e. omega (arith, e)) (λ h p. rw (day-past s h d p l) (λ e. omega (arith, e)))
+
+-- ---- there is always room
+
+-- none of the numbers has more than 32 bits
+abbrev Below : List ℕ → Type 0
+Below ns = (i : ℕ) → getD ns i 0 < 2 ^ 32
+
+none-below : Below []
+none-below zero = omega arith
+none-below (suc i) = omega arith
+
+more-below : (n : ℕ) (ns : List ℕ) → n < 2 ^ 32 → Below ns → Below (n ∷ ns)
+more-below n ns l f zero = l
+more-below n ns l f (suc i) = f i
+
+row-below : (t : Tallies) → AtMost (65535 * slotsMost) t → Below (rowOf t)
+unfolding rowOf
+row-below t a =
+    let rm = more-below (t .rm) [] (omega arith) none-below in
+    let rp = more-below (t .rp) (t .rm ∷ []) (omega arith) rm in
+    let em = more-below (t .em) (t .rp ∷ t .rm ∷ []) (omega arith) rp in
+    let ep = more-below (t .ep) (t .em ∷ t .rp ∷ t .rm ∷ []) (omega arith) em in
+    let measured = more-below (t .measured) (t .ep ∷ t .em ∷ t .rp ∷ t .rm ∷ []) (omega arith) ep in
+    let empties = more-below (t .empties) (t .measured ∷ t .ep ∷ t .em ∷ t .rp ∷ t .rm ∷ []) (omega arith) measured in
+    more-below (t .gaps) (t .empties ∷ t .measured ∷ t .ep ∷ t .em ∷ t .rp ∷ t .rm ∷ []) (omega arith) empties
+
+day-at-most : (s : List ℕ) (h : Header) (d : ℕ) → Bytes s → AtMost (65535 * slotsMost) (talliesOf (goods (dayCells s h d)))
+unfolding dayCells
+day-at-most s h d bytes =
+    let n = slotsOf (h .minutes) in
+    at-most-more (65535 * n) (65535 * slotsMost) _ (omega (arith, slots-at-most (h .minutes))) (cells-most s bytes (d * n) n)
+
+figures-room : (date : Date) (s : List ℕ) (h : Header) (d : ℕ) → Bytes s → length (lineText date (figures (goods (dayCells s h d)))) ≤ lineMost
+unfolding figures rowOf
+figures-room date s h d bytes = line-most date (figures (goods (dayCells s h d))) refl (row-below (talliesOf (goods (dayCells s h d))) (day-at-most s h d bytes))
+
+dated-line : (date : Date) (s : List ℕ) (h : Header) (d : ℕ) (out : List ℕ) → Bytes s → soundOf s ≡ Sound h → lineMost ≤ length out
+    → Never 1 (datedText date (reportOf s d zeros) out)
+unfolding datedText reportedText reportOf reportIn
+dated-line date s h d out bytes p l =
+    let reported : Outcome ReportAnswer (List ℕ) → Type 0 = λ o. Never 1 (reportedText (o .result) date (o .left) out) in
+    let row = figures (goods (dayCells s h d)) in
+    let short : length (lineText date (row ++ [])) ≤ length out = rw append-nil (omega (arith, figures-room date s h d bytes)) in
+    rw p (either reported (ltb d (h .days))
+    (either reported (allGood (dayCells s h d)) (text-fits (lineText date (row ++ [])) out short) (λ e. omega (arith, e)))
+    (λ e. omega (arith, e)))
+
+on-line : (a : DayAnswer) (s : List ℕ) (h : Header) (d : ℕ) (out : List ℕ) → Bytes s → soundOf s ≡ Sound h → lineMost ≤ length out
+    → Never 1 (dayOnText a s d out)
+unfolding dayOnText
+on-line Outside s h d out bytes p l = λ e. omega (arith, e)
+on-line (On date) s h d out bytes p l = dated-line date s h d out bytes p l
+
+-- the room of the longest line is enough for each
+pub line-room : (s : List ℕ) (d : ℕ) (out : List ℕ) → Bytes s → lineMost ≤ length out → Never 1 (dayText s d out)
+unfolding dayText
+line-room s d out bytes l =
+    by-sound (Never 1) (soundOf s)
+    (λ p e. omega (arith, e)) (λ h p. on-line (dayDate h d) s h d out bytes p l)

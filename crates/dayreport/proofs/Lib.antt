@@ -3,3 +3,4 @@ pub mod ReportLaws
 pub mod Examples
 pub mod TextLaws
 pub mod DayLaws
+pub mod StripLaws

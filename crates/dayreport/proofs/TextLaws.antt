@@ -8,6 +8,9 @@ use native.Mathlib.Numerals.{add-one}
 use native.Mathlib.Omega.{arith}
 use lib.ListN.{length, getD, take, drop, length-append}
 use lib.Seq.{drop-cons}
+use borrow.Author.Tests.{le-leb}
+use Rattle.refusal.specs.Outcome.{Outcome}
+use Rattle.dayreport.specs.declared.answer.TextAnswer.{TextAnswer}
 use Rattle.text.specs.Decimal.{digits, decimal, padded}
 use Rattle.text.specs.DateText.{dateText}
 use Rattle.words.specs.Place.{written}
@@ -16,7 +19,7 @@ use Rattle.calendar.specs.declared.date.Date.{Date}
 use Rattle.text.proofs.DecimalLaws.{decimal-most-u32}
 use Rattle.text.proofs.DateTextLaws.{length-dateText}
 use Rattle.dayreport.specs.Report.{rowNumbers}
-use Rattle.dayreport.specs.Text.{numbersText, lineText, space, lineFeed, dateSize, numberMost, lineMost}
+use Rattle.dayreport.specs.Text.{textNumber, putText, numbersText, lineText, space, lineFeed, dateSize, numberMost, lineMost}
 
 -- ---- the texts
 
@@ -89,3 +92,12 @@ written-line s d ns =
 pub front-written : (s text : List ℕ) (n : ℕ) → n ≡ length text → length text ≤ length s → take n (written s 0 text) ≡ text
 front-written s text n e h =
     ap (λ (k : ℕ). take k (written s 0 text)) e ∙ part-written s 0 text (omega arith)
+
+-- the answer does not have this number
+abbrev pub Never : ℕ → Outcome TextAnswer (List ℕ) → Type 0
+Never n o = textNumber (o .result) ≡ n → ⊥
+
+-- where there is room, it is not 1
+pub text-fits : (text out : List ℕ) → length text ≤ length out → Never 1 (putText text out)
+unfolding putText
+text-fits text out l = rw (le-leb _ _ l) (λ e. omega (arith, e))

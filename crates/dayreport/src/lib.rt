@@ -1,10 +1,12 @@
 // The day report of a log: how many cells of a day are gaps, empty and measured, and the sums of what was measured, as numbers in a lent
-// row; and its text: a heading, and a line for each day, as `2024-05-17 46 1 1 12 0 3 0`. It reads the log by the crate `log` alone and
-// knows nothing of the image's layout. Each function fills what it is lent from the front on, or refuses and leaves it as it was.
+// row; its text: a heading, and a line for each day, as `2024-05-17 46 1 1 12 0 3 0`; and a day's strip, a character a slot (`.` gap, `o`
+// empty, `#` measured), as `2024-05-17 #o......`. It reads the log by the crate `log` alone and knows nothing of the image's layout. Each
+// function fills what it is lent from the front on, or refuses and leaves it as it was.
 mod answer;
 mod day;
 mod line;
 mod report;
+mod strip;
 mod tallies;
 
 pub use answer::TextAnswer;
@@ -15,3 +17,5 @@ pub use line::put_line;
 pub use report::REPORT_NUMBERS;
 pub use report::ReportAnswer;
 pub use report::day_report;
+pub use strip::STRIP_MOST;
+pub use strip::put_strip;

@@ -9,7 +9,7 @@ use crate::answer::TextAnswer;
 use crate::report::REPORT_NUMBERS;
 use calendar::Date;
 
-const DATE_BYTES: usize = 10;
+pub const DATE_BYTES: usize = 10;
 
 // A number of 32 bits behind a space.
 const NUMBER_MOST: usize = 11;
@@ -17,9 +17,9 @@ const NUMBER_MOST: usize = 11;
 // The longest line: a date, the report's numbers, and a line feed.
 pub const LINE_MOST: usize = DATE_BYTES + NUMBER_MOST * REPORT_NUMBERS + 1;
 
-const SPACE: u8 = 32;
+pub const SPACE: u8 = 32;
 
-const LINE_FEED: u8 = 10;
+pub const LINE_FEED: u8 = 10;
 
 pub fn put_heading(out: &mut [u8]) -> TextAnswer
     ensures { λ r. ⌜ outcome r (now (out .exit)) ≡ putText headingText (now (out .entry)) ⌝ }
@@ -36,7 +36,7 @@ pub fn put_line(date: Date, row: [u32; REPORT_NUMBERS], out: &mut [u8]) -> TextA
     put_text(&line[..n], out)
 }
 
-fn put_text(text: &[u8], out: &mut [u8]) -> TextAnswer
+pub fn put_text(text: &[u8], out: &mut [u8]) -> TextAnswer
     ensures { λ r. ⌜ outcome r (now (out .exit)) ≡ putText (now (text .entry)) (now (out .entry)) ⌝ }
 {
     if out.len() < text.len() {

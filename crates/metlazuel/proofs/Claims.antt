@@ -12,6 +12,8 @@ demand-1 = record {
   day-report = ends.day-report;
   write-file = ends.write-file;
   read-file = ends.read-file;
+  cell = ends.cell;
+  next-gap = ends.next-gap;
   ask = ends.ask;
   lapse = ends.lapse;
   lapse-none = ends.lapse-none;
@@ -28,7 +30,7 @@ demand-1 = record {
 }
 
 pub demand-2 : Demand2C
-demand-2 = record { start = kept.start; call = kept.call; list = kept.list; change = kept.change }
+demand-2 = record { start = kept.start; make-start = kept.make-start; call = kept.call; list = kept.list; change = kept.change }
 
 pub demand-3 : Demand3C
 demand-3 = record {

@@ -31,6 +31,12 @@ use Rattle.meter_command.specs.declared.verdict.Verdict.the-variants as verdict
 use Rattle.meter.specs.Reply as reply
 use Rattle.meter.specs.Reply.{isSound, heard, replied, answerOf}
 use Rattle.slots.specs.declared.key.Key.{Key}
+use Rattle.log.specs.Header.{soundOf}
+use Rattle.log.specs.Interval.{intervalOf}
+use Rattle.log.specs.Image.{cellAt}
+use Rattle.log.proofs.HeaderLaws.{by-sound}
+use Rattle.log.proofs.IntervalLaws.{by-at}
+use Rattle.log.proofs.CellLaws.{by-good}
 use Rattle.log.specs.Fresh.{freshOf, freshNumber}
 use Rattle.log.specs.declared.fresh.FreshAnswer.{FreshAnswer}
 use Rattle.log.specs.declared.fresh.FreshAnswer.the-variants as made
@@ -52,6 +58,7 @@ use Rattle.demands.proofs.Calls.{done, stays}
 use Rattle.demands.proofs.Claims as claims
 use Rattle.metlazuel.specs.Calls.{numbered, sized, unreadNumber, resultAfter}
 use Rattle.metlazuel.specs.LogCalls.{headerFrom, imageLength, fileLength, lengthAfter, askLeft, askForC, lapseLeft, lapseForC, closes, takeForC}
+use Rattle.metlazuel.specs.CellCalls.{cellForC, nextGapForC}
 use Rattle.metlazuel.specs.WireCalls.{requestFrom, countAfter, decodedForC, decodeForC}
 use Rattle.metlazuel.specs.MeterCalls.{telemetryFrom, clockFrom, phasesFrom, key, row, madeIn, secondIn, powersIn, sliceIn}
 use Rattle.metlazuel.specs.MeterCalls.{bytesAfter, benchForC, makeForC, putForC, bytesLeft, sentLength, answerForC}
@@ -106,6 +113,22 @@ write-file log out n = sized-ends writeNumber fileLength file-kept (writtenFile 
 
 pub read-file : (f out : List ℕ) (n : ℕ) → EndsForC (n, out) (sized readNumber lengthAfter (readFile f out) n)
 read-file f out n = sized-ends readNumber lengthAfter length-kept (readFile f out) out n (claims.demand-1 .read-file f out)
+
+-- ---- single cells
+
+pub cell : (log : List ℕ) (day slot kind : ℕ) (counts : List ℕ) → EndsForC (kind, counts) (cellForC log day slot kind counts)
+unfolding cellForC inTable
+cell log day slot kind counts =
+    let before : ℕ × List ℕ = (kind, counts) in
+    by-sound (EndsForC before) (soundOf log) (λ u. stays 28 before refl) (λ h u.
+    by-at (EndsForC before) (intervalOf h day slot) (λ n. stays 22 before refl) (λ i n.
+    by-good (EndsForC before) (cellAt log i) (λ b. stays 28 before refl) (λ c g. done before _)))
+
+pub next-gap : (log : List ℕ) (day from slot : ℕ) → EndsForC slot (nextGapForC log day from slot)
+unfolding nextGapForC inTable
+next-gap log day from slot =
+    by-sound (EndsForC slot) (soundOf log) (λ u. stays 28 slot refl) (λ h u.
+    either (EndsForC slot) (ltb day (h .days)) (done slot _) (stays 22 slot refl))
 
 -- ---- asks, lapses and replies
 

@@ -1,13 +1,16 @@
 -- Demand 2 at the boundary: the meter's calls on a record's bytes are those on the record that the bytes are read as.
-use mathlib.Core.Path.{_≡_, refl, sym, ap, ap₂, _∙_}
+use mathlib.Core.Path.{_≡_, refl, sym, ap, ap₂, subst, _∙_}
 use mathlib.Core.Bool.{Bool, true, false, cond, false≢true}
 use mathlib.Core.List.{List, [], _∷_}
-use Prim.Native.Nat.{ℕ}
+use Prim.Native.Nat.{ℕ, _<_}
 use lib.Dec.{eqb, ltb}
 use lib.ListN.{length}
 use Rattle.case_laws.proofs.Test.{both, either}
 use Rattle.refusal.specs.Outcome.{Outcome}
 use Rattle.words.specs.Number.{Bytes}
+use Rattle.calendar.specs.declared.time.DateTime.{DateTime}
+use Rattle.figures.specs.Telemetry.{FitsTelemetry}
+use Rattle.figures.specs.declared.telemetry.Telemetry.{Telemetry}
 use Rattle.frame.specs.Layout.{longest}
 use Rattle.frame.specs.declared.code.Function.{Function}
 use Rattle.frame.specs.declared.code.Function.the-variants as function
@@ -16,13 +19,17 @@ use Rattle.slots.specs.Key.{isLegal}
 use Rattle.slots.specs.declared.key.Key.{Key}
 use Rattle.meter_record.specs.Power.{arePowers}
 use Rattle.meter_record.specs.Ranges.{isWithin}
-use Rattle.meter_record.specs.Record.{secondOf, powersSet, setPowers}
+use Rattle.meter_record.specs.Record.{fresh, made, secondOf, powersSet, setPowers}
 use Rattle.meter_record.specs.Widths.{FitsRecord}
 use Rattle.meter_record.specs.declared.record.Record.{Record}
 use Rattle.meter_record.specs.declared.record.RecordAnswer.{RecordAnswer}
 use Rattle.meter_record.specs.declared.record.RecordAnswer.the-variants as given
-use Rattle.meter_record.proofs.RangeLaws.{handsBack, second-within, powers-within}
-use Rattle.meter_record_bytes.specs.Record.{recordOf}
+use Rattle.meter_record.proofs.RangeLaws.{handsBack, made-within, second-within, powers-within}
+use Rattle.meter_record_bytes.specs.Record.{recordSize, recordOf}
+use Rattle.meter_record_bytes.specs.Time.{seasonOf}
+use Rattle.meter_record_bytes.specs.declared.time.SeasonRead.{SeasonRead}
+use Rattle.meter_record_bytes.specs.declared.time.SeasonRead.the-variants as season-of
+use Rattle.meter_record_bytes.proofs.RecordLaws.{read-size}
 use Rattle.meter_record_bytes.specs.declared.record.RecordRead.the-variants.{Read}
 use Rattle.meter_command.specs.Access.{changeAllowed}
 use Rattle.meter_command.specs.Judgement.{verdictOf}
@@ -37,10 +44,10 @@ use Rattle.meter.specs.Reply.{isSound, heard, replied, answerOf}
 use Rattle.meter.proofs.KeepLaws as keep
 use Rattle.demands.specs.Changes.{Permitted}
 use Rattle.demands.proofs.Claims as claims
-use Rattle.metlazuel.specs.MeterCalls.{phasesFrom, secondIn, powersIn, sliceIn, bytesAfter, bytesLeft, answerForC}
-use Rattle.metlazuel.specs.MeterRun.{MeterCall, second, powers, slice, frame, Meter, meter, Told, recordAfter, recordStep, bytesStep, meterRun}
-use Rattle.metlazuel.specs.Demand2.{Holds, EndAlike, FrameBytes, AllFrames}
-use Rattle.metlazuel.proofs.WidthLaws.{later-fits, from-fits, powers-fit, place-fits, after-fits, read-again, read-fits}
+use Rattle.metlazuel.specs.MeterCalls.{phasesFrom, madeIn, secondIn, powersIn, sliceIn, bytesAfter, makeForC, bytesLeft, answerForC}
+use Rattle.metlazuel.specs.MeterRun.{MeterCall, make, second, powers, slice, frame, Meter, meter, Told, recordAfter, recordStep, bytesStep, meterRun}
+use Rattle.metlazuel.specs.Demand2.{Holds, EndAlike, CallFits, AllFit}
+use Rattle.metlazuel.proofs.WidthLaws.{fresh-fits, later-fits, from-fits, powers-fit, place-fits, after-fits, read-back, read-again, read-fits}
 
 -- bytes that are read as a record whose numbers fit
 abbrev Reads : List ℕ → Record → Type 0
@@ -59,6 +66,23 @@ unfolding bytesAfter
 bench-reads (given.Done x) bs r e f h = (read-again bs r x (e .0) f h, f)
 bench-reads given.OutOfRange bs r e f h = e
 bench-reads given.Unsound bs r e f h = e
+
+module _ (address minutes : ℕ) (t : Telemetry) (c : DateTime) (season : ℕ) where
+  made-fits : address < 256 → FitsTelemetry t → FitsAnswer (madeIn address minutes t c season)
+  unfolding madeIn made
+  made-fits a f = go (seasonOf season) refl
+    where
+      go : (x : SeasonRead) → seasonOf season ≡ x → FitsAnswer (madeIn address minutes t c season)
+      go (season-of.Read s) e = rw e (either FitsAnswer (isWithin (fresh address minutes t c s)) (fresh-fits address minutes t c s a f) tt)
+      go season-of.Unreadable e = rw e tt
+
+  made-back : handsBack (madeIn address minutes t c season) ≡ true
+  unfolding madeIn
+  made-back = go (seasonOf season) refl
+    where
+      go : (x : SeasonRead) → seasonOf season ≡ x → handsBack (madeIn address minutes t c season) ≡ true
+      go (season-of.Read s) e = rw e (made-within address minutes t c s)
+      go season-of.Unreadable e = rw e refl
 
 second-fits : (r : Record) → FitsRecord r → FitsAnswer (secondOf r)
 unfolding secondOf
@@ -144,8 +168,13 @@ module _ (bs : List ℕ) (r : Record) (s f out : List ℕ) (e : Reads bs r) (b :
 
 -- ---- one call, and a list of them
 
-step-alike : (bs s : List ℕ) (r : Record) (c : MeterCall) → Reads bs r → FrameBytes c → EndAlike (bytesStep (meter bs s) c) (recordStep (meter r s) c)
-unfolding bytesStep recordStep secondIn powersIn sliceIn answerForC
+step-alike : (bs s : List ℕ) (r : Record) (c : MeterCall) → Reads bs r → CallFits c → EndAlike (bytesStep (meter bs s) c) (recordStep (meter r s) c)
+unfolding bytesStep recordStep makeForC secondIn powersIn sliceIn answerForC
+step-alike bs s r (make address minutes t c season) e b =
+    let a = madeIn address minutes t c season in
+    let o = bench-reads a bs r e (made-fits address minutes t c season (b .0) (b .1)) (made-back address minutes t c season) in
+    let whole : ltb (length bs) recordSize ≡ false = rw (read-size bs r (e .0)) refl in
+    record { told = rw whole refl; left = record { bytes = rw whole (o .0); widths = o .1; store = refl } }
 step-alike bs s r second e b =
     let o = bench-reads (secondOf r) bs r e (second-fits r (e .1)) (second-within r) in
     record { told = rw (e .0) refl; left = record { bytes = rw (e .0) (o .0); widths = o .1; store = refl } }
@@ -164,12 +193,22 @@ step-alike bs s r (frame f out word) e b =
 pub start : (bs s : List ℕ) (r : Record) → Bytes bs → recordOf bs ≡ Read r → Holds (meter bs s) (meter r s)
 start bs s r b e = record { bytes = e; widths = read-fits bs b r e; store = refl }
 
-pub call : (m : Meter (List ℕ)) (x : Meter Record) (c : MeterCall) → Holds m x → FrameBytes c → EndAlike (bytesStep m c) (recordStep x c)
+pub make-start : (address minutes : ℕ) (t : Telemetry) (c : DateTime) (season : ℕ) (bs s : List ℕ) (r : Record) → address < 256 → FitsTelemetry t
+    → length bs ≡ recordSize → madeIn address minutes t c season ≡ given.Done r → let o = makeForC (madeIn address minutes t c season) bs in
+    (o .result ≡ 0) × Holds (meter (o .left) s) (meter r s)
+unfolding makeForC bytesAfter
+make-start address minutes t c season bs s r a f l e =
+    let whole : ltb (length bs) recordSize ≡ false = rw l refl in
+    let fits = subst FitsAnswer e (made-fits address minutes t c season a f) in
+    let back = subst (λ (x : RecordAnswer). handsBack x ≡ true) e (made-back address minutes t c season) in
+    rw (whole, e) (refl, record { bytes = read-back bs r l fits back; widths = fits; store = refl })
+
+pub call : (m : Meter (List ℕ)) (x : Meter Record) (c : MeterCall) → Holds m x → CallFits c → EndAlike (bytesStep m c) (recordStep x c)
 call m x c h b =
     let same : meter (m .kept) (m .store) ≡ meter (m .kept) (x .store) = ap (meter (m .kept)) (h .store) in
     rw same (step-alike (m .kept) (x .store) (x .kept) c (h .bytes, h .widths) b)
 
-pub list : (m : Meter (List ℕ)) (x : Meter Record) (cs : List MeterCall) → Holds m x → AllFrames cs
+pub list : (m : Meter (List ℕ)) (x : Meter Record) (cs : List MeterCall) → Holds m x → AllFit cs
     → EndAlike (meterRun bytesStep m cs) (meterRun recordStep x cs)
 unfolding meterRun
 list m x [] h b = record { told = refl; left = h }

@@ -1,6 +1,7 @@
 pub mod BitsLaws
 pub mod WireLaws
 pub mod LogLaws
+pub mod CellLaws
 pub mod WidthLaws
 pub mod Ends
 pub mod History

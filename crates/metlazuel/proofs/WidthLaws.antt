@@ -1,5 +1,5 @@
 -- Every call of the meter keeps the widths of a record's numbers, so that its bytes are read as the record that they were made of.
-use mathlib.Core.Path.{_≡_, ap, subst}
+use mathlib.Core.Path.{_≡_, ap, subst, _∙_}
 use mathlib.Core.Bool.{true}
 use mathlib.Core.List.{List}
 use Prim.Native.Nat.{ℕ, _+_, _*_, _^_, _<_}
@@ -15,6 +15,7 @@ use Rattle.case_laws.proofs.Test.{either}
 use Rattle.words.specs.Number.{Bytes}
 use Rattle.words.specs.Place.{numberAt, written}
 use Rattle.words.proofs.PlaceLaws.{numberAt-split, numberAt-one}
+use Rattle.calendar.specs.declared.time.DateTime.{DateTime}
 use Rattle.figures.specs.Mask.{maskOf}
 use Rattle.figures.specs.Power.{floatAt, powerOf, together as three, phasesOf, FitsPhases}
 use Rattle.figures.specs.declared.power.Power.{Power}
@@ -31,18 +32,19 @@ use Rattle.frame.specs.declared.code.Function.{Function}
 use Rattle.frame.specs.declared.code.Function.the-variants as function
 use Rattle.frame.specs.declared.code.Parameter.{Parameter}
 use Rattle.meter_clock.specs.declared.protection.Protection.{Protection}
+use Rattle.meter_clock.specs.declared.season.Season.{Season}
 use Rattle.meter_clock.specs.declared.season.Time.{Time}
 use Rattle.meter_record.specs.Power.{arePowers}
 use Rattle.meter_record.specs.Ranges.{isWithin}
-use Rattle.meter_record.specs.Record.{later, withPowers}
+use Rattle.meter_record.specs.Record.{fresh, later, withPowers}
 use Rattle.meter_record.specs.Widths.{FitsRecord}
 use Rattle.meter_record.specs.With.{remade, withProtection, withTime, withNext}
 use Rattle.meter_record.specs.declared.record.Passwords.{Passwords}
 use Rattle.meter_record.specs.declared.record.Record.{Record}
 use Rattle.meter_record.proofs.PowerLaws.{bounds-finite, powers-bounds}
 use Rattle.meter_record.proofs.RangeLaws.{within}
-use Rattle.meter_record_bytes.specs.Record.{recordBytes, recordWith, together, recordIn, recordOf}
-use Rattle.meter_record_bytes.proofs.RecordLaws.{record-renewed}
+use Rattle.meter_record_bytes.specs.Record.{recordSize, recordBytes, recordWith, together, recordIn, recordOf}
+use Rattle.meter_record_bytes.proofs.RecordLaws.{record-whole, record-back, record-renewed}
 use Rattle.meter_record_bytes.specs.declared.level.LevelRead.{LevelRead}
 use Rattle.meter_record_bytes.specs.declared.level.LevelRead.the-variants as level
 use Rattle.meter_record_bytes.specs.declared.time.TimeRead.{TimeRead}
@@ -135,6 +137,25 @@ later-fits r f = timed-fits r f _ _
 pub from-fits : (a b c : ℕ) → FitsPhases (phasesFrom a b c)
 from-fits a b c = record { a = ofBits-fits binary32 a; b = ofBits-fits binary32 b; c = ofBits-fits binary32 c }
 
+-- a meter from the factory has the numbers that were handed over, and the factory's own
+pub fresh-fits : (address minutes : ℕ) (t : Telemetry) (c : DateTime) (s : Season) → address < 256 → FitsTelemetry t
+    → FitsRecord (fresh address minutes t c s)
+unfolding fresh
+fresh-fits address minutes t c s a f =
+    let password : 0x3030303030303030 < 18446744073709551616 = omega arith in
+    record {
+      address = a;
+      main = password;
+      auxiliary = password;
+      telemetry = f;
+      parameters = omega arith;
+      tariffs = omega arith;
+      directions = omega arith;
+      active = from-fits 0 0 0;
+      reactive = from-fits 0 0 0;
+      next = omega arith;
+    }
+
 pub powers-fit : (r : Record) (p q : Phases) → FitsPhases p → FitsPhases q → FitsRecord r → FitsRecord (withPowers r p q)
 powers-fit r p q a b f = record {
   address = f .address;
@@ -207,6 +228,12 @@ pub read-again : (bs : List ℕ) (r x : Record) → recordOf bs ≡ Read r → F
 read-again bs r x e f h =
     let w = within x h in
     record-renewed bs r x e f (finite-phases (x .active) (w .active)) (finite-phases (x .reactive) (w .reactive))
+
+-- and a new meter, what is put over any bytes of a record's length
+pub read-back : (bs : List ℕ) (x : Record) → length bs ≡ recordSize → FitsRecord x → isWithin x ≡ true → recordOf (written bs 0 (recordBytes x)) ≡ Read x
+read-back bs x l f h =
+    let w = within x h in
+    ap recordOf (record-whole bs x l) ∙ record-back x f (finite-phases (x .active) (w .active)) (finite-phases (x .reactive) (w .reactive))
 
 -- ---- and a record that was read from bytes has its widths
 

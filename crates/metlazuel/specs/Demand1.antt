@@ -3,7 +3,7 @@
 -- gives one."
 --
 -- One claim a function, by its name, over the definition that its contract cites and with all that it is lent to write in, the words behind
--- `length`, `count` and `result` too. `metlazuel_crc16` has no answer, and is lent nothing to write in. Proofs: `demand-1`, proofs/Claims.antt.
+-- `length`, `count`, `result`, `kind` and `slot` too. `metlazuel_crc16` has no answer, and is lent nothing to write in. Proofs: `demand-1`, proofs/Claims.antt.
 use mathlib.Core.Path.{_≡_}
 use mathlib.Core.Bool.{cond}
 use mathlib.Core.List.{List}
@@ -30,6 +30,7 @@ use Rattle.c_values.specs.declared.ask.AskRead.the-variants.{Read}
 use Rattle.demands.specs.Demand1.{Ends, givesFrame}
 use Rattle.metlazuel.specs.Calls.{numbered, sized, resultAfter}
 use Rattle.metlazuel.specs.LogCalls.{headerFrom, imageLength, fileLength, lengthAfter, askForC, lapseForC, closes, takeForC}
+use Rattle.metlazuel.specs.CellCalls.{cellForC, nextGapForC}
 use Rattle.metlazuel.specs.WireCalls.{requestFrom, decodeForC}
 use Rattle.metlazuel.specs.MeterCalls.{telemetryFrom, clockFrom, phasesFrom, key, row, madeIn, secondIn, powersIn, sliceIn}
 use Rattle.metlazuel.specs.MeterCalls.{benchForC, makeForC, putForC, answerForC}
@@ -45,12 +46,16 @@ pub record RefusedOutput (number : ℕ) (f before after : List ℕ) : Type 0 whe
   pub output : after ≡ cond (givesFrame number) (written before 0 (framed (headOf verdict f))) before
 
 pub record Demand1C : Type 0 where
-  -- the log: length and image, length and file, the row; the ask's bytes and the output
+  -- the log: length and image, length and file, the row
   pub log-fresh : (year month day days minutes ke : ℕ) (log : List ℕ) (length : ℕ)
       → EndsForC (length, log) (sized freshNumber imageLength (freshOf (headerFrom year month day days minutes ke) log) length)
   pub day-report : (log : List ℕ) (day : ℕ) (row : List ℕ) → EndsForC row (numbered reportNumber (reportOf log day row))
   pub write-file : (log out : List ℕ) (length : ℕ) → EndsForC (length, out) (sized writeNumber fileLength (writtenFile log out) length)
   pub read-file : (file out : List ℕ) (length : ℕ) → EndsForC (length, out) (sized readNumber lengthAfter (readFile file out) length)
+  -- single cells: kind and counts, and the slot
+  pub cell : (log : List ℕ) (day slot kind : ℕ) (counts : List ℕ) → EndsForC (kind, counts) (cellForC log day slot kind counts)
+  pub next-gap : (log : List ℕ) (day from slot : ℕ) → EndsForC slot (nextGapForC log day from slot)
+  -- asks, lapses and replies: the ask's bytes and the output
   pub ask : (log bs : List ℕ) (address day slot : ℕ) (out : List ℕ) → EndsForC (bs, out) (askForC (askOf bs) log bs address day slot out)
   -- "A lapse closes it; with nothing open a lapse does nothing and answers 0"
   pub lapse : (bs : List ℕ) → EndsForC bs (lapseForC (askOf bs) bs)

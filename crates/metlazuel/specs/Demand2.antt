@@ -5,19 +5,25 @@
 -- The calls run by the definitions that their contracts cite (specs/MeterRun.antt). Proofs: `demand-2`, proofs/Claims.antt.
 use mathlib.Core.Path.{_≡_}
 use mathlib.Core.List.{List, [], _∷_}
-use Prim.Native.Nat.{ℕ}
+use Prim.Native.Nat.{ℕ, _<_}
+use lib.ListN.{length}
 use Rattle.refusal.specs.Outcome.{Outcome}
 use Rattle.words.specs.Number.{Bytes}
+use Rattle.calendar.specs.declared.time.DateTime.{DateTime}
+use Rattle.figures.specs.Telemetry.{FitsTelemetry}
+use Rattle.figures.specs.declared.telemetry.Telemetry.{Telemetry}
 use Rattle.frame.specs.declared.code.Function.the-variants as function
 use Rattle.meter_record.specs.Widths.{FitsRecord}
 use Rattle.meter_record.specs.declared.record.Record.{Record}
-use Rattle.meter_record_bytes.specs.Record.{recordOf}
+use Rattle.meter_record.specs.declared.record.RecordAnswer.the-variants.{Done}
+use Rattle.meter_record_bytes.specs.Record.{recordSize, recordOf}
 use Rattle.meter_record_bytes.specs.declared.record.RecordRead.the-variants.{Read}
 use Rattle.meter_command.specs.Access.{changeAllowed}
 use Rattle.meter_command.specs.Parts.{functionIn, parameterIn}
 use Rattle.meter.specs.Reply.{answerOf}
 use Rattle.demands.specs.Changes.{Permitted}
-use Rattle.metlazuel.specs.MeterRun.{MeterCall, second, powers, slice, frame, Meter, meter, recordStep, bytesStep, meterRun}
+use Rattle.metlazuel.specs.MeterCalls.{madeIn, makeForC}
+use Rattle.metlazuel.specs.MeterRun.{MeterCall, make, second, powers, slice, frame, Meter, meter, recordStep, bytesStep, meterRun}
 
 -- the lent bytes are read as the record, whose numbers fit their widths, and the stores are the same
 pub record Holds (m : Meter (List ℕ)) (x : Meter Record) : Type 0 where
@@ -30,23 +36,28 @@ pub record EndAlike {A : Type 0} (o : Outcome A (Meter (List ℕ))) (p : Outcome
   pub told : o .result ≡ p .result
   pub left : Holds (o .left) (p .left)
 
--- the bytes of a frame are bytes
-abbrev pub FrameBytes : MeterCall → Type 0
-FrameBytes second = Unit
-FrameBytes (powers n a b c) = Unit
-FrameBytes (slice k row) = Unit
-FrameBytes (frame f out word) = Bytes f
+-- a new meter's numbers fit their widths, as those that C hands over do, and the bytes of a frame are bytes
+abbrev pub CallFits : MeterCall → Type 0
+CallFits (make address minutes telemetry clock season) = (address < 256) × FitsTelemetry telemetry
+CallFits second = Unit
+CallFits (powers n a b c) = Unit
+CallFits (slice k row) = Unit
+CallFits (frame f out word) = Bytes f
 
-abbrev pub AllFrames : List MeterCall → Type 0
-AllFrames [] = Unit
-AllFrames (c ∷ cs) = FrameBytes c × AllFrames cs
+abbrev pub AllFit : List MeterCall → Type 0
+AllFit [] = Unit
+AllFit (c ∷ cs) = CallFits c × AllFit cs
 
 pub record Demand2C : Type 0 where
   -- any bytes that are read as a record are its start
   pub start : (bs s : List ℕ) (r : Record) → Bytes bs → recordOf bs ≡ Read r → Holds (meter bs s) (meter r s)
+  -- and so is a meter made over 81 bytes, whatever they held
+  pub make-start : (address minutes : ℕ) (t : Telemetry) (c : DateTime) (season : ℕ) (bs s : List ℕ) (r : Record) → address < 256 → FitsTelemetry t
+      → length bs ≡ recordSize → madeIn address minutes t c season ≡ Done r → let o = makeForC (madeIn address minutes t c season) bs in
+      (o .result ≡ 0) × Holds (meter (o .left) s) (meter r s)
   -- what a call leaves is what the next one reads: one call, and any list of them, whatever is answered
-  pub call : (m : Meter (List ℕ)) (x : Meter Record) (c : MeterCall) → Holds m x → FrameBytes c → EndAlike (bytesStep m c) (recordStep x c)
-  pub list : (m : Meter (List ℕ)) (x : Meter Record) (cs : List MeterCall) → Holds m x → AllFrames cs
+  pub call : (m : Meter (List ℕ)) (x : Meter Record) (c : MeterCall) → Holds m x → CallFits c → EndAlike (bytesStep m c) (recordStep x c)
+  pub list : (m : Meter (List ℕ)) (x : Meter Record) (cs : List MeterCall) → Holds m x → AllFit cs
       → EndAlike (meterRun bytesStep m cs) (meterRun recordStep x cs)
   -- "changes the named parameter alone": the bytes after a change that is done are read as the record of which demand 2 says it
   pub change : (m : Meter (List ℕ)) (x : Meter Record) (f out : List ℕ) (word : ℕ) → Holds m x → Bytes f → functionIn f ≡ function.Change

@@ -2,6 +2,8 @@
 use mathlib.Core.List.{List, [], _∷_}
 use Prim.Native.Nat.{ℕ}
 use Rattle.refusal.specs.Outcome.{Outcome, outcome}
+use Rattle.calendar.specs.declared.time.DateTime.{DateTime}
+use Rattle.figures.specs.declared.telemetry.Telemetry.{Telemetry}
 use Rattle.slots.specs.declared.key.Key.{Key}
 use Rattle.meter_record.specs.Record.{secondOf, setPowers, numberOf}
 use Rattle.meter_record.specs.declared.record.Record.{Record}
@@ -11,11 +13,12 @@ use Rattle.meter_record_bytes.specs.Record.{recordOf}
 use Rattle.meter_command.specs.Verdict as verdict
 use Rattle.meter.specs.Bench.{slicePut}
 use Rattle.meter.specs.Reply.{answerOf}
-use Rattle.metlazuel.specs.MeterCalls.{phasesFrom, secondIn, powersIn, sliceIn, benchForC, putForC, sentLength, answerForC}
+use Rattle.metlazuel.specs.MeterCalls.{phasesFrom, madeIn, secondIn, powersIn, sliceIn, benchForC, makeForC, putForC, sentLength, answerForC}
 
--- a call's arguments, without record and store: a power's parameter and the bits of its phases; a slice's key and counts; a frame, the output and
--- the word behind `length`
+-- a call's arguments, without record and store: a new meter's address, minutes, telemetry, clock and season; a power's parameter and the bits of
+-- its phases; a slice's key and counts; a frame, the output and the word behind `length`
 pub data MeterCall : Type 0 where
+  make : ℕ → ℕ → Telemetry → DateTime → ℕ → MeterCall
   second : MeterCall
   powers : ℕ → ℕ → ℕ → ℕ → MeterCall
   slice : Key → List ℕ → MeterCall
@@ -49,6 +52,7 @@ benched a r s = outcome (plain (numberOf a)) (meter (recordAfter a r) s)
 
 -- one call on the record, and the same for C on its bytes
 unfoldable pub recordStep : Meter Record → MeterCall → Outcome Told (Meter Record)
+recordStep m (make address minutes telemetry clock season) = benched (madeIn address minutes telemetry clock season) (m .kept) (m .store)
 recordStep m second = benched (secondOf (m .kept)) (m .kept) (m .store)
 recordStep m (powers n a b c) = benched (setPowers (m .kept) n (phasesFrom a b c)) (m .kept) (m .store)
 recordStep m (slice k row) =
@@ -61,6 +65,9 @@ recordStep m (frame f out word) =
     (meter (o .answer .after) (o .store))
 
 unfoldable pub bytesStep : Meter (List ℕ) → MeterCall → Outcome Told (Meter (List ℕ))
+bytesStep m (make address minutes telemetry clock season) =
+    let o = makeForC (madeIn address minutes telemetry clock season) (m .kept) in
+    outcome (plain (o .result)) (meter (o .left) (m .store))
 bytesStep m second =
     let o = benchForC (secondIn (recordOf (m .kept))) (m .kept) in
     outcome (plain (o .result)) (meter (o .left) (m .store))

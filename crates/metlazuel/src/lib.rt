@@ -1,6 +1,6 @@
 // The core's functions for firmware written in C: numbers and byte slices alone go in and out, and nothing is required of the caller
-// but memory that is as long as it says. A slice is a pointer and then its length, `&mut usize` a pointer. Each function hands its
-// arguments on to a proved one and answers with document 01's number.
+// but memory that is as long as it says. A slice is a pointer and then its length, `&mut` of a number or of an array a pointer. Each
+// function hands its arguments on to a proved one and answers with document 01's number.
 ghost use mathlib.Core.Path.{_≡_};
 ghost use Rattle.crc16.specs.Crc.{crcOf};
 ghost use Rattle.refusal.specs.Outcome.{outcome};
@@ -12,6 +12,7 @@ use logfile::ReadAnswer;
 
 mod answer_call;
 mod bench_meter;
+mod cell_calls;
 mod given;
 mod log_calls;
 mod wire_calls;
@@ -21,6 +22,8 @@ pub use bench_meter::metlazuel_meter_make;
 pub use bench_meter::metlazuel_meter_powers;
 pub use bench_meter::metlazuel_meter_second;
 pub use bench_meter::metlazuel_meter_slice;
+pub use cell_calls::metlazuel_cell;
+pub use cell_calls::metlazuel_next_gap;
 pub use log_calls::metlazuel_ask;
 pub use log_calls::metlazuel_lapse;
 pub use log_calls::metlazuel_log_fresh;

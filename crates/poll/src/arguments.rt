@@ -1,6 +1,7 @@
 // The program's arguments.
 use calendar::Date;
 use log::Header;
+use polling::Wanted;
 use text::NumberAnswer;
 
 // The days that are polled.
@@ -8,8 +9,16 @@ pub enum Chosen {
     All,
     // Counted from 0.
     One(u8),
-    // A word that names no day of any log.
+    // A word that names no day of any log, and is none of the others either.
     Unread,
+}
+
+// What is said behind the log's file.
+pub struct Options {
+    pub chosen: Chosen,
+    pub wanted: Wanted,
+    // A clock that is more than a day off is no reason to stop.
+    pub anyway: bool,
 }
 
 pub enum ByteArgument {
@@ -32,14 +41,23 @@ const MOST_BYTE: u64 = 255;
 
 const MOST_SHORT: u64 = 65535;
 
-// Where the words of `poll DEVICE ADDRESS LOGFILE DAY` and of `poll new LOGFILE YEAR MONTH DAY DAYS MINUTES KE` stand.
+// Where the words of `poll DEVICE ADDRESS LOGFILE ..` and of `poll new LOGFILE YEAR MONTH DAY DAYS MINUTES KE` stand.
 pub const DEVICE: usize = 1;
 
 pub const ADDRESS: usize = 2;
 
 pub const POLLED_LOG: usize = 3;
 
-const POLLED_DAY: usize = 4;
+// The words behind the log's file, in any order.
+const FIRST_OPTION: usize = 4;
+
+const SECOND_OPTION: usize = 5;
+
+const THIRD_OPTION: usize = 6;
+
+const AGAIN: usize = 0;
+
+const ANYWAY: usize = 1;
 
 pub const NEW_LOG: usize = 2;
 
@@ -64,20 +82,49 @@ const LAST_YEAR: u16 = 2255;
 pub fn is_new() -> bool {
     let mut word = io::buffer();
     let n = os::arg(DEVICE, &mut word);
-    if n != 3 {
-        return false;
-    }
-    if word[0] != b'n' {
-        return false;
-    }
-    if word[1] != b'e' {
-        return false;
-    }
-    word[2] == b'w'
+    console::place_of(&word[..n], b"new") == 0
 }
 
-pub fn one_day() -> Chosen {
-    match byte_argument(POLLED_DAY) {
+pub fn said_options() -> Options {
+    let none = Options {
+        chosen: Chosen::All,
+        wanted: Wanted::Gaps,
+        anyway: false,
+    };
+    let one = with_word(none, FIRST_OPTION);
+    let two = with_word(one, SECOND_OPTION);
+    with_word(two, THIRD_OPTION)
+}
+
+fn with_word(o: Options, i: usize) -> Options {
+    if os::arg_count() <= i {
+        return o;
+    }
+    let mut word = io::buffer();
+    let n = os::arg(i, &mut word);
+    let chosen = o.chosen;
+    let wanted = o.wanted;
+    match console::place_of(&word[..n], b"again anyway") {
+        AGAIN => Options {
+            chosen: chosen,
+            wanted: Wanted::GapsAndEmpties,
+            anyway: o.anyway,
+        },
+        ANYWAY => Options {
+            chosen: chosen,
+            wanted: wanted,
+            anyway: true,
+        },
+        _ => Options {
+            chosen: one_day(i),
+            wanted: wanted,
+            anyway: o.anyway,
+        },
+    }
+}
+
+fn one_day(i: usize) -> Chosen {
+    match byte_argument(i) {
         ByteArgument::Byte(day) => Chosen::One(day),
         ByteArgument::Unread => Chosen::Unread,
     }

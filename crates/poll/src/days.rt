@@ -1,6 +1,9 @@
 // The asks of the days, one after the other. Whatever the line carries, the log and the open ask go on by the logger's calls alone, so
 // that demand 3 says what stands in every cell.
 ghost use Rattle.logger.specs.declared.held.OpenAsk.the-variants.{Closed};
+ghost use mathlib.Core.Path.{_≡_};
+ghost use Rattle.refusal.specs.Outcome.{outcome};
+ghost use Rattle.polling.specs.Fate.{settled};
 ghost use Rattle.polling.specs.Reached.{standing, Reached, Polled};
 use crate::part::front;
 use crate::say;
@@ -9,37 +12,63 @@ use crate::wire::Heard;
 use crate::wire::Wire;
 use frame::layout::LONGEST;
 use frame::layout::READ_BYTES;
+use frame::layout::SLICE_REPLY;
+use log::Header;
 use logfile::FILE_MOST;
 use logfile::WriteAnswer;
 use logger::AskAnswer;
 use logger::OpenAsk;
 use polling::Fate;
 use polling::Next;
+use polling::Passed;
+use polling::Settled;
+use polling::Standing;
 use polling::Tally;
+use polling::Wanted;
 use slots::SLOTS_MOST;
 
-// Where the poll stands: what became of its asks, and whether it has ended early. Between two asks none is open.
-pub struct Course {
-    pub tally: Tally,
-    pub ended: bool,
+// What is asked for: of this log's intervals those that are wanted and over at a moment.
+pub struct Plan {
+    pub header: Header,
+    // The meter's clock, in minutes since 2000.
+    pub now: u32,
+    pub wanted: Wanted,
 }
 
-// Asks for the gaps of the days from one on and before another.
-pub fn poll(wire: Wire, device: &[u8], path: &[u8], image: &mut [u8], from: u8, end: u8) -> Course
+pub enum End {
+    GoesOn,
+    // Early, and that is said; what was taken is saved.
+    Stopped,
+    // That is said.
+    NotSaved,
+}
+
+// Where the poll stands: what became of its asks, which intervals were passed over, and whether it has ended early. Between two asks
+// none is open.
+pub struct Course {
+    pub tally: Tally,
+    pub passed: Passed,
+    pub end: End,
+}
+
+// Asks for the wanted intervals of the days from one on and before another.
+pub fn poll(
+    wire: Wire,
+    plan: Plan,
+    device: &[u8],
+    path: &[u8],
+    image: &mut [u8],
+    from: u8,
+    end: u8,
+) -> Course
     ensures { λ _. ⌜ Polled (now (image .entry)) (now (image .exit)) ⌝ }
 {
-    let none = Tally {
-        taken: 0,
-        silent: 0,
-        malformed: 0,
-        refused: 0,
-    };
-    let mut course = goes_on(none);
+    let mut course = nothing();
     let mut day = from;
     while day < end {
-        let tally = course.tally;
-        course = one_day(wire, device, path, image, day, tally);
-        if course.ended {
+        let earlier = course;
+        course = one_day(wire, plan, device, path, image, day, earlier);
+        if is_over(course) {
             return course;
         }
         day += 1;
@@ -47,52 +76,92 @@ pub fn poll(wire: Wire, device: &[u8], path: &[u8], image: &mut [u8], from: u8, 
     course
 }
 
+// One more day behind the earlier ones.
 fn one_day(
     wire: Wire,
+    plan: Plan,
     device: &[u8],
     path: &[u8],
     image: &mut [u8],
     day: u8,
-    earlier: Tally,
+    earlier: Course,
 ) -> Course
     ensures { λ _. ⌜ Polled (now (image .entry)) (now (image .exit)) ⌝ }
 {
-    let after = asks(wire, device, path, image, day, earlier);
-    let course = kept(wire, path, image, earlier.taken, after);
+    let after = asks(wire, plan, device, path, image, day);
+    let course = kept(wire, path, image, after);
     let tally = course.tally;
-    say::day(wire.terminal, day, tally);
-    course
+    let passed = course.passed;
+    say::day(wire.terminal, day, tally, passed);
+    behind(earlier, course)
 }
 
-// A taken reply fills a gap: a day with none has left the log as it was, and its file is not touched.
-fn kept(wire: Wire, path: &[u8], image: &[u8], earlier: u32, after: Course) -> Course {
+// A day's course behind those of the days before it.
+fn behind(earlier: Course, course: Course) -> Course {
+    let before = earlier.tally;
+    let tally = course.tally;
+    let passed_before = earlier.passed;
+    let passed = course.passed;
+    let end = course.end;
+    Course {
+        tally: polling::together(before, tally),
+        passed: polling::passed_together(passed_before, passed),
+        end: end,
+    }
+}
+
+// A day without a taken reply has left the log as it was, and its file is not touched.
+fn kept(wire: Wire, path: &[u8], image: &[u8], after: Course) -> Course {
     let tally = after.tally;
-    if tally.taken == earlier {
+    if tally.taken == 0 {
         return after;
     }
     if saved(wire, path, image) {
         return after;
     }
-    ends(tally)
+    ends(after, End::NotSaved)
 }
 
-fn asks(wire: Wire, device: &[u8], path: &[u8], image: &mut [u8], day: u8, earlier: Tally) -> Course
+fn asks(wire: Wire, plan: Plan, device: &[u8], path: &[u8], image: &mut [u8], day: u8) -> Course
     ensures { λ _. ⌜ Polled (now (image .entry)) (now (image .exit)) ⌝ }
 {
-    let mut course = goes_on(earlier);
+    let wanted = plan.wanted;
+    let mut course = nothing();
     let mut slot: u8 = 0;
     while slot < SLOTS_MOST {
-        let Next::Slot(next) = polling::next_gap(image, day, slot) else {
+        let Next::Slot(next) = polling::next_wanted(image, day, slot, wanted) else {
             return course;
         };
-        let tally = course.tally;
-        course = one_ask(wire, device, path, image, day, next, tally);
-        if course.ended {
+        let earlier = course;
+        course = one_slot(wire, plan, device, path, image, day, next, earlier);
+        if is_over(course) {
             return course;
         }
         slot = next + 1;
     }
     course
+}
+
+// An interval that is not over, or that another year's could answer for, is not asked for.
+fn one_slot(
+    wire: Wire,
+    plan: Plan,
+    device: &[u8],
+    path: &[u8],
+    image: &mut [u8],
+    day: u8,
+    slot: u8,
+    earlier: Course,
+) -> Course
+    ensures { λ _. ⌜ Polled (now (image .entry)) (now (image .exit)) ⌝ }
+{
+    let h = plan.header;
+    let standing = polling::standing_of(h, day, slot, plan.now);
+    match standing {
+        Standing::Due => one_ask(wire, device, path, image, day, slot, earlier),
+        Standing::NotOver => passed_over(earlier, standing),
+        Standing::TooOld => passed_over(earlier, standing),
+    }
 }
 
 fn one_ask(
@@ -102,21 +171,23 @@ fn one_ask(
     image: &mut [u8],
     day: u8,
     slot: u8,
-    tally: Tally,
+    earlier: Course,
 ) -> Course
     ensures { λ _. ⌜ Polled (now (image .entry)) (now (image .exit)) ⌝ }
 {
-    say::slot(wire.terminal, day, slot, tally);
+    let tally = earlier.tally;
+    let passed = earlier.passed;
+    say::slot(wire.terminal, day, slot, tally, passed);
     let mut frame = [0u8; READ_BYTES];
     let asked = logger::put_ask(image, OpenAsk::Closed, wire.address, day, slot, &mut frame);
     let answer = asked.answer;
     let held = asked.held;
     match answer {
-        AskAnswer::Done => exchanged(wire, device, path, image, &frame, held, tally),
+        AskAnswer::Done => exchanged(wire, device, path, image, &frame, held, earlier),
         _ => {
             say::new_line(wire.terminal);
             say::refused(path, answer.number());
-            ends(tally)
+            ends(earlier, End::Stopped)
         }
     }
 }
@@ -129,60 +200,104 @@ fn exchanged(
     image: &mut [u8],
     frame: &[u8],
     held: OpenAsk,
-    tally: Tally,
+    earlier: Course,
 ) -> Course
     ensures { λ _. ⌜ Reached (standing (now (image .entry)) held) (standing (now (image .exit)) Closed) ⌝ }
 {
     let mut reply = [0u8; LONGEST];
-    let heard = wire::exchange(wire, device, frame, &mut reply);
-    let fate = settled(image, held, front(&reply, wire::bytes_heard(heard)));
+    let heard = wire::exchange(wire, device, frame, SLICE_REPLY, &mut reply);
+    let after = settled(image, held, front(&reply, wire::bytes_heard(heard)));
+    let fate = after.fate;
     match heard {
-        Heard::Bytes(_) => followed(wire, device, path, fate, polling::counted(tally, fate)),
-        Heard::Failed => ends(tally),
+        Heard::Bytes(_) => followed(wire, device, path, fate, counted(earlier, fate)),
+        Heard::Failed => ends(earlier, End::Stopped),
     }
 }
 
-// The open ask is closed.
-fn settled(image: &mut [u8], held: OpenAsk, reply: &[u8]) -> Fate
+// What was heard is taken, and the open ask closed: one history of the logger's calls, which the equation names.
+fn settled(image: &mut [u8], held: OpenAsk, reply: &[u8]) -> Settled
+    ensures { λ r. ⌜ outcome r (now (image .exit)) ≡ settled (now (image .entry)) held (now (reply .entry)) ⌝ }
     ensures { λ _. ⌜ Reached (standing (now (image .entry)) held) (standing (now (image .exit)) Closed) ⌝ }
 {
-    let settled = polling::settle(image, held, reply);
-    settled.fate
+    polling::settle(image, held, reply)
 }
 
 // What an ask's fate leads to.
-fn followed(wire: Wire, device: &[u8], path: &[u8], fate: Fate, tally: Tally) -> Course {
+fn followed(wire: Wire, device: &[u8], path: &[u8], fate: Fate, course: Course) -> Course {
     match fate {
-        Fate::Taken => goes_on(tally),
-        Fate::Refused => goes_on(tally),
-        Fate::Silent => after_a_loss(wire, device, tally),
-        Fate::Malformed => after_a_loss(wire, device, tally),
+        Fate::Taken => course,
+        Fate::Refused => course,
+        Fate::Silent => after_a_loss(wire, device, course),
+        Fate::Malformed => after_a_loss(wire, device, course),
         Fate::Stopped(number) => {
             say::new_line(wire.terminal);
             say::refused(path, number);
-            ends(tally)
+            ends(course, End::Stopped)
         }
     }
 }
 
-fn after_a_loss(wire: Wire, device: &[u8], tally: Tally) -> Course {
+fn after_a_loss(wire: Wire, device: &[u8], course: Course) -> Course {
     if wire::settled(wire, device) {
-        return goes_on(tally);
+        return course;
     }
-    ends(tally)
+    ends(course, End::Stopped)
 }
 
-fn goes_on(tally: Tally) -> Course {
+fn nothing() -> Course {
     Course {
-        tally: tally,
-        ended: false,
+        tally: Tally {
+            taken: 0,
+            silent: 0,
+            malformed: 0,
+            refused: 0,
+        },
+        passed: Passed {
+            not_over: 0,
+            too_old: 0,
+        },
+        end: End::GoesOn,
     }
 }
 
-fn ends(tally: Tally) -> Course {
+fn counted(earlier: Course, fate: Fate) -> Course {
+    let tally = earlier.tally;
+    let passed = earlier.passed;
+    let end = earlier.end;
+    Course {
+        tally: polling::counted(tally, fate),
+        passed: passed,
+        end: end,
+    }
+}
+
+fn passed_over(earlier: Course, standing: Standing) -> Course {
+    let tally = earlier.tally;
+    let passed = earlier.passed;
+    let end = earlier.end;
     Course {
         tally: tally,
-        ended: true,
+        passed: polling::passed_over(passed, standing),
+        end: end,
+    }
+}
+
+fn ends(course: Course, end: End) -> Course {
+    let tally = course.tally;
+    let passed = course.passed;
+    Course {
+        tally: tally,
+        passed: passed,
+        end: end,
+    }
+}
+
+fn is_over(course: Course) -> bool {
+    let end = course.end;
+    match end {
+        End::GoesOn => false,
+        End::Stopped => true,
+        End::NotSaved => true,
     }
 }
 
@@ -191,13 +306,12 @@ fn saved(wire: Wire, path: &[u8], image: &[u8]) -> bool {
     let answer = logfile::write_file(image, &mut file);
     let WriteAnswer::Done(n) = answer else {
         say::new_line(wire.terminal);
-        say::refused(path, answer.number());
-        return false;
+        return say::refused(path, answer.number());
     };
     if file_io::stored(path, front(&file, n)) {
         return true;
     }
     say::new_line(wire.terminal);
-    say::failed(path);
+    say::not_saved(path);
     false
 }

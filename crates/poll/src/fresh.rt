@@ -9,16 +9,17 @@ use log::IMAGE_MOST;
 use logfile::FILE_MOST;
 use logfile::WriteAnswer;
 
-pub fn make() {
+// Whether it was made; where not, that is said.
+pub fn make() -> bool {
     let mut path = io::buffer();
     let n = os::arg(arguments::NEW_LOG, &mut path);
     match arguments::start_words() {
-        Start::Of(h) => make_of(&path[..n], h),
+        Start::Of(h) => made_of(&path[..n], h),
         Start::OutOfRange => say::refused(&path[..n], refusal::OUT_OF_RANGE),
     }
 }
 
-fn make_of(path: &[u8], h: Header) {
+fn made_of(path: &[u8], h: Header) -> bool {
     let mut image = [0u8; IMAGE_MOST];
     let answer = log::fresh_log(h, &mut image);
     match answer {
@@ -27,15 +28,14 @@ fn make_of(path: &[u8], h: Header) {
     }
 }
 
-fn put(path: &[u8], image: &[u8]) {
+fn put(path: &[u8], image: &[u8]) -> bool {
     let mut file = [0u8; FILE_MOST];
     let answer = logfile::write_file(image, &mut file);
     let WriteAnswer::Done(n) = answer else {
-        say::refused(path, answer.number());
-        return;
+        return say::refused(path, answer.number());
     };
     if file_io::made(path, front(&file, n)) {
-        return;
+        return true;
     }
-    say::failed(path);
+    say::failed(path)
 }

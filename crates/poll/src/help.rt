@@ -8,14 +8,27 @@ pub fn show() {
 }
 
 fn uses() {
-    put(b"poll DEVICE ADDRESS LOGFILE [DAY]\n");
+    put(b"poll DEVICE ADDRESS LOGFILE [DAY] [again] [anyway]\n");
     put(
-        b"    asks the meter with this address (0 to 255) for every interval of the log that is still a gap: of one day,\n",
+        b"    asks the meter with this address (0 to 255) for every interval of the log that is still a gap and is over by the\n",
     );
     put(
-        b"    counted from 0, or of all. The file is written anew after each day that changed, and progress is shown on\n",
+        b"    meter's clock: of one day, counted from 0, or of all. `again` asks for empty intervals too: a figure that came\n",
     );
-    put(b"    standard error; the day report of what was polled goes to standard output.\n");
+    put(
+        b"    later fills them. The file is written anew after each day that changed; progress is shown on standard error, and\n",
+    );
+    put(
+        b"    the day report of what was polled goes to standard output. The last line says `poll: done` or `poll: failed`.\n",
+    );
+    put(
+        b"    First the meter is asked for its Ke, its interval and its clock. Another Ke or interval than the log's ends the poll,\n",
+    );
+    put(
+        b"    and so does a clock more than a day off this machine's, unless `anyway` is said. Intervals that ended 300 days\n",
+    );
+    put(b"    before are not asked for: the wire names no year.\n");
+    put(b"    One poll at a time has a log (LOGFILE.lock) and a line (/var/lock/LCK..NAME).\n");
     put(b"poll new LOGFILE YEAR MONTH DAY DAYS MINUTES KE\n");
     put(
         b"    makes the file of a fresh log, all gaps: 1 to 62 days from a date of 2000 to 2099 on, intervals of 15 or\n",

@@ -4,34 +4,38 @@ mod arguments;
 mod days;
 mod fresh;
 mod help;
+mod locks;
+mod meter;
 mod part;
 mod report;
 mod say;
 mod session;
 mod wire;
 
-use arguments::Chosen;
-
 // The arguments of each form, the program's own name among them.
 const NEW_WORDS: usize = 9;
 
-const ALL_DAYS_WORDS: usize = 4;
+const LEAST_WORDS: usize = 4;
 
-const ONE_DAY_WORDS: usize = 5;
+const MOST_WORDS: usize = 7;
 
 fn main() {
     let count = os::arg_count();
     if arguments::is_new() {
         if count == NEW_WORDS {
-            fresh::make();
+            say::end(fresh::make());
             return;
         }
         help::show();
         return;
     }
-    match count {
-        ALL_DAYS_WORDS => session::poll(Chosen::All),
-        ONE_DAY_WORDS => session::poll(arguments::one_day()),
-        _ => help::show(),
+    if count < LEAST_WORDS {
+        help::show();
+        return;
     }
+    if MOST_WORDS < count {
+        help::show();
+        return;
+    }
+    say::end(session::poll());
 }

@@ -1,16 +1,38 @@
 // The day report, on standard output.
 use crate::part::front;
 use dayreport::LINE_MOST;
+use dayreport::STRIP_MOST;
 use dayreport::TextAnswer;
+use libc::STDERR_FILENO;
 use libc::STDOUT_FILENO;
 
-// A heading, and a line for each day from one on and before another.
-pub fn show(path: &[u8], image: &[u8], from: u8, end: u8) {
+// A heading, and a line for each day from one on and before another. Where a person looks, the days' strips follow on standard error.
+pub fn show(terminal: bool, path: &[u8], image: &[u8], from: u8, end: u8) {
     let mut text = [0u8; LINE_MOST];
     let answer = dayreport::put_heading(&mut text);
     tell(path, answer, &text);
     for day in from..end {
         one_day(path, image, day);
+    }
+    if terminal {
+        strips(image, from, end);
+    }
+}
+
+fn strips(image: &[u8], from: u8, end: u8) {
+    for day in from..end {
+        strip(image, day);
+    }
+}
+
+fn strip(image: &[u8], day: u8) {
+    let mut text = [0u8; STRIP_MOST];
+    match dayreport::put_strip(image, day, &mut text) {
+        TextAnswer::Done(n) => {
+            io::write_all(STDERR_FILENO, front(&text, n));
+        }
+        // The report has said why.
+        _ => {}
     }
 }
 
@@ -25,6 +47,8 @@ fn tell(path: &[u8], answer: TextAnswer, text: &[u8]) {
         TextAnswer::Done(n) => {
             io::write_all(STDOUT_FILENO, front(text, n));
         }
-        _ => crate::say::refused(path, answer.number()),
+        _ => {
+            crate::say::refused(path, answer.number());
+        }
     }
 }

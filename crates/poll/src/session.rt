@@ -2,13 +2,22 @@
 use crate::arguments;
 use crate::arguments::ByteArgument;
 use crate::arguments::Chosen;
+use crate::arguments::Options;
 use crate::days;
+use crate::days::End;
+use crate::days::Plan;
+use crate::locks;
+use crate::locks::Kind;
+use crate::locks::Taken;
+use crate::meter;
+use crate::meter::Known;
 use crate::part::front;
 use crate::report;
 use crate::say;
 use crate::wire::Wire;
 use file_io::FileAnswer;
 use libc::STDERR_FILENO;
+use log::Header;
 use log::Lent;
 use logfile::ReadAnswer;
 
@@ -16,82 +25,188 @@ use logfile::ReadAnswer;
 const FILE_ROOM: usize = logfile::FILE_MOST + 1;
 
 // The days from one on and before another.
-pub enum Span {
-    Of(u8, u8),
+pub struct Span {
+    pub from: u8,
+    pub end: u8,
+}
+
+pub enum SpanAnswer {
+    Of(Span),
     NotInLog,
 }
 
-pub fn poll(chosen: Chosen) {
+// Whether all went well; where not, what did not is said.
+pub fn poll() -> bool {
     let mut device = io::buffer();
     let d = os::arg(arguments::DEVICE, &mut device);
     let mut path = io::buffer();
     let p = os::arg(arguments::POLLED_LOG, &mut path);
     match arguments::byte_argument(arguments::ADDRESS) {
-        ByteArgument::Byte(address) => load(&device[..d], address, &path[..p], chosen),
+        ByteArgument::Byte(address) => on_file(&device[..d], address, &path[..p]),
         ByteArgument::Unread => say::wrong_address(),
     }
 }
 
-fn load(device: &[u8], address: u8, path: &[u8], chosen: Chosen) {
+// The log is read once its file is locked: what another poll saved before is not lost.
+fn on_file(device: &[u8], address: u8, path: &[u8]) -> bool {
+    let mut lock = io::buffer();
+    match locks::take(Kind::LogFile, path, &mut lock) {
+        Taken::Path(n) => {
+            let well = loaded(device, address, path);
+            locks::left(front(&lock, n));
+            well
+        }
+        Taken::Not => false,
+    }
+}
+
+fn loaded(device: &[u8], address: u8, path: &[u8]) -> bool {
     let mut file = [0u8; FILE_ROOM];
     match file_io::contents(path, &mut file) {
-        FileAnswer::Bytes(n) => read(device, address, path, chosen, front(&file, n)),
+        FileAnswer::Bytes(n) => read(device, address, path, front(&file, n)),
         FileAnswer::Failed => say::failed(path),
     }
 }
 
-fn read(device: &[u8], address: u8, path: &[u8], chosen: Chosen, file: &[u8]) {
+fn read(device: &[u8], address: u8, path: &[u8], file: &[u8]) -> bool {
     let mut image = [0u8; FILE_ROOM];
     let answer = logfile::read_file(file, &mut image);
     match answer {
         ReadAnswer::Done(length) => {
             if length <= FILE_ROOM {
-                on_log(device, address, path, chosen, &mut image[..length]);
+                return on_log(device, address, path, &mut image[..length]);
             }
+            false
         }
         _ => say::refused(path, answer.number()),
     }
 }
 
-fn on_log(device: &[u8], address: u8, path: &[u8], chosen: Chosen, image: &mut [u8]) {
+fn on_log(device: &[u8], address: u8, path: &[u8], image: &mut [u8]) -> bool {
+    let options = arguments::said_options();
+    let chosen = options.chosen;
     match log::sound(image) {
         Lent::Sound(h) => match span_of(chosen, h.days) {
-            Span::Of(from, end) => on_device(device, address, path, image, from, end),
-            Span::NotInLog => say::refused(path, refusal::NOT_IN_LOG),
+            SpanAnswer::Of(span) => on_line(device, address, path, image, h, span, options),
+            SpanAnswer::NotInLog => say::refused(path, refusal::NOT_IN_LOG),
         },
         Lent::Unsound => say::refused(path, refusal::UNSOUND),
     }
 }
 
-fn span_of(chosen: Chosen, days: u8) -> Span {
+fn span_of(chosen: Chosen, days: u8) -> SpanAnswer {
     match chosen {
-        Chosen::All => Span::Of(0, days),
+        Chosen::All => SpanAnswer::Of(Span { from: 0, end: days }),
         Chosen::One(day) => {
             if day < days {
-                Span::Of(day, day + 1)
+                SpanAnswer::Of(Span {
+                    from: day,
+                    end: day + 1,
+                })
             } else {
-                Span::NotInLog
+                SpanAnswer::NotInLog
             }
         }
-        Chosen::Unread => Span::NotInLog,
+        Chosen::Unread => SpanAnswer::NotInLog,
     }
 }
 
-fn on_device(device: &[u8], address: u8, path: &[u8], image: &mut [u8], from: u8, end: u8) {
+fn on_line(
+    device: &[u8],
+    address: u8,
+    path: &[u8],
+    image: &mut [u8],
+    h: Header,
+    span: Span,
+    options: Options,
+) -> bool {
+    let mut lock = io::buffer();
+    match locks::take(Kind::Line, device, &mut lock) {
+        Taken::Path(n) => {
+            let well = on_device(device, address, path, image, h, span, options);
+            locks::left(front(&lock, n));
+            well
+        }
+        Taken::Not => false,
+    }
+}
+
+// Nothing is written to what is no terminal line.
+fn on_device(
+    device: &[u8],
+    address: u8,
+    path: &[u8],
+    image: &mut [u8],
+    h: Header,
+    span: Span,
+    options: Options,
+) -> bool {
     let fd = os::open_update(device);
     if fd < 0 {
-        say::failed(device);
-        return;
+        return say::failed(device);
+    }
+    if libc::isatty(fd) != 1 {
+        libc::close(fd);
+        return say::no_line(device);
     }
     let wire = Wire {
         fd: fd,
         address: address,
         terminal: libc::isatty(STDERR_FILENO) == 1,
     };
-    let course = days::poll(wire, device, path, image, from, end);
+    let well = on_wire(wire, device, path, image, h, span, options);
     libc::close(fd);
+    well
+}
+
+fn on_wire(
+    wire: Wire,
+    device: &[u8],
+    path: &[u8],
+    image: &mut [u8],
+    h: Header,
+    span: Span,
+    options: Options,
+) -> bool {
+    say::asking(device, wire.address);
+    let wanted = options.wanted;
+    match meter::met(wire, device, h, options.anyway) {
+        Known::At(now) => {
+            let plan = Plan {
+                header: h,
+                now: now,
+                wanted: wanted,
+            };
+            polled(wire, device, path, image, plan, span)
+        }
+        Known::Not => false,
+    }
+}
+
+// What could not be saved is not reported.
+fn polled(
+    wire: Wire,
+    device: &[u8],
+    path: &[u8],
+    image: &mut [u8],
+    plan: Plan,
+    span: Span,
+) -> bool {
+    let course = days::poll(wire, plan, device, path, image, span.from, span.end);
     say::new_line(wire.terminal);
     let tally = course.tally;
-    say::sum(tally);
-    report::show(path, image, from, end);
+    let passed = course.passed;
+    say::sum(tally, passed);
+    let end = course.end;
+    match end {
+        End::GoesOn => {
+            report::show(wire.terminal, path, image, span.from, span.end);
+            true
+        }
+        End::Stopped => {
+            report::show(wire.terminal, path, image, span.from, span.end);
+            false
+        }
+        End::NotSaved => false,
+    }
 }

@@ -52,11 +52,11 @@ pub fn bytes_heard(heard: Heard) -> usize {
     }
 }
 
-// Sends a frame on a line that is silent, and gathers what is heard then.
-pub fn exchange(wire: Wire, device: &[u8], frame: &[u8], reply: &mut [u8]) -> Heard {
+// Sends a frame on a line that is silent, and gathers what is heard then: a full reply has so many bytes.
+pub fn exchange(wire: Wire, device: &[u8], frame: &[u8], full: usize, reply: &mut [u8]) -> Heard {
     if drained(wire, device, BEFORE_AN_ASK) {
         if io::write_all(wire.fd, frame) {
-            return gathered(wire, device, reply);
+            return gathered(wire, device, full, reply);
         }
         say::new_line(wire.terminal);
         say::failed(device);
@@ -111,8 +111,8 @@ fn drain(fd: i32, quiet: u8) -> Line {
     Line::Busy
 }
 
-fn gathered(wire: Wire, device: &[u8], reply: &mut [u8]) -> Heard {
-    let heard = gather(wire.fd, reply);
+fn gathered(wire: Wire, device: &[u8], full: usize, reply: &mut [u8]) -> Heard {
+    let heard = gather(wire.fd, full, reply);
     match heard {
         Heard::Bytes(_) => {}
         Heard::Failed => {
@@ -123,7 +123,7 @@ fn gathered(wire: Wire, device: &[u8], reply: &mut [u8]) -> Heard {
     heard
 }
 
-fn gather(fd: i32, reply: &mut [u8]) -> Heard {
+fn gather(fd: i32, full: usize, reply: &mut [u8]) -> Heard {
     let mut n: usize = 0;
     let mut silent: u8 = 0;
     let mut turns = GATHER_READS;
@@ -140,7 +140,7 @@ fn gather(fd: i32, reply: &mut [u8]) -> Heard {
                 return Heard::Failed;
             }
         }
-        if polling::is_over(front(reply, n), silent) {
+        if polling::is_over(full, front(reply, n), silent) {
             return Heard::Bytes(n);
         }
         turns -= 1;

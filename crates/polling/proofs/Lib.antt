@@ -1,4 +1,5 @@
 pub mod NextLaws
 pub mod ReplyLaws
 pub mod FateLaws
+pub mod MomentLaws
 pub mod ReachedLaws

@@ -10,7 +10,7 @@ use lib.Seq.{getD-take, length-take-le}
 use borrow.Author.Tests.{eqb-true, le-leb, lt-leb, ltb-true, ltb-false}
 use Rattle.words.specs.Place.{byteAt}
 use Rattle.frame.specs.Code.{refused}
-use Rattle.frame.specs.Layout.{functionPlace, bareSize, sliceReply}
+use Rattle.frame.specs.Layout.{functionPlace, bareSize}
 use Rattle.frame.specs.Sealing.{crcFits}
 use Rattle.reader.specs.Form.{lengthFor, headOf, formOf}
 use Rattle.reader.specs.declared.form.Form.the-variants.{WellFormed, Faulty}
@@ -18,41 +18,41 @@ use Rattle.reader.specs.declared.form.Fault.the-variants as fault
 use Rattle.polling.specs.Reply.{isWhole}
 
 -- a well-formed reply has the length that its function says
-formed-length : (address parameter : ℕ) (y : List ℕ) → formOf address parameter sliceReply y ≡ WellFormed → length y ≡ lengthFor (byteAt y functionPlace) sliceReply
+formed-length : (address parameter full : ℕ) (y : List ℕ) → formOf address parameter full y ≡ WellFormed → length y ≡ lengthFor (byteAt y functionPlace) full
 unfolding formOf
-formed-length address parameter y e = go (eqb (length y) (lengthFor (byteAt y functionPlace) sliceReply)) refl e
+formed-length address parameter full y e = go (eqb (length y) (lengthFor (byteAt y functionPlace) full)) refl e
   where
-    go : (b : Bool) → eqb (length y) (lengthFor (byteAt y functionPlace) sliceReply) ≡ b
+    go : (b : Bool) → eqb (length y) (lengthFor (byteAt y functionPlace) full) ≡ b
         → cond b (cond (crcFits y) (headOf address parameter y) (Faulty fault.Crc)) (Faulty fault.Length) ≡ WellFormed
-        → length y ≡ lengthFor (byteAt y functionPlace) sliceReply
+        → length y ≡ lengthFor (byteAt y functionPlace) full
     go true p q = eqb-true _ _ p
     go false p q = let z : _≡_ {A = ℕ} 0 1 = cc in absurd (omega arith)
 
-pub formed-whole : (address parameter : ℕ) (y : List ℕ) → formOf address parameter sliceReply y ≡ WellFormed → isWhole y ≡ true
+pub formed-whole : (address parameter full : ℕ) (y : List ℕ) → formOf address parameter full y ≡ WellFormed → isWhole full y ≡ true
 unfolding isWhole
-formed-whole address parameter y e = le-leb (lengthFor (byteAt y functionPlace) sliceReply) (length y) (omega (arith, formed-length address parameter y e))
+formed-whole address parameter full y e = le-leb (lengthFor (byteAt y functionPlace) full) (length y) (omega (arith, formed-length address parameter full y e))
 
--- "6 .. 14 for a slice": no reply is shorter
-shortest : (function : ℕ) → bareSize ≤ lengthFor function sliceReply
+-- "6 with the function's top bit set, else that of its request": no reply is shorter
+shortest : (function full : ℕ) → bareSize ≤ full → bareSize ≤ lengthFor function full
 unfolding lengthFor
-shortest function = go (leb refused function)
+shortest function full l = go (leb refused function)
   where
-    go : (b : Bool) → bareSize ≤ cond b bareSize sliceReply
+    go : (b : Bool) → bareSize ≤ cond b bareSize full
     go true = omega arith
-    go false = omega arith
+    go false = l
 
 -- a front that has the function byte is too short for it, and one that lacks it is too short for any
-cut-short : (y : List ℕ) (n : ℕ) → n < lengthFor (byteAt y functionPlace) sliceReply → n ≤ length y → isWhole (take n y) ≡ false
+cut-short : (full : ℕ) (y : List ℕ) (n : ℕ) → bareSize ≤ full → n < lengthFor (byteAt y functionPlace) full → n ≤ length y → isWhole full (take n y) ≡ false
 unfolding isWhole
-cut-short y n l m = go (ltb 1 n) refl
+cut-short full y n f l m = go (ltb 1 n) refl
   where
-    go : (b : Bool) → ltb 1 n ≡ b → leb (lengthFor (byteAt (take n y) functionPlace) sliceReply) (length (take n y)) ≡ false
-    go true e = rw (getD-take n y 1 0 (ltb-true 1 n e), length-take-le n y m) (lt-leb (lengthFor (byteAt y functionPlace) sliceReply) n l)
+    go : (b : Bool) → ltb 1 n ≡ b → leb (lengthFor (byteAt (take n y) functionPlace) full) (length (take n y)) ≡ false
+    go true e = rw (getD-take n y 1 0 (ltb-true 1 n e), length-take-le n y m) (lt-leb (lengthFor (byteAt y functionPlace) full) n l)
     go false e =
         let t = take n y in
         let k : length t ≡ n = length-take-le n y m in
-        lt-leb (lengthFor (byteAt t functionPlace) sliceReply) (length t) (omega (arith, k, shortest (byteAt t functionPlace), ltb-false 1 n e))
+        lt-leb (lengthFor (byteAt t functionPlace) full) (length t) (omega (arith, k, shortest (byteAt t functionPlace) full f, ltb-false 1 n e))
 
 -- no front of a well-formed reply is whole: listening does not stop within it
-pub formed-front : (address parameter : ℕ) (y : List ℕ) (n : ℕ) → formOf address parameter sliceReply y ≡ WellFormed → n < length y → isWhole (take n y) ≡ false
-formed-front address parameter y n e l = cut-short y n (omega (arith, formed-length address parameter y e)) (omega arith)
+pub formed-front : (address parameter full : ℕ) (y : List ℕ) (n : ℕ) → bareSize ≤ full → formOf address parameter full y ≡ WellFormed → n < length y → isWhole full (take n y) ≡ false
+formed-front address parameter full y n f e l = cut-short full y n f (omega (arith, formed-length address parameter full y e)) (omega arith)

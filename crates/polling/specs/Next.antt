@@ -11,26 +11,33 @@ use Rattle.log.specs.declared.header.Header.{Header}
 use Rattle.log.specs.declared.cell.Cell.the-variants.{Gap, Empty, Measured}
 use Rattle.log.specs.declared.cell.CellAnswer.{CellAnswer}
 use Rattle.log.specs.declared.cell.CellAnswer.the-variants.{Good, Bad}
+use Rattle.polling.specs.declared.next.Wanted.{Wanted}
+use Rattle.polling.specs.declared.next.Wanted.the-variants.{Gaps, GapsAndEmpties}
 use Rattle.polling.specs.declared.next.Next.{Next}
 use Rattle.polling.specs.declared.next.Next.the-variants.{Slot, Nothing}
 
--- whether a cell that was read is a gap; bytes that are no cell are none
-unfoldable pub isGap : CellAnswer → Bool
-isGap (Good Gap) = true
-isGap (Good Empty) = false
-isGap (Good (Measured e+ e- r+ r-)) = false
-isGap Bad = false
+-- whether a cell that was read is asked for: a gap, and an empty one where these are asked for again; bytes that are no cell never
+unfoldable pub isWanted : Wanted → CellAnswer → Bool
+isWanted w (Good Gap) = true
+isWanted Gaps (Good Empty) = false
+isWanted GapsAndEmpties (Good Empty) = true
+isWanted w (Good (Measured e+ e- r+ r-)) = false
+isWanted w Bad = false
 
--- the first gap among n slots from k on, where the cell of slot 0 has this index
-unfoldable pub gapFrom : List ℕ → ℕ → ℕ → ℕ → Next
-gapFrom s first k zero = Nothing
-gapFrom s first k (suc n) = cond (isGap (cellAt s (first + k))) (Slot k) (gapFrom s first (suc k) n)
+-- the first wanted among n slots from k on, where the cell of slot 0 has this index
+unfoldable pub wantedFrom : Wanted → List ℕ → ℕ → ℕ → ℕ → Next
+wantedFrom w s first k zero = Nothing
+wantedFrom w s first k (suc n) = cond (isWanted w (cellAt s (first + k))) (Slot k) (wantedFrom w s first (suc k) n)
 
 -- among a day's slots from k on; a day outside the log has none
-unfoldable pub nextIn : Header → List ℕ → ℕ → ℕ → Next
-nextIn h s d k = cond (ltb d (h .days)) (gapFrom s (d * slotsOf (h .minutes)) k (slotsOf (h .minutes) - k)) Nothing
+unfoldable pub nextIn : Wanted → Header → List ℕ → ℕ → ℕ → Next
+nextIn w h s d k = cond (ltb d (h .days)) (wantedFrom w s (d * slotsOf (h .minutes)) k (slotsOf (h .minutes) - k)) Nothing
 
--- the slot of a day that is asked for next, from slot k on: the first whose cell is a gap; bytes that are no log have none
-unfoldable pub nextGap : List ℕ → ℕ → ℕ → Next
+-- the slot of a day that is asked for next, from slot k on: the first whose cell is wanted; bytes that are no log have none
+unfoldable pub nextWanted : Wanted → List ℕ → ℕ → ℕ → Next
 unfolding nextIn
-nextGap s d k = ifSound (soundOf s) Nothing (λ h. nextIn h s d k)
+nextWanted w s d k = ifSound (soundOf s) Nothing (λ h. nextIn w h s d k)
+
+-- the first gap
+abbrev pub nextGap : List ℕ → ℕ → ℕ → Next
+nextGap = nextWanted Gaps

@@ -1,4 +1,4 @@
--- How long the line is listened to after an ask for a slice. Source: document 01, "The reader and the log": "the right length (6 with
+-- How long the line is listened to after a request. Source: document 01, "The reader and the log": "the right length (6 with
 -- the function's top bit set, else that of its request; 14 for a slice)". The silent reads are the line's: document 01 leaves time-outs
 -- to others.
 use Prim.Native.Nat.{ℕ}
@@ -7,18 +7,18 @@ use mathlib.Core.List.{List}
 use lib.Dec.{eqb, leb, ltb}
 use lib.ListN.{length}
 use Rattle.words.specs.Place.{byteAt}
-use Rattle.frame.specs.Layout.{functionPlace, sliceReply}
+use Rattle.frame.specs.Layout.{functionPlace}
 use Rattle.reader.specs.Form.{lengthFor}
 
--- whether a reply has all its bytes, or more
-unfoldable pub isWhole : List ℕ → Bool
-isWhole y = leb (lengthFor (byteAt y functionPlace) sliceReply) (length y)
+-- whether a reply has all its bytes, or more, where a full one has so many
+unfoldable pub isWhole : ℕ → List ℕ → Bool
+isWhole full y = leb (lengthFor (byteAt y functionPlace) full) (length y)
 
 -- the silent reads before a reply's first byte that mean that none comes
 abbrev pub silentMost : ℕ
 silentMost = 10
 
 -- whether to stop listening: the reply is whole, or so many reads were silent before its first byte, or one behind it
-unfoldable pub isOver : List ℕ → ℕ → Bool
+unfoldable pub isOver : ℕ → List ℕ → ℕ → Bool
 unfolding isWhole
-isOver y silent = cond (isWhole y) true (cond (eqb (length y) 0) (leb silentMost silent) (ltb 0 silent))
+isOver full y silent = cond (isWhole full y) true (cond (eqb (length y) 0) (leb silentMost silent) (ltb 0 silent))

@@ -1,14 +1,21 @@
 -- What became of the asks, counted.
 use Prim.Native.Nat.{ℕ, _+_}
 use mathlib.Core.Bool.{cond}
-use lib.Dec.{ltb}
+use lib.Dec.{leb, ltb}
 use Rattle.polling.specs.declared.fate.Fate.{Fate}
 use Rattle.polling.specs.declared.fate.Fate.the-variants.{Taken, Silent, Malformed, Refused, Stopped}
+use Rattle.polling.specs.declared.standing.Standing.{Standing}
+use Rattle.polling.specs.declared.standing.Standing.the-variants.{Due, NotOver, TooOld}
 use Rattle.polling.specs.declared.tally.Tally.{Tally}
+use Rattle.polling.specs.declared.tally.Passed.{Passed}
 
 -- one more, and the largest number of 32 bits stays
 unfoldable pub oneMore : ℕ → ℕ
 oneMore n = cond (ltb n 4294967295) (n + 1) n
+
+-- a sum, or the largest number of 32 bits
+unfoldable pub sumOf : ℕ → ℕ → ℕ
+sumOf a b = cond (leb (a + b) 4294967295) (a + b) 4294967295
 
 -- one ask more; one that stopped the poll is not counted
 unfoldable pub countedIn : Tally → Fate → Tally
@@ -18,3 +25,22 @@ countedIn t Silent = record { taken = t .taken; silent = oneMore (t .silent); ma
 countedIn t Malformed = record { taken = t .taken; silent = t .silent; malformed = oneMore (t .malformed); refused = t .refused }
 countedIn t Refused = record { taken = t .taken; silent = t .silent; malformed = t .malformed; refused = oneMore (t .refused) }
 countedIn t (Stopped n) = t
+
+-- one interval more that was not asked for
+unfoldable pub passedOver : Passed → Standing → Passed
+unfolding oneMore
+passedOver p Due = p
+passedOver p NotOver = record { «not_over» = oneMore (p .«not_over»); «too_old» = p .«too_old» }
+passedOver p TooOld = record { «not_over» = p .«not_over»; «too_old» = oneMore (p .«too_old») }
+
+-- two parts of a poll in one
+unfoldable pub together : Tally → Tally → Tally
+together a b = record {
+  taken = sumOf (a .taken) (b .taken);
+  silent = sumOf (a .silent) (b .silent);
+  malformed = sumOf (a .malformed) (b .malformed);
+  refused = sumOf (a .refused) (b .refused);
+}
+
+unfoldable pub passedTogether : Passed → Passed → Passed
+passedTogether a b = record { «not_over» = sumOf (a .«not_over») (b .«not_over»); «too_old» = sumOf (a .«too_old») (b .«too_old») }

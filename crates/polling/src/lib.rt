@@ -1,17 +1,40 @@
 // What a poller of the log decides: which interval it asks for next, when a reply is whole and when to stop listening, what becomes of
 // an ask, and the tally of that. Reading and writing the line is the caller's. The log changes by the logger's calls alone.
 mod fate;
+mod moment;
 mod next;
+mod question;
 mod reply;
+mod standing;
 mod tally;
 
 pub use fate::Fate;
 pub use fate::Settled;
 pub use fate::settle;
+pub use moment::DAY_MINUTES;
+pub use moment::Moment;
+pub use moment::days_to;
+pub use moment::far_apart;
+pub use moment::machine_minute;
+pub use moment::moment_of;
 pub use next::Next;
+pub use next::Wanted;
 pub use next::next_gap;
+pub use next::next_wanted;
+pub use question::Learned;
+pub use question::Question;
+pub use question::answer_bytes;
+pub use question::fits_log;
+pub use question::learned_from;
+pub use question::put_question;
 pub use reply::SILENT_MOST;
 pub use reply::is_over;
 pub use reply::is_whole;
+pub use standing::Standing;
+pub use standing::standing_of;
+pub use tally::Passed;
 pub use tally::Tally;
 pub use tally::counted;
+pub use tally::passed_over;
+pub use tally::passed_together;
+pub use tally::together;

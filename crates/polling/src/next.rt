@@ -1,7 +1,9 @@
 // The interval that is asked for next.
 ghost use mathlib.Core.Path.{_≡_};
 ghost use Prim.Native.Nat.{_-_};
-ghost use Rattle.polling.specs.Next.{nextGap, isGap, gapFrom};
+ghost use Rattle.polling.specs.Next.{nextWanted, nextGap, isWanted, wantedFrom};
+ghost use Rattle.log.specs.declared.cell.Cell.the-variants.{Empty};
+ghost use Rattle.log.specs.declared.cell.CellAnswer.the-variants.{Good};
 use log::Cell;
 use log::CellAnswer;
 use log::Lent;
@@ -12,9 +14,23 @@ pub enum Next {
     Nothing,
 }
 
+// Which cells are asked for.
+pub enum Wanted {
+    Gaps,
+    // An empty one again: a figure that came later fills it.
+    GapsAndEmpties,
+}
+
 // The first slot of a day, from a slot on, whose cell is a gap. Bytes that are no log have none, and neither has a day outside it.
 pub fn next_gap(log: &[u8], day: u8, slot: u8) -> Next
     ensures { λ r. ⌜ r ≡ nextGap (now (log .entry)) day slot ⌝ }
+{
+    next_wanted(log, day, slot, Wanted::Gaps)
+}
+
+// The same of the cells that are wanted.
+pub fn next_wanted(log: &[u8], day: u8, slot: u8, wanted: Wanted) -> Next
+    ensures { λ r. ⌜ r ≡ nextWanted wanted (now (log .entry)) day slot ⌝ }
 {
     match log::sound(log) {
         Lent::Sound(h) => {
@@ -22,19 +38,19 @@ pub fn next_gap(log: &[u8], day: u8, slot: u8) -> Next
                 return Next::Nothing;
             }
             let slots = slots::slots_of(h.minutes);
-            first_gap(log, (day as u16) * (slots as u16), slot, slots)
+            first_wanted(log, (day as u16) * (slots as u16), slot, slots, wanted)
         }
         Lent::Unsound => Next::Nothing,
     }
 }
 
 // Of the cells that follow a day's first one, from a slot on and before an end.
-fn first_gap(log: &[u8], first: u16, slot: u8, end: u8) -> Next
-    ensures { λ r. ⌜ r ≡ gapFrom (now (log .entry)) first slot (end - slot) ⌝ }
+fn first_wanted(log: &[u8], first: u16, slot: u8, end: u8, wanted: Wanted) -> Next
+    ensures { λ r. ⌜ r ≡ wantedFrom wanted (now (log .entry)) first slot (end - slot) ⌝ }
 {
     let mut i = slot;
     while i < end {
-        if is_gap(log::cell_at(log, first as usize + i as usize)) {
+        if is_wanted(wanted, log::cell_at(log, first as usize + i as usize)) {
             return Next::Slot(i);
         }
         i += 1;
@@ -42,16 +58,25 @@ fn first_gap(log: &[u8], first: u16, slot: u8, end: u8) -> Next
     Next::Nothing
 }
 
-// A bad cell is none.
-fn is_gap(answer: CellAnswer) -> bool
-    ensures { λ r. ⌜ r ≡ isGap answer ⌝ }
+// A bad cell is not.
+fn is_wanted(wanted: Wanted, answer: CellAnswer) -> bool
+    ensures { λ r. ⌜ r ≡ isWanted wanted answer ⌝ }
 {
     match answer {
         CellAnswer::Good(c) => match c {
             Cell::Gap => true,
-            Cell::Empty => false,
+            Cell::Empty => is_again(wanted),
             Cell::Measured(_, _, _, _) => false,
         },
         CellAnswer::Bad => false,
+    }
+}
+
+fn is_again(wanted: Wanted) -> bool
+    ensures { λ r. ⌜ r ≡ isWanted wanted (Good Empty) ⌝ }
+{
+    match wanted {
+        Wanted::Gaps => false,
+        Wanted::GapsAndEmpties => true,
     }
 }

@@ -1,13 +1,20 @@
 // What became of the asks, counted.
 ghost use mathlib.Core.Path.{_≡_};
-ghost use Rattle.polling.specs.Tally.{oneMore, countedIn};
+ghost use Rattle.polling.specs.Tally.{oneMore, sumOf, countedIn, passedOver, together, passedTogether};
 use crate::fate::Fate;
+use crate::standing::Standing;
 
 pub struct Tally {
     pub taken: u32,
     pub silent: u32,
     pub malformed: u32,
     pub refused: u32,
+}
+
+// The wanted intervals that were not asked for.
+pub struct Passed {
+    pub not_over: u32,
+    pub too_old: u32,
 }
 
 // One ask more. An ask that stopped the poll is not counted.
@@ -23,6 +30,46 @@ pub fn counted(t: Tally, fate: Fate) -> Tally
         Fate::Stopped(_) => {}
     }
     after
+}
+
+// One interval more that is not asked for; one that is due is counted by its fate.
+pub fn passed_over(p: Passed, standing: Standing) -> Passed
+    ensures { λ r. ⌜ r ≡ passedOver p standing ⌝ }
+{
+    let mut after = p;
+    match standing {
+        Standing::Due => {}
+        Standing::NotOver => after.not_over = one_more(p.not_over),
+        Standing::TooOld => after.too_old = one_more(p.too_old),
+    }
+    after
+}
+
+// Two parts of a poll in one.
+pub fn together(a: Tally, b: Tally) -> Tally
+    ensures { λ r. ⌜ r ≡ together a b ⌝ }
+{
+    Tally {
+        taken: sum_of(a.taken, b.taken),
+        silent: sum_of(a.silent, b.silent),
+        malformed: sum_of(a.malformed, b.malformed),
+        refused: sum_of(a.refused, b.refused),
+    }
+}
+
+pub fn passed_together(a: Passed, b: Passed) -> Passed
+    ensures { λ r. ⌜ r ≡ passedTogether a b ⌝ }
+{
+    Passed {
+        not_over: sum_of(a.not_over, b.not_over),
+        too_old: sum_of(a.too_old, b.too_old),
+    }
+}
+
+fn sum_of(a: u32, b: u32) -> u32
+    ensures { λ r. ⌜ r ≡ sumOf a b ⌝ }
+{
+    if a <= u32::MAX - b { a + b } else { u32::MAX }
 }
 
 // The largest number stays.

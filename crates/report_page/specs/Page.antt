@@ -12,9 +12,10 @@ use Rattle.dayreport.specs.declared.answer.TextAnswer.{TextAnswer}
 use Rattle.dayreport.specs.declared.answer.TextAnswer.the-variants.{NotInLog}
 use Rattle.dayreport.specs.Text.{lineFeed, headingText, putText}
 use Rattle.dayreport.specs.Day.{dayText}
-use Rattle.logfile.specs.Read.{readNumber, readFile}
+use Rattle.dayreport.specs.Strip.{stripText}
+use Rattle.log.proofs.HeaderLaws.{imageMost}
+use Rattle.logfile.specs.Read.{readNumber, ifRead, readFile}
 use Rattle.logfile.specs.declared.read.ReadAnswer.{ReadAnswer}
-use Rattle.logfile.specs.declared.read.ReadAnswer.the-variants.{Done, WrongMark, WrongVersion, WrongHeader, WrongLength, WrongCrc, WrongCell, TooShort}
 
 -- "as `refused 31`"
 unfoldable pub refusedText : ℕ → List ℕ
@@ -30,24 +31,21 @@ reportLine image i out = cond (eqb i 0) (putText headingText out) (dayText image
 
 -- the length of the image that a file was read to be; a file that was refused has none
 unfoldable pub imageSize : ReadAnswer → ℕ
-imageSize (Done n) = n
-imageSize WrongMark = 0
-imageSize WrongVersion = 0
-imageSize WrongHeader = 0
-imageSize WrongLength = 0
-imageSize WrongCrc = 0
-imageSize WrongCell = 0
-imageSize TooShort = 0
+imageSize read = ifRead read 0 (λ n. n)
 
 -- the report of the image at the file's front where the file was read, else the refusal
 unfoldable pub readLine : ReadAnswer → List ℕ → ℕ → List ℕ → Outcome TextAnswer (List ℕ)
 readLine read file i out =
     cond (eqb (readNumber read) 0) (reportLine (take (imageSize read) file) i out) (refusedLine (readNumber read) i out)
 
--- room for the longest image: its header, and the cells of 62 days of 96
+-- room for the longest image
 unfoldable pub room : List ℕ
-room = replicate 53582 0
+room = replicate imageMost 0
 
 -- line i of what is printed for a file
 unfoldable pub pageLine : List ℕ → ℕ → List ℕ → Outcome TextAnswer (List ℕ)
 pageLine file i out = readLine (readFile file room .result) file i out
+
+-- the strip of a day of a file's log; a file that was refused has no image, and its strips are refused with 28
+unfoldable pub stripLine : List ℕ → ℕ → List ℕ → Outcome TextAnswer (List ℕ)
+stripLine file d out = stripText (take (imageSize (readFile file room .result)) file) d out

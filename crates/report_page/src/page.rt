@@ -2,12 +2,15 @@
 ghost use mathlib.Core.Path.{_≡_};
 ghost use lib.ListN.{take};
 ghost use Rattle.refusal.specs.Outcome.{outcome};
-ghost use Rattle.report_page.specs.Page.{imageSize, refusedLine, reportLine, readLine, pageLine};
+ghost use Rattle.report_page.specs.Page.{imageSize, refusedLine, reportLine, readLine, pageLine, stripLine};
 use dayreport::TextAnswer;
 use logfile::ReadAnswer;
 
-// The heading, and the lines of the most days that a log has.
-pub const LINES_MOST: u8 = 63;
+// The most days that a log has.
+pub const DAYS_MOST: u8 = 62;
+
+// The heading, and those days' lines.
+pub const LINES_MOST: u8 = DAYS_MOST + 1;
 
 // Line i of what is printed for a file, to the front of out, whose rest stays as it was; a refusal leaves all of it so.
 pub fn put_page_line(file: &[u8], i: u8, out: &mut [u8]) -> TextAnswer
@@ -16,6 +19,15 @@ pub fn put_page_line(file: &[u8], i: u8, out: &mut [u8]) -> TextAnswer
     let mut room = [0u8; log::IMAGE_MOST];
     let answer = logfile::read_file(file, &mut room);
     put_read_line(answer, file, i, out)
+}
+
+// The strip of a day of a file's log, likewise; 28 for a file that is refused.
+pub fn put_strip_line(file: &[u8], day: u8, out: &mut [u8]) -> TextAnswer
+    ensures { λ r. ⌜ outcome r (now (out .exit)) ≡ stripLine (now (file .entry)) day (now (out .entry)) ⌝ }
+{
+    let mut room = [0u8; log::IMAGE_MOST];
+    let answer = logfile::read_file(file, &mut room);
+    dayreport::put_strip(front(file, image_size(answer)), day, out)
 }
 
 fn put_read_line(answer: ReadAnswer, file: &[u8], i: u8, out: &mut [u8]) -> TextAnswer

@@ -1,9 +1,10 @@
 // What is printed for document 01's example of a file, a log from 2024-05-17, 1 day, 30 minutes, Ke 100, slot 0 measured 12 0 3 0, slot 1
-// empty, all others gaps; for the same with version 2, `refused 31`; and with a wrong CRC. stdout was written by hand from document 01, and
-// not by this code.
+// empty, all others gaps, and its strip; for the same with version 2, `refused 31`; and with a wrong CRC. stdout was written by hand from
+// document 01, and not by this code.
 ghost use mathlib.Core.Path.{_≡_};
 ghost use lib.ListN.{take};
 use dayreport::LINE_MOST;
+use dayreport::STRIP_MOST;
 use dayreport::TextAnswer;
 use libc::STDOUT_FILENO;
 
@@ -44,6 +45,7 @@ fn with(mut file: [u8; FILE], at: usize, bytes: &[u8]) -> [u8; FILE] {
 
 fn show(file: [u8; FILE]) {
     lines(&file);
+    strip(&file);
 }
 
 fn lines(file: &[u8]) {
@@ -55,6 +57,14 @@ fn lines(file: &[u8]) {
 fn line(file: &[u8], i: u8) {
     let mut text = [0u8; LINE_MOST];
     if let TextAnswer::Done(n) = report_page::put_page_line(file, i, &mut text) {
+        say(front(&text, n));
+    }
+}
+
+// The strip of the one day; a file that is refused has none.
+fn strip(file: &[u8]) {
+    let mut text = [0u8; STRIP_MOST];
+    if let TextAnswer::Done(n) = report_page::put_strip_line(file, 0, &mut text) {
         say(front(&text, n));
     }
 }

@@ -1,6 +1,6 @@
 // The serial line: a frame is what one read gives, and its reply is written at once.
+use crate::say;
 use frame::layout::LONGEST;
-use libc::STDERR_FILENO;
 use meter_record::Record;
 
 // The meter and its wall clock as they stand, and the frames so far.
@@ -17,34 +17,35 @@ pub struct Served {
 const FRAME_ROOM: usize = 256;
 
 // Until the device is closed, or so many frames were read.
-pub fn serve(fd: i32, count: u64, store: &mut [u8], record: Record) {
+pub fn serve(fd: i32, count: u64, device: &[u8], store: &mut [u8], record: Record) {
     let mut served = Served {
         record: record,
-        seen: wall_clock(),
+        seen: machine_clock::seconds(),
         read: 0,
         answered: 0,
         open: true,
     };
     let mut left = count;
     while 0 < left {
-        served = turn(fd, store, served);
+        served = turn(fd, device, store, served);
         if served.open {
             left -= 1;
         } else {
             left = 0;
         }
     }
-    ended(served.read, served.answered);
+    say::ended(served.read, served.answered);
 }
 
-fn turn(fd: i32, store: &mut [u8], s: Served) -> Served {
+fn turn(fd: i32, device: &[u8], store: &mut [u8], s: Served) -> Served {
     let mut frame = [0u8; FRAME_ROOM];
     let got = libc::read(fd, &mut frame);
     if got < 1 {
+        nothing_read(fd, device, got);
         return Served { open: false, ..s };
     }
     let n = io::count(got, &frame);
-    let now = wall_clock();
+    let now = machine_clock::seconds();
     let record = console_setup::seconds_later(
         s.record,
         console_setup::seconds_between(s.seen, now),
@@ -59,6 +60,18 @@ fn turn(fd: i32, store: &mut [u8], s: Served) -> Served {
             ..s
         },
     )
+}
+
+// A read that failed has its reason in errno. One that gave nothing is the end of a device that was closed; of a line that is still
+// there it shows a setting which would hand over frames in pieces.
+fn nothing_read(fd: i32, device: &[u8], got: isize) {
+    if got < 0 {
+        say::failed(device);
+        return;
+    }
+    if libc::isatty(fd) == 1 {
+        say::reads_nothing(device);
+    }
 }
 
 fn answer(fd: i32, store: &mut [u8], frame: &[u8], s: Served) -> Served {
@@ -87,19 +100,4 @@ fn replied(fd: i32, reply: &[u8], answered: u64) -> u64 {
 
 fn next(n: u64) -> u64 {
     if n < u64::MAX { n + 1 } else { n }
-}
-
-// Seconds since 1970; 0 where they cannot be told.
-fn wall_clock() -> u64 {
-    let mut t: i64 = 0;
-    let now = libc::time(&mut t);
-    if now > 0 { now as u64 } else { 0 }
-}
-
-fn ended(read: u64, answered: u64) {
-    io::write_all(STDERR_FILENO, b"serve: ");
-    io::print_decimal(STDERR_FILENO, read);
-    io::write_all(STDERR_FILENO, b" frames read, ");
-    io::print_decimal(STDERR_FILENO, answered);
-    io::write_all(STDERR_FILENO, b" answered\n");
 }

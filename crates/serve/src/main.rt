@@ -2,6 +2,7 @@
 // right is decided in the libraries.
 mod help;
 mod line;
+mod say;
 mod script;
 
 use meter_record::Record;
@@ -44,7 +45,7 @@ fn counted() {
     let n = os::arg(COUNT, &mut word);
     match text::number_of(&word[..n]) {
         NumberAnswer::Number(count) => made(count),
-        NumberAnswer::NotANumber => help::say(),
+        NumberAnswer::NotANumber => say::wrong_count(),
     }
 }
 
@@ -64,9 +65,10 @@ fn opened(count: u64, store: &mut [u8], record: Record) {
     let n = os::arg(DEVICE, &mut path);
     let fd = os::open_update(&path[..n]);
     if fd < 0 {
-        os::fail(&path[..n]);
+        say::failed(&path[..n]);
         return;
     }
-    line::serve(fd, count, store, record);
+    say::waiting(&path[..n], record.address);
+    line::serve(fd, count, &path[..n], store, record);
     libc::close(fd);
 }

@@ -1,7 +1,7 @@
 // The script: the console's lines that set the meter.
+use crate::say;
 use console_io::Rest;
 use console_setup::LineAnswer;
-use libc::STDERR_FILENO;
 use meter_record::Record;
 use meter_record::RecordAnswer;
 
@@ -17,16 +17,23 @@ pub fn made_by(path: &[u8], store: &mut [u8]) -> Ready {
     };
     let fd = os::open_read(path);
     if fd < 0 {
-        os::fail(path);
+        say::failed(path);
         return Ready::Stopped;
     }
     let ready = lines(fd, path, store, first);
+    // A read that failed looks like the script's end, and shows in the next.
+    let mut one = [0u8; 1];
+    let after = libc::read(fd, &mut one);
     libc::close(fd);
+    if after < 0 {
+        say::failed(path);
+        return Ready::Stopped;
+    }
     ready
 }
 
 fn lines(fd: i32, path: &[u8], store: &mut [u8], first: Record) -> Ready {
-    let mut line = [0u8; 4096];
+    let mut line = [0u8; console_io::LINE_ROOM];
     let mut block = [0u8; 4096];
     walk(fd, path, store, first, &mut line, &mut block)
 }
@@ -82,8 +89,7 @@ fn answered(answer: LineAnswer, path: &[u8], number: u64) -> RecordAnswer {
             a
         }
         LineAnswer::Unread => {
-            place(path, number);
-            io::write_all(STDERR_FILENO, b"not read\n");
+            say::unread(path, number);
             RecordAnswer::OutOfRange
         }
     }
@@ -93,17 +99,5 @@ fn refused(path: &[u8], number: u64, n: u8) {
     if n == refusal::DONE {
         return;
     }
-    place(path, number);
-    io::write_all(STDERR_FILENO, b"refused ");
-    io::print_decimal(STDERR_FILENO, n as u64);
-    io::write_all(STDERR_FILENO, b"\n");
-}
-
-// serve: SCRIPT:NUMBER:
-fn place(path: &[u8], number: u64) {
-    io::write_all(STDERR_FILENO, b"serve: ");
-    io::write_all(STDERR_FILENO, path);
-    io::write_all(STDERR_FILENO, b":");
-    io::print_decimal(STDERR_FILENO, number);
-    io::write_all(STDERR_FILENO, b": ");
+    say::refused(path, number, n);
 }

@@ -89,6 +89,20 @@ fn log_and_reader() {
 }
 
 #[test]
+fn a_carriage_return_at_a_lines_end() {
+    let longest = format!("frame {}", "0".repeat(4_090));
+    talk(&[
+        ("open\r", "0 closed"),
+        ("open\r\r", "?"),
+        ("open \r", "?"),
+        (&longest, "2"),
+        (&format!("{longest}\r"), "2"),
+        (&format!("{longest}0"), "?"),
+    ]);
+    assert_eq!(console("\r\n#\r\nlapse\r"), "0\n");
+}
+
+#[test]
 fn the_report_of_document_01_with_p9() {
     talk(&[
         ("log 2024 5 17 1 30 100", "0"),

@@ -18,6 +18,8 @@ fn main() -> io::Result<()> {
     let mut line = Vec::new();
     while input.read_until(b'\n', &mut line)? > 0 {
         let text = line.strip_suffix(b"\n").unwrap_or(&line);
+        // "a carriage return at a line's end is dropped"
+        let text = text.strip_suffix(b"\r").unwrap_or(text);
         if !passed_over(text) {
             writeln!(output, "{}", console.line(text))?;
             output.flush()?;

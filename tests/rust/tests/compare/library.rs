@@ -17,6 +17,8 @@ mod c {
             ke: u16,
             length: *mut usize,
         ) -> u8;
+        pub fn metlazuel_cell(log: *const u8, n: usize, day: u8, slot: u8, kind: *mut u8, counts: *mut u16) -> u8;
+        pub fn metlazuel_next_gap(log: *const u8, n: usize, day: u8, from: u8, slot: *mut u8) -> u8;
         pub fn metlazuel_ask(
             log: *const u8,
             n: usize,
@@ -155,6 +157,16 @@ pub fn fresh(log: &mut [u8], header: &Header, length: &mut usize) -> u8 {
     guarded(log, |log| unsafe {
         c::metlazuel_log_fresh(log.as_mut_ptr(), log.len(), year, month, day, days, minutes, ke, length)
     })
+}
+
+pub fn cell(log: &[u8], day: u8, slot: u8, kind: &mut u8, counts: &mut [u16; 4]) -> u8 {
+    guarded(counts, |counts| unsafe {
+        c::metlazuel_cell(log.as_ptr(), log.len(), day, slot, kind, counts.as_mut_ptr())
+    })
+}
+
+pub fn next_gap(log: &[u8], day: u8, from: u8, slot: &mut u8) -> u8 {
+    unsafe { c::metlazuel_next_gap(log.as_ptr(), log.len(), day, from, slot) }
 }
 
 pub fn ask(log: &[u8], kept: &mut [u8], ask: Ask, out: &mut [u8]) -> u8 {

@@ -1,4 +1,4 @@
-//! Logs: their files read and their days reported, sound and damaged.
+//! Logs: their files read, their days reported, their cells and gaps looked up, sound and damaged.
 
 use crate::damage::{change_byte, damaged, damaged_and_sealed};
 use crate::library;
@@ -7,13 +7,16 @@ use crate::run::{same, same_bytes, Answer, Group};
 use crate::twin::number;
 use metlazuel_check::model::calendar::{date_of, month_length};
 use metlazuel_check::model::crc::sealed;
-use metlazuel_check::model::log::{read_file, report, Header};
+use metlazuel_check::model::log::{cell, next_gap, read_file, report, Cell, Header};
 use metlazuel_check::model::refusal::Refusal;
 use metlazuel_check::model::{count_bytes, slots};
 
 const FILES: u64 = 100_000;
 const LOGS: u64 = 60_000;
 const REPORTS_OF_A_LOG: usize = 6;
+const CELLS_OF_A_LOG: usize = 12;
+/// What C is told where a day has no gap.
+const NO_GAP: u8 = 255;
 const HEADER_BYTES: usize = 14;
 const CELL_BYTES: usize = 9;
 /// The days of 2000 to 2099.
@@ -46,6 +49,22 @@ fn reports() {
         }
     }
     group.end(&[0, 1, 22, 28]);
+}
+
+#[test]
+fn cells() {
+    let mut group = Group::new("cells and gaps");
+    for case in 0..LOGS {
+        let random = &mut Random::of(group.seed, case);
+        let log = any_log(random);
+        for _ in 0..CELLS_OF_A_LOG {
+            let (day, slot) = (any_day(random, &log), any_slot(random));
+            let call = || format!("day {day}, slot {slot} of {} bytes, from {:?}", log.len(), start(&log));
+            group.call(case, cell_both(&log, day, slot), call);
+            group.call(case, gap_both(&log, day, slot), call);
+        }
+    }
+    group.end(&[0, 22, 28]);
 }
 
 pub fn start(bytes: &[u8]) -> &[u8] {
@@ -90,6 +109,37 @@ fn report_both(log: &[u8], day: u8, room: usize) -> Answer {
     Ok(library_number)
 }
 
+/// The number, the kind and the counts.
+fn cell_both(log: &[u8], day: u8, slot: u8) -> Answer {
+    let outcome = cell(log, day, slot);
+    let (kind, counts) = match outcome {
+        Ok(Cell::Gap) => (0, [0; 4]),
+        Ok(Cell::Empty) => (1, [0; 4]),
+        Ok(Cell::Measured(counts)) => (2, counts),
+        Err(_) => (0xA5, [0xA5A5; 4]),
+    };
+    let (mut library_kind, mut library_counts) = (0xA5, [0xA5A5; 4]);
+    let library_number = library::cell(log, day, slot, &mut library_kind, &mut library_counts);
+    same("number", number(&outcome), library_number)?;
+    same("kind", kind, library_kind)?;
+    same("counts", counts, library_counts)?;
+    Ok(library_number)
+}
+
+/// The number and the slot.
+fn gap_both(log: &[u8], day: u8, from: u8) -> Answer {
+    let outcome = next_gap(log, day, from);
+    let slot = match outcome {
+        Ok(found) => found.unwrap_or(NO_GAP),
+        Err(_) => 0xA5,
+    };
+    let mut library_slot = 0xA5;
+    let library_number = library::next_gap(log, day, from, &mut library_slot);
+    same("number", number(&outcome), library_number)?;
+    same("slot", slot, library_slot)?;
+    Ok(library_number)
+}
+
 /// As long as the image, or shorter, or longer.
 fn room(random: &mut Random, file: usize) -> usize {
     let image = file.saturating_sub(2);
@@ -108,6 +158,15 @@ fn any_day(random: &mut Random, log: &[u8]) -> u8 {
         0 => days,
         1 => random.byte(),
         _ => random.within(0, days - 1),
+    }
+}
+
+/// A slot of the day most often, else one near its end or any.
+fn any_slot(random: &mut Random) -> u8 {
+    match random.below(8) {
+        0 => random.byte(),
+        1 => random.pick(&[46, 47, 48, 94, 95, 96]),
+        _ => random.within(0, 47),
     }
 }
 

@@ -12,19 +12,19 @@ use Rattle.poll.proofs.days.asks.Statement.{statement}
 use Rattle.poll.proofs.days.asks.Tie as tie
 
 abbrev Inv-loop : tie.InvT-loop
-Inv-loop wire device path image₀ day course₀ slot₀ image course slot = (length image ≡ length image₀) × Polled image₀ image
+Inv-loop wire plan device path image₀ day wanted course₀ slot₀ image course slot = (length image ≡ length image₀) × Polled image₀ image
 
 abbrev μ-loop : tie.MeasureT-loop
-μ-loop wire device path image₀ day course₀ slot₀ image course slot = slotsMost - slot
+μ-loop wire plan device path image₀ day wanted course₀ slot₀ image course slot = slotsMost - slot
 
-goes-on-requires : tie.Need-goes-on-requires Inv-loop μ-loop
-goes-on-requires c κs = search needs
+nothing-requires : tie.Need-nothing-requires Inv-loop μ-loop
+nothing-requires c κs = search needs
 
 loop-holds : tie.Need-loop-holds Inv-loop μ-loop
 loop-holds c = (refl, stays _)
 
-next-gap-requires : tie.Need-next-gap-requires Inv-loop μ-loop
-next-gap-requires c κs = search needs
+next-wanted-requires : tie.Need-next-wanted-requires Inv-loop μ-loop
+next-wanted-requires c κs = search needs
 
 enum-known-next : tie.Need-enum-known-next Inv-loop μ-loop
 enum-known-next c = search needs
@@ -36,41 +36,42 @@ same-length : tie.Need-same-length Inv-loop μ-loop
 same-length c = search needs
 
 returns : tie.Need-returns Inv-loop μ-loop
-returns c =
-    let loop = c .before .before .before .before .before .loop in
-    loop .inv .1
+returns c = let turn = c .before .before .before .before .before in turn .loop .inv .1
 
-one-ask-requires : tie.Need-one-ask-requires Inv-loop μ-loop
-one-ask-requires c κs = search needs
+one-slot-requires : tie.Need-one-slot-requires Inv-loop μ-loop
+one-slot-requires c κs = search needs
+
+is-over-requires : tie.Need-is-over-requires Inv-loop μ-loop
+is-over-requires c κs = search needs
 
 same-length-2 : tie.Need-same-length-2 Inv-loop μ-loop
 same-length-2 c = search needs
 
 returns-2 : tie.Need-returns-2 Inv-loop μ-loop
 returns-2 c =
-    let one-ask = c .before .before .before .one-ask in
+    let one-slot = c .before .before .before .before .one-slot in
     let turn = c .before .before .before .before .before .before .before .before .before .before .before .before in
-    onward (turn .loop .inv .1) (one-ask .ensures)
+    onward (turn .loop .inv .1) (one-slot .ensures)
 
 add-slot : tie.Need-add-slot Inv-loop μ-loop
 add-slot c =
     let next = c .before .before .before .before .before .before .before in
     let turn = next .before .before .before .before .before in
     let args = turn .before .before .before .before .before .args in
-    omega (arith, next-bounds (turn .loop .image) (args .day) (turn .loop .slot) _ (sym (next .before .before .next-gap .ensures) ∙ next .next .given .1))
+    omega (arith, next-bounds _ (turn .loop .image) (args .day) (turn .loop .slot) _ (sym (next .before .before .next-wanted .ensures) ∙ next .next .given .1))
 
 loop-less : tie.Need-loop-less Inv-loop μ-loop
 loop-less c =
     let next = c .before .before .before .before .before .before .before in
     let turn = next .before .before .before .before .before in
     let args = turn .before .before .before .before .before .args in
-    omega (arith, next-bounds (turn .loop .image) (args .day) (turn .loop .slot) _ (sym (next .before .before .next-gap .ensures) ∙ next .next .given .1))
+    omega (arith, next-bounds _ (turn .loop .image) (args .day) (turn .loop .slot) _ (sym (next .before .before .next-wanted .ensures) ∙ next .next .given .1))
 
 loop-again : tie.Need-loop-again Inv-loop μ-loop
 loop-again c =
-    let one-ask = c .before .before .before .one-ask in
+    let one-slot = c .before .before .before .before .one-slot in
     let turn = c .before .before .before .before .before .before .before .before .before .before .before .before in
-    (search needs, onward (turn .loop .inv .1) (one-ask .ensures))
+    (search needs, onward (turn .loop .inv .1) (one-slot .ensures))
 
 same-length-3 : tie.Need-same-length-3 Inv-loop μ-loop
 same-length-3 c = search needs
@@ -84,14 +85,15 @@ asks-spec =
     (tie.spec
     Inv-loop
     μ-loop
-    goes-on-requires
+    nothing-requires
     loop-holds
-    next-gap-requires
+    next-wanted-requires
     enum-known-next
     enum-told
     same-length
     returns
-    one-ask-requires
+    one-slot-requires
+    is-over-requires
     same-length-2
     returns-2
     add-slot

@@ -9,13 +9,13 @@ use Rattle.poll.proofs.days.poll.Statement.{statement}
 use Rattle.poll.proofs.days.poll.Tie as tie
 
 abbrev Inv-loop : tie.InvT-loop
-Inv-loop wire device path image₀ from end course₀ day₀ image course day = (length image ≡ length image₀) × Polled image₀ image
+Inv-loop wire plan device path image₀ from end course₀ day₀ image course day = (length image ≡ length image₀) × Polled image₀ image
 
 abbrev μ-loop : tie.MeasureT-loop
-μ-loop wire device path image₀ from end course₀ day₀ image course day = end - day
+μ-loop wire plan device path image₀ from end course₀ day₀ image course day = end - day
 
-goes-on-requires : tie.Need-goes-on-requires Inv-loop μ-loop
-goes-on-requires c κs = search needs
+nothing-requires : tie.Need-nothing-requires Inv-loop μ-loop
+nothing-requires c κs = search needs
 
 loop-holds : tie.Need-loop-holds Inv-loop μ-loop
 loop-holds c = (refl, stays _)
@@ -23,12 +23,15 @@ loop-holds c = (refl, stays _)
 one-day-requires : tie.Need-one-day-requires Inv-loop μ-loop
 one-day-requires c κs = search needs
 
+is-over-requires : tie.Need-is-over-requires Inv-loop μ-loop
+is-over-requires c κs = search needs
+
 same-length : tie.Need-same-length Inv-loop μ-loop
 same-length c = search needs
 
 returns : tie.Need-returns Inv-loop μ-loop
 returns c =
-    let one-day = c .before .before .before .one-day in
+    let one-day = c .before .before .before .before .one-day in
     let turn = c .before .before .before .before .before .before .before in
     onward (turn .loop .inv .1) (one-day .ensures)
 
@@ -40,7 +43,7 @@ loop-less c = search needs
 
 loop-again : tie.Need-loop-again Inv-loop μ-loop
 loop-again c =
-    let one-day = c .before .before .before .one-day in
+    let one-day = c .before .before .before .before .one-day in
     let turn = c .before .before .before .before .before .before .before in
     (search needs, onward (turn .loop .inv .1) (one-day .ensures))
 
@@ -56,9 +59,10 @@ poll-spec =
     (tie.spec
     Inv-loop
     μ-loop
-    goes-on-requires
+    nothing-requires
     loop-holds
     one-day-requires
+    is-over-requires
     same-length
     returns
     add-day

@@ -1,4 +1,4 @@
--- What `settle` promises is a list of the logger's calls, at whose end no ask is open.
+-- `settle` promises the equation, which is a list of the logger's calls, at whose end no ask is open.
 use native.Mathlib.Omega.{arith}
 use Rattle.polling.proofs.ReachedLaws.{settles}
 use borrow.Author.Needs.{needs}
@@ -16,8 +16,8 @@ returns c =
     let call = c .before .before in
     let known = call .before .before in
     let args = known .before .before .args in
-    settles _ _ (args .reply .now) _ (call .settle .result) (λ i. omega (arith, known .shared-slice-known .given i))
-    (call .settle .ensures)
+    let reached = settles _ _ (args .reply .now) _ (call .settle .result) (λ i. omega (arith, known .shared-slice-known .given i)) (call .settle .ensures) in
+    (call .settle .ensures, reached)
 
 pub settled-spec : {M : Type 1} → statement M
 settled-spec = tie.close (tie.spec settle-requires same-length returns)

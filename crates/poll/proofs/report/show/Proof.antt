@@ -5,10 +5,10 @@ use Rattle.poll.proofs.report.show.Statement.{statement}
 use Rattle.poll.proofs.report.show.Tie as tie
 
 abbrev Inv-loop : tie.InvT-loop
-Inv-loop path image from end day₀ day = from ≤ day
+Inv-loop terminal path image from end day₀ day = from ≤ day
 
 abbrev μ-loop : tie.MeasureT-loop
-μ-loop path image from end day₀ day = end - day
+μ-loop terminal path image from end day₀ day = end - day
 
 slice-aggregate-put-heading : tie.Need-slice-aggregate-put-heading Inv-loop μ-loop
 slice-aggregate-put-heading c = search needs
@@ -37,8 +37,14 @@ loop-less c = search needs
 loop-again : tie.Need-loop-again Inv-loop μ-loop
 loop-again c = search needs
 
+strips-requires : tie.Need-strips-requires Inv-loop μ-loop
+strips-requires c κs = search needs
+
 returns : tie.Need-returns Inv-loop μ-loop
 returns c = search needs
+
+returns-2 : tie.Need-returns-2 Inv-loop μ-loop
+returns-2 c = search needs
 
 pub show-spec : {M : Type 1} → statement M
 show-spec =
@@ -55,4 +61,6 @@ show-spec =
     add-day
     loop-less
     loop-again
-    returns)
+    strips-requires
+    returns
+    returns-2)

@@ -49,8 +49,8 @@ read-spec =
     array-borrow-prefix-image
     slice-aggregate-on-log
     on-log-requires
+    returns
     number-requires
     refused-requires
-    returns
     returns-2
     returns-3)

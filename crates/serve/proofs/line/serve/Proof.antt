@@ -7,13 +7,13 @@ use Rattle.serve.proofs.line.serve.Statement.{statement}
 use Rattle.serve.proofs.line.serve.Tie as tie
 
 abbrev Inv-loop : tie.InvT-loop
-Inv-loop fd count store₀ served₀ left₀ store served left = length store ≡ length store₀
+Inv-loop fd count device store₀ served₀ left₀ store served left = length store ≡ length store₀
 
 abbrev μ-loop : tie.MeasureT-loop
-μ-loop fd count store₀ served₀ left₀ store served left = left
+μ-loop fd count device store₀ served₀ left₀ store served left = left
 
-wall-clock-requires : tie.Need-wall-clock-requires Inv-loop μ-loop
-wall-clock-requires c κs = search needs
+seconds-requires : tie.Need-seconds-requires Inv-loop μ-loop
+seconds-requires c κs = search needs
 
 loop-holds : tie.Need-loop-holds Inv-loop μ-loop
 loop-holds c = search needs
@@ -51,7 +51,7 @@ serve-spec =
     (tie.spec
     Inv-loop
     μ-loop
-    wall-clock-requires
+    seconds-requires
     loop-holds
     turn-requires
     sub-left

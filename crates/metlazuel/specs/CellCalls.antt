@@ -1,0 +1,44 @@
+-- What C is given of a log's single cells. Source: document 01, "The reader and the log" and "Refusal numbers".
+use mathlib.Core.List.{List, [], _∷_}
+use Prim.Native.Nat.{ℕ}
+use lib.Dec.{ltb}
+use Rattle.refusal.specs.Outcome.{Outcome, outcome, check}
+use Rattle.log.specs.Header.{soundOf, ifSound}
+use Rattle.log.specs.Interval.{intervalOf, ifAt}
+use Rattle.log.specs.Cell.{ifGood}
+use Rattle.log.specs.Image.{cellAt}
+use Rattle.log.specs.declared.cell.Cell.{Cell}
+use Rattle.log.specs.declared.cell.Cell.the-variants.{Gap, Empty, Measured}
+use Rattle.polling.specs.Next.{nextGap}
+use Rattle.polling.specs.declared.next.Next.{Next}
+use Rattle.polling.specs.declared.next.Next.the-variants.{Slot, Nothing}
+
+-- "0 gap, 1 empty, 2 measured"
+unfoldable pub kindOf : Cell → ℕ
+kindOf Gap = 0
+kindOf Empty = 1
+kindOf (Measured e+ e- r+ r-) = 2
+
+-- "and four counts .., all 0 unless measured"
+unfoldable pub countsOf : Cell → List ℕ
+countsOf Gap = 0 ∷ 0 ∷ 0 ∷ 0 ∷ []
+countsOf Empty = 0 ∷ 0 ∷ 0 ∷ 0 ∷ []
+countsOf (Measured e+ e- r+ r-) = e+ ∷ e- ∷ r+ ∷ r- ∷ []
+
+-- left: the lent kind and counts. 28, 22, and 28 of the cell "just before it is used"; a refusal leaves both
+unfoldable pub cellForC : List ℕ → ℕ → ℕ → ℕ → List ℕ → Outcome ℕ (ℕ × List ℕ)
+cellForC log day slot kind counts =
+    ifSound (soundOf log) (outcome 28 (kind, counts)) (λ h.
+    ifAt (intervalOf h day slot) (outcome 22 (kind, counts)) (λ i.
+    ifGood (cellAt log i) (outcome 28 (kind, counts)) (λ c. outcome 0 (kindOf c, countsOf c))))
+
+-- the slot that was found; 255, which is no slot of a day, where there is none
+unfoldable pub slotOf : Next → ℕ
+slotOf (Slot k) = k
+slotOf Nothing = 255
+
+-- left: the lent slot. 28, 22 for a "day not in the log"; a refusal leaves it
+unfoldable pub nextGapForC : List ℕ → ℕ → ℕ → ℕ → Outcome ℕ ℕ
+nextGapForC log day from before =
+    ifSound (soundOf log) (outcome 28 before) (λ h.
+    check (ltb day (h .days)) (outcome 22 before) (outcome 0 (slotOf (nextGap log day from))))

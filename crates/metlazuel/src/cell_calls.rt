@@ -1,0 +1,93 @@
+// Single cells of a log for C: what one holds, and which one is asked for next. A refusal leaves what is lent.
+use log::Cell;
+use log::CellAnswer;
+use log::Interval;
+use log::Lent;
+use polling::Next;
+ghost use mathlib.Core.Path.{_≡_};
+ghost use Rattle.refusal.specs.Outcome.{outcome};
+ghost use Rattle.metlazuel.specs.CellCalls.{kindOf, countsOf, cellForC, slotOf, nextGapForC};
+
+// The kinds, as a cell's first byte has them.
+const GAP: u8 = 0;
+
+const EMPTY: u8 = 1;
+
+const MEASURED: u8 = 2;
+
+// In a slot's place: the day has no gap. No day has so many slots.
+const NO_GAP: u8 = 255;
+
+// uint8_t metlazuel_cell(const uint8_t *log, size_t n, uint8_t day, uint8_t slot, uint8_t *kind, uint16_t counts[4])
+//
+// The cell of a slot of a day, both counted from 0: its kind goes to `kind`, E+, E-, R+ and R- to `counts`.
+#[no_mangle]
+pub extern "C" fn metlazuel_cell(
+    log: &[u8],
+    day: u8,
+    slot: u8,
+    kind: &mut u8,
+    counts: &mut [u16; 4],
+) -> u8
+    ensures { λ n. ⌜ outcome n (now (kind .exit), now (counts .exit))
+        ≡ cellForC (now (log .entry)) day slot (now (kind .entry)) (now (counts .entry)) ⌝ }
+{
+    let Lent::Sound(h) = log::sound(log) else {
+        return refusal::UNSOUND;
+    };
+    let Interval::At(i) = log::interval_of(h, day, slot) else {
+        return refusal::NOT_IN_LOG;
+    };
+    let CellAnswer::Good(c) = log::cell_at(log, i) else {
+        return refusal::UNSOUND;
+    };
+    *kind = kind_of(c);
+    *counts = counts_of(c);
+    refusal::DONE
+}
+
+fn kind_of(c: Cell) -> u8
+    ensures { λ r. ⌜ r ≡ kindOf c ⌝ }
+{
+    match c {
+        Cell::Gap => GAP,
+        Cell::Empty => EMPTY,
+        Cell::Measured(_, _, _, _) => MEASURED,
+    }
+}
+
+fn counts_of(c: Cell) -> [u16; 4]
+    ensures { λ r. ⌜ r ≡ countsOf c ⌝ }
+{
+    match c {
+        Cell::Gap => [0, 0, 0, 0],
+        Cell::Empty => [0, 0, 0, 0],
+        Cell::Measured(ep, em, rp, rm) => [ep, em, rp, rm],
+    }
+}
+
+// uint8_t metlazuel_next_gap(const uint8_t *log, size_t n, uint8_t day, uint8_t from, uint8_t *slot)
+//
+// The first slot of a day, from a slot on, whose cell is a gap goes to `slot`; 255 where none is one.
+#[no_mangle]
+pub extern "C" fn metlazuel_next_gap(log: &[u8], day: u8, from: u8, slot: &mut u8) -> u8
+    ensures { λ n. ⌜ outcome n (now (slot .exit)) ≡ nextGapForC (now (log .entry)) day from (now (slot .entry)) ⌝ }
+{
+    let Lent::Sound(h) = log::sound(log) else {
+        return refusal::UNSOUND;
+    };
+    if h.days <= day {
+        return refusal::NOT_IN_LOG;
+    }
+    *slot = slot_of(polling::next_gap(log, day, from));
+    refusal::DONE
+}
+
+fn slot_of(next: Next) -> u8
+    ensures { λ r. ⌜ r ≡ slotOf next ⌝ }
+{
+    match next {
+        Next::Slot(s) => s,
+        Next::Nothing => NO_GAP,
+    }
+}

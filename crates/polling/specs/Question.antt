@@ -1,0 +1,62 @@
+-- What a poll asks a meter before the log's intervals. Source: document 01, Appendix A's parameters 32 (clock), 24 (telemetry, with Ke) and 36
+-- (a slice); "Every day has 48 or 96 slots": a meter of 30 minutes refuses slice number 48, and one of 15 minutes answers.
+use Prim.Native.Nat.{ℕ, _+_}
+use mathlib.Core.Bool.{Bool, true, false, cond}
+use mathlib.Core.List.{List}
+use lib.Dec.{eqb}
+use lib.ListN.{drop}
+use Rattle.words.specs.Place.{byteAt}
+use Rattle.frame.specs.Layout.{resultPlace, dataPlace, bareSize}
+use Rattle.request.specs.Subject.{subjectOf, dataBytes, mostSlots}
+use Rattle.request.specs.declared.request.Request.{Request}
+use Rattle.figures.specs.Clock.{dateTimeOf}
+use Rattle.figures.specs.Telemetry.{telemetryOf}
+use Rattle.reader.specs.Form.{formOf}
+use Rattle.reader.specs.declared.form.Form.{Form}
+use Rattle.reader.specs.declared.form.Form.the-variants.{WellFormed, Faulty}
+use Rattle.log.specs.declared.header.Header.{Header}
+use Rattle.polling.specs.declared.question.Question.{Question}
+use Rattle.polling.specs.declared.question.Question.the-variants as question
+use Rattle.polling.specs.declared.question.Learned.{Learned}
+use Rattle.polling.specs.declared.question.Learned.the-variants as learned
+
+-- the request of a question; the slice is number 48 of 1 January
+unfoldable pub questionOf : Question → ℕ → Request
+questionOf question.Clock a = record { address = a; parameter = 32; offset = 0; tariff = 0; detail = 0 }
+questionOf question.Weight a = record { address = a; parameter = 24; offset = 0; tariff = 0; detail = 0 }
+questionOf question.Interval a = record { address = a; parameter = 36; offset = 1; tariff = 1; detail = 48 }
+
+-- the bytes of the reply to a request with result 0
+unfoldable pub fullSize : Request → ℕ
+fullSize r = bareSize + dataBytes (subjectOf r mostSlots)
+
+-- what the data of a reply with result 0 tell
+unfoldable pub figureOf : Question → List ℕ → Learned
+figureOf question.Clock bytes = learned.Clock (dateTimeOf bytes)
+figureOf question.Weight bytes = learned.Ke (telemetryOf bytes .ke)
+figureOf question.Interval bytes = learned.Minutes 15
+
+-- what a refusal tells: a meter of 30 minutes has no such slice
+unfoldable pub refusalOf : Question → ℕ → Learned
+refusalOf question.Clock result = learned.Refused result
+refusalOf question.Weight result = learned.Refused result
+refusalOf question.Interval result = learned.Minutes 30
+
+-- what a reply y tells, by its form
+unfoldable pub toldBy : Question → Form → List ℕ → Learned
+toldBy q (Faulty fault) y = learned.Malformed fault
+toldBy q WellFormed y = cond (eqb (byteAt y resultPlace) 0) (figureOf q (drop dataPlace y)) (refusalOf q (byteAt y resultPlace))
+
+-- what a reply y to a question tells; it is well formed or not by the reader's one test
+unfoldable pub learnedOf : Question → ℕ → List ℕ → Learned
+learnedOf q a y =
+    let r = questionOf q a in
+    toldBy q (formOf a (r .parameter) (fullSize r) y) y
+
+-- whether what was learned is the log's
+unfoldable pub fitsLog : Header → Learned → Bool
+fitsLog h (learned.Clock t) = true
+fitsLog h (learned.Ke k) = eqb k (h .ke)
+fitsLog h (learned.Minutes m) = eqb m (h .minutes)
+fitsLog h (learned.Refused result) = false
+fitsLog h (learned.Malformed fault) = false

@@ -1,0 +1,296 @@
+// The numbers of include/metlazuel.h, every one held to what the library does with it: bytes that it writes, lengths that it takes and
+// refuses, frames that its meter answers. Prints what does not agree, and nothing else.
+#include <stdio.h>
+#include <string.h>
+#include "metlazuel.h"
+
+enum { METER = 7, DAYS = 62, MINUTES = 15, KE = 0x1234, PASSWORD_BYTES = 8 };
+
+static uint8_t record[METLAZUEL_RECORD_BYTES], store[METLAZUEL_STORE_BYTES + 1];
+static uint8_t image[METLAZUEL_LOG_BYTES], file[METLAZUEL_FILE_BYTES];
+static int wrong;
+
+static void check(const char *what, int agrees)
+{
+    if (!agrees) {
+        printf("not so: %s\n", what);
+        wrong = 1;
+    }
+}
+
+static unsigned two_bytes(const uint8_t *at)
+{
+    return at[0] + 256u * at[1];
+}
+
+// The longest log: 62 days of 96 slots, and its file.
+static void longest_log(void)
+{
+    size_t n = 0, length = 0;
+    check("a shorter log's room", metlazuel_log_fresh(image, sizeof image - 1, 24, 5, 17, DAYS, MINUTES, KE, &n) == METLAZUEL_TOO_SHORT);
+    check("a log's room", metlazuel_log_fresh(image, sizeof image, 24, 5, 17, DAYS, MINUTES, KE, &n) == METLAZUEL_DONE);
+    check("a log's length", n == METLAZUEL_LOG_BYTES);
+    check("a shorter file's room", metlazuel_write_file(image, n, file, sizeof file - 1, &length) == METLAZUEL_TOO_SHORT);
+    check("a file's room", metlazuel_write_file(image, n, file, sizeof file, &length) == METLAZUEL_DONE);
+    check("a file's length", length == METLAZUEL_FILE_BYTES);
+    check("a longer log", metlazuel_log_fresh(image, sizeof image, 24, 5, 17, DAYS + 1, MINUTES, KE, &n) == METLAZUEL_OUT_OF_RANGE);
+}
+
+static void header_bytes(void)
+{
+    check("mark", memcmp(image + METLAZUEL_AT_MARK, "GEL", 3) == 0);
+    check("version", two_bytes(image + METLAZUEL_AT_VERSION) == 1);
+    check("year", image[METLAZUEL_AT_YEAR] == 24);
+    check("month", image[METLAZUEL_AT_MONTH] == 5);
+    check("day", image[METLAZUEL_AT_DAY] == 17);
+    check("days", image[METLAZUEL_AT_DAYS] == DAYS);
+    check("minutes", image[METLAZUEL_AT_MINUTES] == MINUTES);
+    check("Ke", two_bytes(image + METLAZUEL_AT_KE) == KE);
+    check("two zero bytes", two_bytes(image + METLAZUEL_AT_KE + 2) == 0);
+}
+
+// Puts the CRC behind n bytes, and says how many they are then.
+static size_t seal(uint8_t *bytes, size_t n)
+{
+    uint16_t crc = metlazuel_crc16(bytes, n);
+    bytes[n] = (uint8_t)(crc & 255);
+    bytes[n + 1] = (uint8_t)(crc >> 8);
+    return n + 2;
+}
+
+// A frame to the meter, its bytes before the CRC: the answer, and the reply's bytes.
+static uint8_t exchange(uint8_t *frame, size_t n, uint8_t *reply, size_t *length)
+{
+    size_t bytes = seal(frame, n);
+    return metlazuel_meter_answer(record, sizeof record, store, METLAZUEL_STORE_BYTES, frame, bytes, reply, METLAZUEL_FRAME_BYTES, length);
+}
+
+static void meter(void)
+{
+    check("a shorter record", metlazuel_meter_make(record, sizeof record - 1, METER, MINUTES, 2000, 100, 0, 24, 5, 17, 0, 0, 0, 1)
+                                  == METLAZUEL_TOO_SHORT);
+    check("a record", metlazuel_meter_make(record, sizeof record, METER, MINUTES, 2000, 100, 0, 24, 5, 17, 0, 0, 0, 1) == METLAZUEL_DONE);
+    check("a longer store", metlazuel_meter_slice(record, sizeof record, store, sizeof store, 5, 17, 3, 1, 2, 3, 0x0504)
+                                == METLAZUEL_UNSOUND);
+    check("a store", metlazuel_meter_slice(record, sizeof record, store, METLAZUEL_STORE_BYTES, 5, 17, 3, 1, 2, 3, 0x0504)
+                         == METLAZUEL_DONE);
+}
+
+// A slot asked for and taken: the ask, its frame, the reply and the cell.
+static void cell_bytes(void)
+{
+    uint8_t ask[METLAZUEL_ASK_BYTES + 1] = {0}, frame[METLAZUEL_REQUEST_BYTES], reply[METLAZUEL_FRAME_BYTES], result, kind;
+    const uint8_t *cell = image + METLAZUEL_HEADER_BYTES + 3 * METLAZUEL_CELL_BYTES;
+    uint16_t counts[METLAZUEL_COUNTS];
+    size_t length;
+    check("a gap's byte", cell[METLAZUEL_AT_KIND] == METLAZUEL_KIND_GAP);
+    check("a gap", metlazuel_cell(image, sizeof image, 0, 3, &kind, counts) == METLAZUEL_DONE && kind == METLAZUEL_KIND_GAP);
+    check("a longer ask", metlazuel_ask(image, sizeof image, ask, sizeof ask, METER, 0, 3, frame, sizeof frame) == METLAZUEL_UNSOUND);
+    check("a shorter frame", metlazuel_ask(image, sizeof image, ask, METLAZUEL_ASK_BYTES, METER, 0, 3, frame, sizeof frame - 1)
+                                 == METLAZUEL_TOO_SHORT);
+    check("an ask", metlazuel_ask(image, sizeof image, ask, METLAZUEL_ASK_BYTES, METER, 0, 3, frame, sizeof frame) == METLAZUEL_DONE);
+    check("its function", frame[1] == METLAZUEL_FUNCTION_READ && frame[2] == METLAZUEL_PARAMETER_SLICE);
+    check("a shorter reply", metlazuel_meter_answer(record, sizeof record, store, METLAZUEL_STORE_BYTES, frame, sizeof frame, reply,
+                                                    sizeof reply - 1, &length)
+                                 == METLAZUEL_TOO_SHORT);
+    check("a reply", metlazuel_meter_answer(record, sizeof record, store, METLAZUEL_STORE_BYTES, frame, sizeof frame, reply, sizeof reply,
+                                            &length)
+                         == METLAZUEL_DONE);
+    check("a reply taken", metlazuel_take(image, sizeof image, ask, METLAZUEL_ASK_BYTES, reply, length, &result) == METLAZUEL_DONE);
+    check("a measured cell's byte", cell[METLAZUEL_AT_KIND] == METLAZUEL_KIND_MEASURED);
+    check("E+", two_bytes(cell + METLAZUEL_AT_EPLUS) == 1);
+    check("E-", two_bytes(cell + METLAZUEL_AT_EMINUS) == 2);
+    check("R+", two_bytes(cell + METLAZUEL_AT_RPLUS) == 3);
+    check("R-", two_bytes(cell + METLAZUEL_AT_RMINUS) == 0x0504);
+    check("a measured cell", metlazuel_cell(image, sizeof image, 0, 3, &kind, counts) == METLAZUEL_DONE && kind == METLAZUEL_KIND_MEASURED
+                                 && counts[0] == 1 && counts[1] == 2 && counts[2] == 3 && counts[METLAZUEL_COUNTS - 1] == 0x0504);
+}
+
+// The next slot's reply is all zeros.
+static void empty_cell(void)
+{
+    uint8_t ask[METLAZUEL_ASK_BYTES] = {0}, frame[METLAZUEL_REQUEST_BYTES], reply[METLAZUEL_FRAME_BYTES], result, kind;
+    uint16_t counts[METLAZUEL_COUNTS];
+    size_t length;
+    check("an ask", metlazuel_ask(image, sizeof image, ask, sizeof ask, METER, 0, 4, frame, sizeof frame) == METLAZUEL_DONE);
+    check("a reply", exchange(frame, sizeof frame - 2, reply, &length) == METLAZUEL_DONE);
+    check("a reply taken", metlazuel_take(image, sizeof image, ask, sizeof ask, reply, length, &result) == METLAZUEL_DONE);
+    check("an empty cell's byte", image[METLAZUEL_HEADER_BYTES + 4 * METLAZUEL_CELL_BYTES + METLAZUEL_AT_KIND] == METLAZUEL_KIND_EMPTY);
+    check("an empty cell", metlazuel_cell(image, sizeof image, 0, 4, &kind, counts) == METLAZUEL_DONE && kind == METLAZUEL_KIND_EMPTY);
+}
+
+// A day whose slot 3 is measured, made to have no gap.
+static void gaps(void)
+{
+    uint8_t slot = 1;
+    for (size_t i = 0; i < 96; i++)
+        if (i != 3)
+            image[METLAZUEL_HEADER_BYTES + i * METLAZUEL_CELL_BYTES + METLAZUEL_AT_KIND] = METLAZUEL_KIND_EMPTY;
+    check("no gap", metlazuel_next_gap(image, sizeof image, 0, 0, &slot) == METLAZUEL_DONE && slot == METLAZUEL_NO_GAP);
+    check("a gap of the next day", metlazuel_next_gap(image, sizeof image, 1, 5, &slot) == METLAZUEL_DONE && slot == 5);
+    check("a slot past the day", metlazuel_next_gap(image, sizeof image, 1, 96, &slot) == METLAZUEL_DONE && slot == METLAZUEL_NO_GAP);
+}
+
+static void report_row(void)
+{
+    uint32_t row[METLAZUEL_ROW];
+    check("a shorter row", metlazuel_day_report(image, sizeof image, 0, row, METLAZUEL_ROW - 1) == METLAZUEL_TOO_SHORT);
+    check("a row", metlazuel_day_report(image, sizeof image, 0, row, METLAZUEL_ROW) == METLAZUEL_DONE && row[0] == 0 && row[1] == 95
+                       && row[2] == 1 && row[6] == 0x0504);
+}
+
+// The parameters that can be read: the request, how many figures the reply has, and one of them, as the meter was made.
+static const struct {
+    const char *what;
+    uint8_t parameter, offset, tariff, detail;
+    size_t figures, place;
+    uint32_t figure;
+} reads[] = {
+    {"active power", METLAZUEL_PARAMETER_ACTIVE_POWER, 0, 0, 0, 4, 1, 0x3F800000},
+    {"reactive power", METLAZUEL_PARAMETER_REACTIVE_POWER, 0, 0, 1, 1, 0, 0x40000000},
+    {"address", METLAZUEL_PARAMETER_ADDRESS, 0, 0, 0, 1, 0, METER},
+    {"telemetry", METLAZUEL_PARAMETER_TELEMETRY, 0, 0, 0, 3, 0, 2000},
+    {"summer date", METLAZUEL_PARAMETER_SUMMER_DATE, 0, 0, 0, 6, 1, 3},
+    {"winter date", METLAZUEL_PARAMETER_WINTER_DATE, 0, 0, 0, 6, 1, 10},
+    {"clock", METLAZUEL_PARAMETER_CLOCK, 0, 0, 0, 6, 0, 24},
+    {"display mask", METLAZUEL_PARAMETER_DISPLAY_MASK, 0, 0, 0, 3, 0, 0xFFFFFFFF},
+    {"slice", METLAZUEL_PARAMETER_SLICE, 5, 17, 3, 4, 3, 0x0504},
+    {"six slices", METLAZUEL_PARAMETER_SIX_SLICES, 5, 17, 3, METLAZUEL_FIGURES, 3, 0x0504},
+};
+
+static void read_one(size_t i)
+{
+    uint8_t frame[METLAZUEL_REQUEST_BYTES], reply[METLAZUEL_FRAME_BYTES], result;
+    uint8_t parameter = reads[i].parameter, offset = reads[i].offset, tariff = reads[i].tariff, detail = reads[i].detail;
+    uint32_t row[METLAZUEL_FIGURES] = {0};
+    size_t length, count = 0;
+    check(reads[i].what, metlazuel_request(METER, parameter, offset, tariff, detail, frame, sizeof frame) == METLAZUEL_DONE
+                             && frame[1] == METLAZUEL_FUNCTION_READ && frame[2] == parameter);
+    check(reads[i].what, exchange(frame, sizeof frame - 2, reply, &length) == METLAZUEL_DONE);
+    check(reads[i].what, metlazuel_decode(METER, parameter, offset, tariff, detail, reply, length, row, reads[i].figures - 1, &count, &result)
+                             == METLAZUEL_TOO_SHORT);
+    check(reads[i].what, metlazuel_decode(METER, parameter, offset, tariff, detail, reply, length, row, reads[i].figures, &count, &result)
+                                 == METLAZUEL_DONE
+                             && count == reads[i].figures && row[reads[i].place] == reads[i].figure);
+}
+
+static void parameters(void)
+{
+    check("active powers set",
+          metlazuel_meter_powers(record, sizeof record, METLAZUEL_PARAMETER_ACTIVE_POWER, 0x3F800000, 0, 0) == METLAZUEL_DONE);
+    check("reactive powers set",
+          metlazuel_meter_powers(record, sizeof record, METLAZUEL_PARAMETER_REACTIVE_POWER, 0x40000000, 0, 0) == METLAZUEL_DONE);
+    for (size_t i = 0; i < sizeof reads / sizeof reads[0]; i++)
+        read_one(i);
+}
+
+// A command other than a read: what is answered, and the function of the reply.
+static void command(const char *what, uint8_t function, uint8_t parameter, const uint8_t *data, size_t n, uint8_t answer)
+{
+    uint8_t frame[METLAZUEL_FRAME_BYTES] = {METER, function, parameter, 0}, reply[METLAZUEL_FRAME_BYTES];
+    size_t length = 0;
+    memcpy(frame + 4, data, n);
+    check(what, exchange(frame, 4 + n, reply, &length) == answer);
+    check(what, reply[1] == (answer == METLAZUEL_DONE ? function : (function | METLAZUEL_FUNCTION_REFUSED)));
+}
+
+// The factory's password opens every change, until the level is shut again.
+static void functions(void)
+{
+    static const uint8_t password[PASSWORD_BYTES] = {'0', '0', '0', '0', '0', '0', '0', '0'};
+    command("zeroing while shut", METLAZUEL_FUNCTION_ZERO, METLAZUEL_PARAMETER_SLICE, password, 0, METLAZUEL_NO_ACCESS);
+    command("unlock", METLAZUEL_FUNCTION_UNLOCK, 0, password, sizeof password, METLAZUEL_DONE);
+    command("password", METLAZUEL_FUNCTION_CHANGE, METLAZUEL_PARAMETER_PASSWORD, password, sizeof password, METLAZUEL_DONE);
+    command("zeroing", METLAZUEL_FUNCTION_ZERO, METLAZUEL_PARAMETER_SLICE, password, 0, METLAZUEL_DONE);
+    command("lock", METLAZUEL_FUNCTION_LOCK, 0, password, 0, METLAZUEL_DONE);
+    command("zeroing while shut again", METLAZUEL_FUNCTION_ZERO, METLAZUEL_PARAMETER_SLICE, password, 0, METLAZUEL_NO_ACCESS);
+}
+
+// Each of the meter's refusals.
+static void meter_answers(void)
+{
+    static const uint8_t zeros[2] = {0}, ones[2] = {1, 1};
+    uint8_t frame[METLAZUEL_FRAME_BYTES] = {METER + 1, METLAZUEL_FUNCTION_READ, METLAZUEL_PARAMETER_CLOCK}, reply[METLAZUEL_FRAME_BYTES];
+    size_t length;
+    check("another meter's frame", exchange(frame, METLAZUEL_REQUEST_BYTES - 2, reply, &length) == METLAZUEL_SILENT);
+    command("function 4", 4, METLAZUEL_PARAMETER_CLOCK, zeros, 2, METLAZUEL_UNKNOWN_FUNCTION);
+    command("parameter 1", METLAZUEL_FUNCTION_READ, 1, zeros, 2, METLAZUEL_UNKNOWN_PARAMETER);
+    command("a password read", METLAZUEL_FUNCTION_READ, METLAZUEL_PARAMETER_PASSWORD, zeros, 2, METLAZUEL_NOT_OPEN);
+    command("a byte too few", METLAZUEL_FUNCTION_READ, METLAZUEL_PARAMETER_CLOCK, zeros, 1, METLAZUEL_WRONG_LENGTH);
+    command("a field not used", METLAZUEL_FUNCTION_READ, METLAZUEL_PARAMETER_CLOCK, ones, 2, METLAZUEL_WRONG_ARGUMENT);
+}
+
+// A reply for the ask: the answer.
+static uint8_t take(uint8_t *ask, uint8_t *reply, size_t n, uint8_t *result)
+{
+    return metlazuel_take(image, sizeof image, ask, METLAZUEL_ASK_BYTES, reply, n, result);
+}
+
+// Each refusal of an ask and of its reply; slot 3 is measured.
+static void reader_answers(void)
+{
+    uint8_t ask[METLAZUEL_ASK_BYTES] = {0}, out[METLAZUEL_REQUEST_BYTES], result = 0;
+    uint8_t reply[METLAZUEL_FRAME_BYTES] = {METER, METLAZUEL_FUNCTION_READ, METLAZUEL_PARAMETER_SLICE, 0, 9};
+    uint8_t refusal[6] = {METER, METLAZUEL_FUNCTION_READ | METLAZUEL_FUNCTION_REFUSED, METLAZUEL_PARAMETER_SLICE, 3};
+    check("no ask open", take(ask, reply, seal(reply, 12), &result) == METLAZUEL_NO_ASK_OPEN);
+    check("a day too late", metlazuel_ask(image, sizeof image, ask, sizeof ask, METER, DAYS, 3, out, sizeof out) == METLAZUEL_NOT_IN_LOG);
+    check("an ask", metlazuel_ask(image, sizeof image, ask, sizeof ask, METER, 0, 3, out, sizeof out) == METLAZUEL_DONE);
+    check("a second ask", metlazuel_ask(image, sizeof image, ask, sizeof ask, METER, 0, 3, out, sizeof out) == METLAZUEL_ASK_ALREADY_OPEN);
+    check("no reply at all", take(ask, reply, 0, &result) == METLAZUEL_MALFORMED);
+    check("other counts", take(ask, reply, seal(reply, 12), &result) == METLAZUEL_OTHER_COUNTS);
+    check("an ask again", metlazuel_ask(image, sizeof image, ask, sizeof ask, METER, 0, 3, out, sizeof out) == METLAZUEL_DONE);
+    check("a refusal", take(ask, refusal, seal(refusal, 4), &result) == METLAZUEL_METER_REFUSED && result == 3);
+}
+
+static void infinite_power(void)
+{
+    uint8_t reply[METLAZUEL_FRAME_BYTES] = {METER, METLAZUEL_FUNCTION_READ, METLAZUEL_PARAMETER_ACTIVE_POWER, 0, 0, 0, 0x80, 0x7F}, result;
+    uint32_t row[METLAZUEL_FIGURES];
+    size_t count;
+    check("an infinity", metlazuel_decode(METER, METLAZUEL_PARAMETER_ACTIVE_POWER, 0, 0, 0, reply, seal(reply, 20), row, METLAZUEL_FIGURES,
+                                          &count, &result)
+                             == METLAZUEL_NOT_FINITE);
+}
+
+// A file with another byte, and with its CRC made right again where `sealed`: the answer.
+static void damaged_file(const char *what, size_t at, uint8_t byte, int sealed, uint8_t answer)
+{
+    uint8_t was = file[at];
+    size_t length;
+    file[at] = byte;
+    if (sealed)
+        seal(file, sizeof file - 2);
+    check(what, metlazuel_read_file(file, sizeof file, image, sizeof image, &length) == answer);
+    file[at] = was;
+    seal(file, sizeof file - 2);
+}
+
+static void file_answers(void)
+{
+    size_t length;
+    damaged_file("a file's mark", METLAZUEL_AT_MARK, 'g', 1, METLAZUEL_FILE_MARK);
+    damaged_file("a file's version", METLAZUEL_AT_VERSION, 9, 1, METLAZUEL_FILE_VERSION);
+    damaged_file("a file's header", METLAZUEL_AT_MONTH, 13, 1, METLAZUEL_FILE_HEADER);
+    damaged_file("a file's length", METLAZUEL_AT_DAYS, 1, 1, METLAZUEL_FILE_LENGTH);
+    damaged_file("a file's CRC", METLAZUEL_HEADER_BYTES, METLAZUEL_KIND_EMPTY, 0, METLAZUEL_FILE_CRC);
+    damaged_file("a file's cell", METLAZUEL_HEADER_BYTES, METLAZUEL_KIND_MEASURED, 1, METLAZUEL_FILE_CELL);
+    check("the file itself", metlazuel_read_file(file, sizeof file, image, sizeof image, &length) == METLAZUEL_DONE);
+}
+
+int main(void)
+{
+    longest_log();
+    header_bytes();
+    meter();
+    cell_bytes();
+    empty_cell();
+    gaps();
+    report_row();
+    parameters();
+    functions();
+    meter_answers();
+    reader_answers();
+    infinite_power();
+    file_answers();
+    return wrong;
+}
