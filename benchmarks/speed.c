@@ -229,12 +229,14 @@ static void same_write(size_t n, size_t room)
 static void same_take(const uint8_t *open, size_t size, const uint8_t *reply, size_t bytes)
 {
     uint8_t a[5], b[5], ours = 7, c = 7;
+    size_t ours_length = 99, c_length = 99;
     memcpy(a, open, sizeof a);
     memcpy(b, open, sizeof b);
     memcpy(ours_out, file, IMAGE);
     memcpy(c_out, file, IMAGE);
-    uint8_t x = metlazuel_take(ours_out, IMAGE, a, size, reply, bytes, &ours), y = c_take(c_out, IMAGE, b, size, reply, bytes, &c);
-    if (x != y || ours != c || memcmp(a, b, sizeof a) != 0 || memcmp(ours_out, c_out, IMAGE) != 0)
+    uint8_t x = metlazuel_take(ours_out, IMAGE, a, size, reply, bytes, &ours, &ours_length);
+    uint8_t y = c_take(c_out, IMAGE, b, size, reply, bytes, &c, &c_length);
+    if (x != y || ours != c || ours_length != c_length || memcmp(a, b, sizeof a) != 0 || memcmp(ours_out, c_out, IMAGE) != 0)
         differ("take");
     compared++;
     refused += x != 0;
@@ -395,6 +397,7 @@ static void plain_absent(void) { plain_answer(absent_frame); }
 
 // The reply to an ask for the last slot of the log, which is measured with the same counts.
 static uint8_t taken[14] = {1, 3, 36, 0}, result;
+static size_t received;
 
 static void make_reply(void)
 {
@@ -405,13 +408,13 @@ static void make_reply(void)
 static void ours_take(void)
 {
     uint8_t ask[4] = {1, 1, DAYS - 1, SLOTS - 1};
-    sink += metlazuel_take(file, IMAGE, ask, 4, taken, 14, &result);
+    sink += metlazuel_take(file, IMAGE, ask, 4, taken, 14, &result, &received);
 }
 
 static void plain_take(void)
 {
     uint8_t ask[4] = {1, 1, DAYS - 1, SLOTS - 1};
-    sink += c_take(file, IMAGE, ask, 4, taken, 14, &result);
+    sink += c_take(file, IMAGE, ask, 4, taken, 14, &result, &received);
 }
 
 struct row {

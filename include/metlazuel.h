@@ -12,14 +12,14 @@
 #include <stddef.h>
 #include <stdint.h>
 
-// What is declared here, as major * 10000 + minor * 100 + patch: 1.0.0. What is there today stays as it is while the major number does.
-#define METLAZUEL_VERSION 10000
+// What is declared here, as major * 10000 + minor * 100 + patch: 2.0.0. What is there today stays as it is while the major number does.
+#define METLAZUEL_VERSION 20000
 
 #ifdef __cplusplus
 extern "C" {
 #endif
 
-// The answers: the numbers of document 01's refusal table.
+// The answers: the numbers of document 01's refusal table, and 50 to 54 of document 02's request 2.
 enum metlazuel_answer {
     METLAZUEL_DONE = 0,
     METLAZUEL_TOO_SHORT = 1,          // a lent output that is too short
@@ -33,7 +33,6 @@ enum metlazuel_answer {
     METLAZUEL_NO_ASK_OPEN = 20,
     METLAZUEL_ASK_ALREADY_OPEN = 21,
     METLAZUEL_NOT_IN_LOG = 22,        // an interval or a day that the log does not have
-    METLAZUEL_MALFORMED = 23,         // a reply that is not well formed
     METLAZUEL_METER_REFUSED = 24,     // a well-formed reply whose result is not 0
     METLAZUEL_OTHER_COUNTS = 25,      // a reply with other counts than those measured
     METLAZUEL_NOT_FINITE = 26,        // a power reply with an infinity or no number
@@ -44,7 +43,12 @@ enum metlazuel_answer {
     METLAZUEL_FILE_HEADER = 32,
     METLAZUEL_FILE_LENGTH = 33,
     METLAZUEL_FILE_CRC = 34,
-    METLAZUEL_FILE_CELL = 35
+    METLAZUEL_FILE_CELL = 35,
+    METLAZUEL_REPLY_LENGTH = 50,      // a reply that is not well formed: of a wrong length,
+    METLAZUEL_REPLY_CRC = 51,         //   with a wrong CRC (both speak of the cable),
+    METLAZUEL_REPLY_ADDRESS = 52,     //   of another address,
+    METLAZUEL_REPLY_FUNCTION = 53,    //   with another function, or a top bit that belies its result,
+    METLAZUEL_REPLY_PARAMETER = 54    //   about another parameter (all three of a setting)
 };
 
 // Lengths. The first three are exact; an output may be longer than what goes into it.
@@ -154,10 +158,12 @@ uint8_t metlazuel_ask(const uint8_t *log, size_t n, uint8_t *ask, size_t size, u
 // No well-formed reply came: closes the ask; with none open the bytes stay as they are. UNSOUND, else DONE.
 uint8_t metlazuel_lapse(uint8_t *ask, size_t size);
 
-// Takes a reply for the open ask into the log. UNSOUND (log or ask), NO_ASK_OPEN, NOT_IN_LOG, MALFORMED (the ask stays open),
-// METER_REFUSED (the ask is closed, and the meter's result stored through result, which every other answer leaves), UNSOUND (the
-// interval's cell), OTHER_COUNTS (the ask is closed, the cell stays), else DONE (the ask is closed).
-uint8_t metlazuel_take(uint8_t *log, size_t n, uint8_t *ask, size_t size, const uint8_t *reply, size_t bytes, uint8_t *result);
+// Takes a reply for the open ask into the log. UNSOUND (log or ask), NO_ASK_OPEN, NOT_IN_LOG, REPLY_LENGTH (the length received is stored
+// through length, which every other answer leaves) to REPLY_PARAMETER, the first that is wrong (the ask stays open), METER_REFUSED (the ask
+// is closed, and the meter's result stored through result, which every other answer leaves), UNSOUND (the interval's cell), OTHER_COUNTS
+// (the ask is closed, the cell stays), else DONE (the ask is closed).
+uint8_t metlazuel_take(uint8_t *log, size_t n, uint8_t *ask, size_t size, const uint8_t *reply, size_t bytes, uint8_t *result,
+                       size_t *length);
 
 // A day's report, the days counted from 0: the number of gaps, empty and measured cells, then the sums of E+, E-, R+ and R-, to the front
 // of a row of at least METLAZUEL_ROW numbers. TOO_SHORT, UNSOUND (log), NOT_IN_LOG, UNSOUND (a cell of the day), else DONE.
@@ -189,10 +195,10 @@ uint8_t metlazuel_request(uint8_t address, uint8_t parameter, uint8_t offset, ui
 //   slice                 4   E+, E-, R+, R-
 //   six slices           24   six such rows
 // TOO_SHORT (a row for fewer figures than a reply to this request has), OUT_OF_RANGE (a request that no meter would answer with result
-// 0), MALFORMED, METER_REFUSED (the meter's result is stored through result, which every other answer leaves), NOT_FINITE, else DONE. A
-// refusal leaves figures and *count.
+// 0), REPLY_LENGTH (the length received is stored through length, which every other answer leaves) to REPLY_PARAMETER, METER_REFUSED (the
+// meter's result is stored through result, which every other answer leaves), NOT_FINITE, else DONE. A refusal leaves figures and *count.
 uint8_t metlazuel_decode(uint8_t address, uint8_t parameter, uint8_t offset, uint8_t tariff, uint8_t detail, const uint8_t *reply,
-                         size_t bytes, uint32_t *figures, size_t room, size_t *count, uint8_t *result);
+                         size_t bytes, uint32_t *figures, size_t room, size_t *count, uint8_t *result, size_t *length);
 
 // ---- the bench meter
 //

@@ -61,15 +61,16 @@ static void make_meter(void)
 static void fill(size_t n)
 {
     uint8_t ask[METLAZUEL_ASK_BYTES] = {0}, frame[METLAZUEL_REQUEST_BYTES], reply[METLAZUEL_FRAME_BYTES], result;
+    size_t received;
     for (uint8_t slot = 0; slot < 3; slot++) {
         expect("ask", metlazuel_ask(image, n, ask, sizeof ask, METER, 0, slot, frame, sizeof frame), METLAZUEL_DONE);
         size_t length = exchange(frame, reply);
         if (slot == 2)
             expect("lapse", metlazuel_lapse(ask, sizeof ask), METLAZUEL_DONE);
         else
-            expect("take", metlazuel_take(image, n, ask, sizeof ask, reply, length, &result), METLAZUEL_DONE);
+            expect("take", metlazuel_take(image, n, ask, sizeof ask, reply, length, &result, &received), METLAZUEL_DONE);
     }
-    expect("take", metlazuel_take(image, n, ask, sizeof ask, reply, sizeof reply, &result), METLAZUEL_NO_ASK_OPEN);
+    expect("take", metlazuel_take(image, n, ask, sizeof ask, reply, sizeof reply, &result, &received), METLAZUEL_NO_ASK_OPEN);
 }
 
 // The cells of the three slots, and the day's gaps.
@@ -111,18 +112,21 @@ static void save(size_t n)
            again == n && memcmp(back, image, n) == 0 ? "the same" : "another");
 }
 
-// A parameter without further fields, read and decoded; a reply with a damaged byte is not taken for one.
+// A parameter without further fields, read and decoded; a reply with a damaged byte, or one that is cut, is not taken for one.
 static size_t read_figures(uint8_t parameter, uint32_t *figures)
 {
     uint8_t frame[METLAZUEL_REQUEST_BYTES], reply[METLAZUEL_FRAME_BYTES], result;
-    size_t count;
+    size_t count, received = 0;
     expect("request", metlazuel_request(METER, parameter, 0, 0, 0, frame, sizeof frame), METLAZUEL_DONE);
     size_t length = exchange(frame, reply);
-    expect("decode", metlazuel_decode(METER, parameter, 0, 0, 0, reply, length, figures, METLAZUEL_FIGURES, &count, &result),
+    expect("decode", metlazuel_decode(METER, parameter, 0, 0, 0, reply, length, figures, METLAZUEL_FIGURES, &count, &result, &received),
            METLAZUEL_DONE);
     reply[length - 3] ^= 1;
-    expect("decode", metlazuel_decode(METER, parameter, 0, 0, 0, reply, length, figures, METLAZUEL_FIGURES, &count, &result),
-           METLAZUEL_MALFORMED);
+    expect("decode", metlazuel_decode(METER, parameter, 0, 0, 0, reply, length, figures, METLAZUEL_FIGURES, &count, &result, &received),
+           METLAZUEL_REPLY_CRC);
+    expect("decode", metlazuel_decode(METER, parameter, 0, 0, 0, reply, length - 1, figures, METLAZUEL_FIGURES, &count, &result, &received),
+           METLAZUEL_REPLY_LENGTH);
+    expect("length received", received == length - 1, 1);
     return count;
 }
 

@@ -82,7 +82,7 @@ static void cell_bytes(void)
     uint8_t ask[METLAZUEL_ASK_BYTES + 1] = {0}, frame[METLAZUEL_REQUEST_BYTES], reply[METLAZUEL_FRAME_BYTES], result, kind;
     const uint8_t *cell = image + METLAZUEL_HEADER_BYTES + 3 * METLAZUEL_CELL_BYTES;
     uint16_t counts[METLAZUEL_COUNTS];
-    size_t length;
+    size_t length, received;
     check("a gap's byte", cell[METLAZUEL_AT_KIND] == METLAZUEL_KIND_GAP);
     check("a gap", metlazuel_cell(image, sizeof image, 0, 3, &kind, counts) == METLAZUEL_DONE && kind == METLAZUEL_KIND_GAP);
     check("a longer ask", metlazuel_ask(image, sizeof image, ask, sizeof ask, METER, 0, 3, frame, sizeof frame) == METLAZUEL_UNSOUND);
@@ -96,7 +96,7 @@ static void cell_bytes(void)
     check("a reply", metlazuel_meter_answer(record, sizeof record, store, METLAZUEL_STORE_BYTES, frame, sizeof frame, reply, sizeof reply,
                                             &length)
                          == METLAZUEL_DONE);
-    check("a reply taken", metlazuel_take(image, sizeof image, ask, METLAZUEL_ASK_BYTES, reply, length, &result) == METLAZUEL_DONE);
+    check("a reply taken", metlazuel_take(image, sizeof image, ask, METLAZUEL_ASK_BYTES, reply, length, &result, &received) == METLAZUEL_DONE);
     check("a measured cell's byte", cell[METLAZUEL_AT_KIND] == METLAZUEL_KIND_MEASURED);
     check("E+", two_bytes(cell + METLAZUEL_AT_EPLUS) == 1);
     check("E-", two_bytes(cell + METLAZUEL_AT_EMINUS) == 2);
@@ -111,10 +111,10 @@ static void empty_cell(void)
 {
     uint8_t ask[METLAZUEL_ASK_BYTES] = {0}, frame[METLAZUEL_REQUEST_BYTES], reply[METLAZUEL_FRAME_BYTES], result, kind;
     uint16_t counts[METLAZUEL_COUNTS];
-    size_t length;
+    size_t length, received;
     check("an ask", metlazuel_ask(image, sizeof image, ask, sizeof ask, METER, 0, 4, frame, sizeof frame) == METLAZUEL_DONE);
     check("a reply", exchange(frame, sizeof frame - 2, reply, &length) == METLAZUEL_DONE);
-    check("a reply taken", metlazuel_take(image, sizeof image, ask, sizeof ask, reply, length, &result) == METLAZUEL_DONE);
+    check("a reply taken", metlazuel_take(image, sizeof image, ask, sizeof ask, reply, length, &result, &received) == METLAZUEL_DONE);
     check("an empty cell's byte", image[METLAZUEL_HEADER_BYTES + 4 * METLAZUEL_CELL_BYTES + METLAZUEL_AT_KIND] == METLAZUEL_KIND_EMPTY);
     check("an empty cell", metlazuel_cell(image, sizeof image, 0, 4, &kind, counts) == METLAZUEL_DONE && kind == METLAZUEL_KIND_EMPTY);
 }
@@ -163,13 +163,15 @@ static void read_one(size_t i)
     uint8_t frame[METLAZUEL_REQUEST_BYTES], reply[METLAZUEL_FRAME_BYTES], result;
     uint8_t parameter = reads[i].parameter, offset = reads[i].offset, tariff = reads[i].tariff, detail = reads[i].detail;
     uint32_t row[METLAZUEL_FIGURES] = {0};
-    size_t length, count = 0;
+    size_t length, count = 0, received;
     check(reads[i].what, metlazuel_request(METER, parameter, offset, tariff, detail, frame, sizeof frame) == METLAZUEL_DONE
                              && frame[1] == METLAZUEL_FUNCTION_READ && frame[2] == parameter);
     check(reads[i].what, exchange(frame, sizeof frame - 2, reply, &length) == METLAZUEL_DONE);
-    check(reads[i].what, metlazuel_decode(METER, parameter, offset, tariff, detail, reply, length, row, reads[i].figures - 1, &count, &result)
+    check(reads[i].what, metlazuel_decode(METER, parameter, offset, tariff, detail, reply, length, row, reads[i].figures - 1, &count, &result,
+                                          &received)
                              == METLAZUEL_TOO_SHORT);
-    check(reads[i].what, metlazuel_decode(METER, parameter, offset, tariff, detail, reply, length, row, reads[i].figures, &count, &result)
+    check(reads[i].what, metlazuel_decode(METER, parameter, offset, tariff, detail, reply, length, row, reads[i].figures, &count, &result,
+                                          &received)
                                  == METLAZUEL_DONE
                              && count == reads[i].figures && row[reads[i].place] == reads[i].figure);
 }
@@ -223,7 +225,39 @@ static void meter_answers(void)
 // A reply for the ask: the answer.
 static uint8_t take(uint8_t *ask, uint8_t *reply, size_t n, uint8_t *result)
 {
-    return metlazuel_take(image, sizeof image, ask, METLAZUEL_ASK_BYTES, reply, n, result);
+    size_t received;
+    return metlazuel_take(image, sizeof image, ask, METLAZUEL_ASK_BYTES, reply, n, result, &received);
+}
+
+// A reply for the open ask with one byte changed, and its CRC made right again where `sealed`: the answer, which leaves ask and length.
+static void damaged_reply(const char *what, uint8_t *ask, uint8_t *reply, size_t at, int sealed, uint8_t answer)
+{
+    uint8_t was = reply[at], result = 7;
+    size_t n = seal(reply, 12), received = 99;
+    reply[at] ^= 1;
+    if (sealed)
+        seal(reply, 12);
+    check(what, metlazuel_take(image, sizeof image, ask, METLAZUEL_ASK_BYTES, reply, n, &result, &received) == answer);
+    check(what, result == 7 && received == 99 && ask[0] == 1);
+    reply[at] = was;
+}
+
+// What is wrong with a reply, the first thing first.
+static void reply_faults(uint8_t *ask, uint8_t *reply)
+{
+    uint8_t result = 7;
+    size_t received = 99;
+    check("no reply at all", metlazuel_take(image, sizeof image, ask, METLAZUEL_ASK_BYTES, reply, 0, &result, &received)
+                                     == METLAZUEL_REPLY_LENGTH
+                                 && received == 0);
+    check("a long reply", metlazuel_take(image, sizeof image, ask, METLAZUEL_ASK_BYTES, file, 300, &result, &received)
+                                  == METLAZUEL_REPLY_LENGTH
+                              && received == 300);
+    damaged_reply("another byte", ask, reply, 5, 0, METLAZUEL_REPLY_CRC);
+    damaged_reply("another address", ask, reply, 0, 1, METLAZUEL_REPLY_ADDRESS);
+    damaged_reply("another function", ask, reply, 1, 1, METLAZUEL_REPLY_FUNCTION);
+    damaged_reply("a top bit that is missing", ask, reply, 3, 1, METLAZUEL_REPLY_FUNCTION);
+    damaged_reply("another parameter", ask, reply, 2, 1, METLAZUEL_REPLY_PARAMETER);
 }
 
 // Each refusal of an ask and of its reply; slot 3 is measured.
@@ -236,7 +270,7 @@ static void reader_answers(void)
     check("a day too late", metlazuel_ask(image, sizeof image, ask, sizeof ask, METER, DAYS, 3, out, sizeof out) == METLAZUEL_NOT_IN_LOG);
     check("an ask", metlazuel_ask(image, sizeof image, ask, sizeof ask, METER, 0, 3, out, sizeof out) == METLAZUEL_DONE);
     check("a second ask", metlazuel_ask(image, sizeof image, ask, sizeof ask, METER, 0, 3, out, sizeof out) == METLAZUEL_ASK_ALREADY_OPEN);
-    check("no reply at all", take(ask, reply, 0, &result) == METLAZUEL_MALFORMED);
+    reply_faults(ask, reply);
     check("other counts", take(ask, reply, seal(reply, 12), &result) == METLAZUEL_OTHER_COUNTS);
     check("an ask again", metlazuel_ask(image, sizeof image, ask, sizeof ask, METER, 0, 3, out, sizeof out) == METLAZUEL_DONE);
     check("a refusal", take(ask, refusal, seal(refusal, 4), &result) == METLAZUEL_METER_REFUSED && result == 3);
@@ -246,9 +280,9 @@ static void infinite_power(void)
 {
     uint8_t reply[METLAZUEL_FRAME_BYTES] = {METER, METLAZUEL_FUNCTION_READ, METLAZUEL_PARAMETER_ACTIVE_POWER, 0, 0, 0, 0x80, 0x7F}, result;
     uint32_t row[METLAZUEL_FIGURES];
-    size_t count;
+    size_t count, received;
     check("an infinity", metlazuel_decode(METER, METLAZUEL_PARAMETER_ACTIVE_POWER, 0, 0, 0, reply, seal(reply, 20), row, METLAZUEL_FIGURES,
-                                          &count, &result)
+                                          &count, &result, &received)
                              == METLAZUEL_NOT_FINITE);
 }
 

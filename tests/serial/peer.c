@@ -6,6 +6,7 @@
  * what becomes of its reply; every other reply is relayed as it came:
  *
  *   NUMBER damage BYTE MASK    this byte is changed where the mask has bits
+ *   NUMBER forge BYTE MASK     likewise, and the CRC is made right again
  *   NUMBER delay MILLISECONDS  it comes late
  *   NUMBER drop                it never comes
  *   NUMBER repeat MILLISECONDS it comes again, so much later
@@ -74,10 +75,25 @@ static void sleep_for(int milliseconds) {
     usleep(milliseconds * 1000);
 }
 
+/* The CRC of a frame's bytes, behind them, the low byte first. */
+static void seal(unsigned char *frame, int n) {
+    unsigned crc = 0xFFFF;
+    for (int i = 0; i < n; i++) {
+        crc ^= frame[i];
+        for (int bit = 0; bit < 8; bit++) crc = crc & 1 ? crc >> 1 ^ 0xA001 : crc >> 1;
+    }
+    frame[n] = crc & 0xFF;
+    frame[n + 1] = crc >> 8;
+}
+
 static void treat(int fd, struct treatment t, unsigned char *reply, int n) {
     if (!strcmp(t.what, "drop")) return;
     if (!strcmp(t.what, "delay")) sleep_for(t.a);
     if (!strcmp(t.what, "damage") && t.a < n) reply[t.a] ^= t.b;
+    if (!strcmp(t.what, "forge") && t.a + 2 < n) {
+        reply[t.a] ^= t.b;
+        seal(reply, n - 2);
+    }
     if (!strcmp(t.what, "cut") && t.a < n) n = t.a;
     if (!strcmp(t.what, "append") && n + t.a <= ROOM) {
         memset(reply + n, 0x55, t.a);

@@ -32,7 +32,7 @@ fn log_lines() {
     put(b"    save PATH: 0; ? where the file cannot be written\n");
     put(b"    ask ADDRESS DAY SLOT: 0 FRAME\n");
     put(b"    lapse: 0\n");
-    put(b"    reply BYTES: 0; 24 RESULT\n");
+    put(b"    reply BYTES: 0; 24 RESULT; 50 LENGTH\n");
     put(b"    open: 0 closed; 0 ADDRESS DAY SLOT\n");
     put(b"    cell DAY SLOT: 0 gap; 0 empty; 0 measured E+ E- R+ R-\n");
     put(b"    report DAY: 0 GAPS EMPTIES MEASURED E+ E- R+ R-\n");
@@ -40,7 +40,9 @@ fn log_lines() {
 
 fn reader_lines() {
     put(b"    request ADDRESS PARAMETER OFFSET TARIFF DETAIL: 0 FRAME\n");
-    put(b"    decode ADDRESS PARAMETER OFFSET TARIFF DETAIL BYTES: 0 and the figures; 24 RESULT\n");
+    put(
+        b"    decode ADDRESS PARAMETER OFFSET TARIFF DETAIL BYTES: 0 and the figures; 24 RESULT; 50 LENGTH\n",
+    );
 }
 
 fn meter_lines() {

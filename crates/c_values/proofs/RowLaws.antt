@@ -16,6 +16,7 @@ use Rattle.request.specs.Subject.{subjectOf, mostSlots, askable, dataBytes}
 use Rattle.request.specs.declared.request.Request.{Request}
 use Rattle.request.specs.declared.subject.Subject.{Subject}
 use Rattle.reader.specs.Form.{formOf}
+use Rattle.reader.proofs.FormLaws.{fault-above}
 use Rattle.reader.specs.Rows.{replyData}
 use Rattle.reader.specs.Reply.{powersFigure, powerFigure, phaseFigures, readFigures, figuresOf, repliedOf, decodedOf, numberOf}
 use Rattle.reader.specs.declared.form.Form.{Form}
@@ -84,10 +85,10 @@ module _ (q : Request) (y : List ℕ) where
   abbrev asked : Subject
   asked = subjectOf q mostSlots
 
-  formed-foretold : (f : Form) → askable asked ≡ true → formOf (q .address) (q .parameter) (6 + dataBytes asked) y ≡ f → Foretold asked y (decodedOf q y)
+  formed-foretold : (f : Form) → askable asked ≡ true → formOf (q .address) 3 (q .parameter) (6 + dataBytes asked) y ≡ f → Foretold asked y (decodedOf q y)
   unfolding decodedOf
   formed-foretold WellFormed a e = rw (a, e) (replied-foretold asked y)
-  formed-foretold (Faulty fault) a e = rw (a, e) (λ n. absurd (omega arith))
+  formed-foretold (Faulty fault) a e = rw (a, e) (λ n. absurd (omega (arith, fault-above fault)))
 
   -- so a row as long as was foretold holds all figures
   pub decoded-foretold : Foretold asked y (decodedOf q y)
@@ -95,5 +96,5 @@ module _ (q : Request) (y : List ℕ) where
   decoded-foretold = go (askable asked) refl
     where
       go : (b : Bool) → askable asked ≡ b → Foretold asked y (decodedOf q y)
-      go true a = formed-foretold (formOf (q .address) (q .parameter) (6 + dataBytes asked) y) a refl
+      go true a = formed-foretold (formOf (q .address) 3 (q .parameter) (6 + dataBytes asked) y) a refl
       go false a = rw a (λ n. absurd (omega arith))

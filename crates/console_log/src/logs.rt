@@ -213,7 +213,7 @@ fn say_taken(answer: TakeAnswer) {
         TakeAnswer::Done => {}
         TakeAnswer::NoAskOpen => {}
         TakeAnswer::NotInLog => {}
-        TakeAnswer::Malformed(_) => {}
+        TakeAnswer::Malformed(fault) => crate::reads::say_fault(fault),
         TakeAnswer::MeterRefused(result) => say::number(result as u64),
         TakeAnswer::OtherCounts => {}
         TakeAnswer::Unsound => {}

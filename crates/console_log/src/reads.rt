@@ -4,6 +4,7 @@ use console::BytesAnswer;
 use console::byte;
 use console_io::say;
 use reader::Decoded;
+use reader::Fault;
 use request::Request;
 use request::RequestAnswer;
 ghost use mathlib.Core.Path.{_≡_};
@@ -88,7 +89,7 @@ fn decode_of(q: Request, reply: &[u8]) {
 pub fn say_figures(decoded: Decoded, reply: &[u8]) {
     match decoded {
         Decoded::OutOfRange => {}
-        Decoded::Malformed(_) => {}
+        Decoded::Malformed(fault) => say_fault(fault),
         Decoded::MeterRefused(result) => say::number(result as u64),
         Decoded::NotFinite => {}
         Decoded::Address(address) => say::number(address as u64),
@@ -122,6 +123,17 @@ pub fn say_figures(decoded: Decoded, reply: &[u8]) {
             say::number(c.r_minus.0 as u64);
         }
         Decoded::SixSlices => say_rows(reader::six_slices(reply)),
+    }
+}
+
+// The length received, which a 50 comes with.
+pub fn say_fault(fault: Fault) {
+    match fault {
+        Fault::Length(n) => say::number(n as u64),
+        Fault::Crc => {}
+        Fault::Address => {}
+        Fault::Function => {}
+        Fault::Parameter => {}
     }
 }
 

@@ -1,6 +1,6 @@
 -- Demand 1, call by call: each definition ends in one of its answers, and all but 0 hand back what was lent.
 use mathlib.Core.Path.{_≡_, refl}
-use mathlib.Core.Bool.{Bool, true, cond, _&&_}
+use mathlib.Core.Bool.{Bool, true, false, cond, _&&_}
 use mathlib.Core.List.{List}
 use Prim.Native.Nat.{ℕ}
 use lib.Dec.{eqb, leb, ltb}
@@ -16,6 +16,9 @@ use Rattle.calendar.specs.declared.date.Date.{Date}
 use Rattle.request.specs.Request as request
 use Rattle.request.specs.Subject.{subjectOf, askable, mostSlots}
 use Rattle.request.specs.declared.request.Request.{Request}
+use Rattle.reader.specs.Form.{faultNumber}
+use Rattle.reader.specs.declared.form.Fault.{Fault}
+use Rattle.reader.specs.declared.form.Fault.the-variants as fault
 use Rattle.reader.specs.Reply as reader
 use Rattle.reader.specs.declared.reply.Decoded.{Decoded}
 use Rattle.reader.specs.declared.reply.Decoded.the-variants as decoded
@@ -83,10 +86,18 @@ put-request q out =
     either P (ltb (length out) readSize) (stays 1 out refl)
     (either P (askable (subjectOf q mostSlots)) (done out _) (stays 27 out refl))
 
+fault-in-table : (f : Fault) → inTable (faultNumber f) ≡ true
+unfolding inTable
+fault-in-table (fault.Length n) = refl
+fault-in-table fault.Crc = refl
+fault-in-table fault.Address = refl
+fault-in-table fault.Function = refl
+fault-in-table fault.Parameter = refl
+
 pub decode : (d : Decoded) → inTable (reader.numberOf d) ≡ true
 unfolding inTable
 decode decoded.OutOfRange = refl
-decode (decoded.Malformed fault) = refl
+decode (decoded.Malformed f) = fault-in-table f
 decode (decoded.MeterRefused result) = refl
 decode decoded.NotFinite = refl
 decode (decoded.Address a) = refl
@@ -198,6 +209,14 @@ record TakenEnds (s : List ℕ) (held : OpenAsk) (o : Outcome Taken (List ℕ)) 
   log : Ends (taking.numberOf (o .result .answer)) s (o .left)
   ask : o .result .held ≡ cond (closes (taking.numberOf (o .result .answer))) Closed held
 
+-- a reply that is not well formed leaves the ask open
+fault-open : (f : Fault) → closes (faultNumber f) ≡ false
+fault-open (fault.Length n) = refl
+fault-open fault.Crc = refl
+fault-open fault.Address = refl
+fault-open fault.Function = refl
+fault-open fault.Parameter = refl
+
 taken-ends : (s : List ℕ) (held : OpenAsk) (y : List ℕ) → TakenEnds s held (taking.taken s held y)
 unfolding taking.taken applied inTable
 taken-ends s held y =
@@ -206,7 +225,7 @@ taken-ends s held y =
     record {
       no-ask = λ o. record { log = stays 20 s refl; ask = refl };
       outside = λ a d t o n. record { log = stays 22 s refl; ask = refl };
-      malformed = λ i o fault n. record { log = stays 23 s refl; ask = refl };
+      malformed = λ i o f n. record { log = stays (faultNumber f) s (fault-in-table f); ask = rw fault-open };
       refused = λ i o r. record { log = stays 24 s refl; ask = refl };
       bad-cell = λ i o b. record { log = stays 28 s refl; ask = refl };
       counted = λ i o r c g.

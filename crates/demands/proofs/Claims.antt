@@ -5,6 +5,7 @@ use Rattle.demands.specs.Demand2.{Demand2}
 use Rattle.demands.specs.Demand2Again.{Demand2Again}
 use Rattle.demands.specs.Demand2Done.{Demand2Done}
 use Rattle.demands.specs.Demand3.{Demand3}
+use Rattle.demands.specs.Faults.{ReplyFaults}
 use Rattle.demands.specs.Examples.{Marked}
 use Rattle.demands.proofs.Again as again
 use Rattle.demands.proofs.Answer as answer
@@ -12,6 +13,7 @@ use Rattle.demands.proofs.Calls as calls
 use Rattle.demands.proofs.Changes as changes
 use Rattle.demands.proofs.Done as done
 use Rattle.demands.proofs.Examples as examples
+use Rattle.demands.proofs.Faults as faults
 use Rattle.demands.proofs.History as history
 use Rattle.demands.proofs.Inquiry as inquiry
 use Rattle.demands.proofs.Left as left
@@ -104,6 +106,9 @@ demand-3 = record {
   as-long = history.as-long;
   polled = history.polled;
 }
+
+pub reply-faults : ReplyFaults
+reply-faults = record { gone = faults.gone; decode-length = faults.decode-length; take-length = faults.take-length }
 
 pub marked : Marked
 marked = record { together = examples.together }

@@ -27,6 +27,9 @@ use Rattle.meter_reading.specs.Reading.{dataOf}
 use Rattle.meter.specs.Effect.{clears, clearsBy, storeAfter}
 use Rattle.meter.specs.Reply as meter
 use Rattle.meter.specs.Reply.{isSound, heard, headOf, replied, answerOf}
+use Rattle.reader.specs.Form.{faultNumber}
+use Rattle.reader.specs.declared.form.Fault.{Fault}
+use Rattle.reader.specs.declared.form.Fault.the-variants as fault
 use Rattle.reader.specs.Reply as reader
 use Rattle.reader.specs.Reply.{decodedOf}
 use Rattle.reader.specs.declared.reply.Decoded.{Decoded}
@@ -72,11 +75,19 @@ module _ (r : Record) (s : List ℕ) (q : Request) (out : List ℕ) where
 
 -- ---- the output
 
+fault-replied : (f : Fault) → noReply (faultNumber f) ≡ false
+unfolding noReply
+fault-replied (fault.Length n) = refl
+fault-replied fault.Crc = refl
+fault-replied fault.Address = refl
+fault-replied fault.Function = refl
+fault-replied fault.Parameter = refl
+
 -- what the reader says of a reply is none of the answers without one, but for 27
 no-reply-27 : (d : Decoded) → (reader.numberOf d ≡ 27 → ⊥) → noReply (reader.numberOf d) ≡ false
 unfolding noReply
 no-reply-27 decoded.OutOfRange n = absurd (n refl)
-no-reply-27 (decoded.Malformed fault) n = refl
+no-reply-27 (decoded.Malformed f) n = fault-replied f
 no-reply-27 (decoded.MeterRefused result) n = refl
 no-reply-27 decoded.NotFinite n = refl
 no-reply-27 (decoded.Address a) n = refl

@@ -12,5 +12,6 @@ pub mod Range
 pub mod Left
 pub mod Again
 pub mod History
+pub mod Faults
 pub mod Examples
 pub mod Claims

@@ -34,6 +34,7 @@ use Rattle.request.specs.Subject.{subjectOf, subjectFor, mostSlots, askable, da
 use Rattle.request.specs.declared.request.Request.{Request}
 use Rattle.request.specs.declared.subject.Subject.{Subject}
 use Rattle.reader.specs.Form.{formOf}
+use Rattle.reader.proofs.FormLaws.{fault-above}
 use Rattle.reader.specs.Reply as decoding
 use Rattle.reader.specs.Reply.{decodedOf, repliedOf, readFigures, phaseFigures, powersFigure, powerFigure, figuresOf}
 use Rattle.reader.specs.Rows.{replyData}
@@ -100,7 +101,7 @@ figures-no-27 parameter.Unknown detail bs e h = false≢true e
 
 pub decoded-no-27 : (q : Request) (y : List ℕ) → askable (subjectOf q mostSlots) ≡ true → decoding.numberOf (decodedOf q y) ≡ 27 → ⊥
 unfolding No27 decodedOf repliedOf subjectOf
-decoded-no-27 q y a h = go (formOf (q .address) (q .parameter) (6 + dataBytes (subjectFor p q mostSlots)) y) refl (eqb (byteAt y 3) 0) refl
+decoded-no-27 q y a h = go (formOf (q .address) 3 (q .parameter) (6 + dataBytes (subjectFor p q mostSlots)) y) refl (eqb (byteAt y 3) 0) refl
   where
     p : Parameter
     p = parameterOf (q .parameter)
@@ -108,8 +109,8 @@ decoded-no-27 q y a h = go (formOf (q .address) (q .parameter) (6 + dataBytes (s
     k : request.Asked p q mostSlots
     k = request.asked p q mostSlots a
 
-    go : (f : Form) → formOf (q .address) (q .parameter) (6 + dataBytes (subjectFor p q mostSlots)) y ≡ f → (b : Bool) → eqb (byteAt y 3) 0 ≡ b → ⊥
-    go (Faulty fault) e b c = omega (arith, simp (a, e) at h)
+    go : (f : Form) → formOf (q .address) 3 (q .parameter) (6 + dataBytes (subjectFor p q mostSlots)) y ≡ f → (b : Bool) → eqb (byteAt y 3) 0 ≡ b → ⊥
+    go (Faulty fault) e b c = omega (arith, simp (a, e) at h, fault-above fault)
     go WellFormed e false c = omega (arith, simp (a, e, c) at h)
     go WellFormed e true c =
         let n : decoding.numberOf (figuresOf (subjectFor p q mostSlots) (replyData y)) ≡ 27 = simp (a, e, c) at h in

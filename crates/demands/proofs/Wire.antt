@@ -189,7 +189,7 @@ replyBody q figures = q .address ∷ 3 ∷ q .parameter ∷ 0 ∷ figures
 
 -- it is well formed for the reader that asked
 pub reply-formed : (q : Request) (figures : List ℕ) (n : ℕ) → OfBytes (replyBody q figures) → length figures ≡ n
-    → formOf (q .address) (q .parameter) (6 + n) (framed (replyBody q figures)) ≡ WellFormed
+    → formOf (q .address) 3 (q .parameter) (6 + n) (framed (replyBody q figures)) ≡ WellFormed
 unfolding formOf lengthFor functionFor headOf framed
 reply-formed q figures n b e =
     let l : length (framed (replyBody q figures)) ≡ 6 + n = length-framed (replyBody q figures) ∙ omega (arith, e) in

@@ -6,4 +6,5 @@ pub mod Demand1Inquire
 pub mod Demand2Done
 pub mod Demand2Again
 pub mod Demand3
+pub mod Faults
 pub mod Examples

@@ -29,10 +29,13 @@ use Rattle.log.specs.declared.header.Header.{Header}
 use Rattle.log.specs.declared.header.Lent.the-variants.{Sound}
 use Rattle.log.specs.declared.interval.Interval.{Interval}
 use Rattle.log.specs.declared.interval.Interval.the-variants.{At, Outside}
+use Rattle.reader.specs.declared.form.Fault.{Fault}
+use Rattle.reader.specs.declared.form.Fault.the-variants as fault
+use Rattle.logger.specs.declared.take.TakeAnswer.the-variants.{Malformed}
 use Rattle.logger.specs.Held.{ifNone, OpenFor}
 use Rattle.logger.specs.Reply.{sliceForm, resultOf, Row, rowOf}
 use Rattle.logger.proofs.TakeLaws.{by-none, by-open, by-form, by-ok, Heard, Cases, taken-cases}
-use Rattle.logger.specs.Book.{Call, ask, lapse, reply, Answer, Book, entry, plain, placeOf, keptWith, keepReply, bookReply, bookAsk, bookStep, workedOut, afresh, CallBytes}
+use Rattle.logger.specs.Book.{Call, ask, lapse, reply, Answer, Book, entry, plain, faultAnswer, placeOf, keptWith, keepReply, bookReply, bookAsk, bookStep, workedOut, afresh, CallBytes}
 use Rattle.logger.proofs.BookLaws.{effect, updateNumber, cell-more, number-more, length-workedOut, workedOut-at, workedOut-with, RowFits, Fitting, fitting-more, afresh-is-cell}
 use Rattle.logger.specs.Run.{State, step, takeAnswer}
 use Rattle.logger.specs.declared.held.OpenAsk.{OpenAsk}
@@ -100,6 +103,14 @@ module _ (h : Header) (kept : ℕ → List Row) (address day slot : ℕ) (out : 
 takeStep : List ℕ → Decision → Outcome Answer State
 takeStep s d = outcome (takeAnswer (d .taken .answer)) (record { log = applied (d .change) s; held = d .taken .held })
 
+-- log and book give a reply that is not well formed the same answer
+same-fault : (f : Fault) → takeAnswer (Malformed f) ≡ faultAnswer f
+same-fault (fault.Length n) = refl
+same-fault fault.Crc = refl
+same-fault fault.Address = refl
+same-fault fault.Function = refl
+same-fault fault.Parameter = refl
+
 -- an update of a cell of an image
 update-step : (h : Header) (cells : List Cell) (i : ℕ) (u : Update)
     → takeStep (imageOf h cells) (Take.updated u i)
@@ -157,7 +168,7 @@ module _ (h : Header) (kept : ℕ → List Row) (rows : (i : ℕ) → Fitting (k
   reply-cases held y k = record {
     no-ask = λ e. rw e (record { answer = refl; state = refl });
     outside = λ a d t o n. absurd (outside≢at (placeOf h d t) (sym n ∙ (rw o at k)));
-    malformed = λ i o fault e. rw (o .open-ask, e) (record { answer = refl; state = refl });
+    malformed = λ i o f e. rw (o .open-ask, e) (record { answer = same-fault f; state = refl });
     refused = λ i o e. rw (o .ask .open-ask, o .formed, e) (record { answer = refl; state = refl });
     bad-cell = λ i o e. absurd (bad≢good (getD cells i Gap) (sym e ∙ read-here i (below held y i o)));
     counted = λ i o e c g.

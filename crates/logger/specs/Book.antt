@@ -1,6 +1,7 @@
 -- The plain book, a term of document 01 ("The reader and the log"): "The plain book is fed only the start's header and cells and the
 -- calls' arguments, without the log and the open ask that the calls get. It holds an open ask, at first none, and replies by interval,
--- at first the cells that aren't gaps (empty as zeros)."
+-- at first the cells that aren't gaps (empty as zeros)." Document 02, request 2: "23 goes, in demand 3's book too; in its place and this
+-- order 50 length, 51 CRC, 52 address, 53 function, or a top bit that belies the result, 54 parameter."
 use mathlib.Core.Bool.{Bool, cond, not, _&&_}
 use mathlib.Core.List.{List, [], _∷_, _++_}
 use Prim.Native.Nat.{ℕ, zero, suc, _+_, _*_}
@@ -14,6 +15,8 @@ use Rattle.log.specs.declared.header.Header.{Header}
 use Rattle.log.specs.declared.cell.Cell.{Cell}
 use Rattle.log.specs.declared.cell.Cell.the-variants.{Gap, Empty, Measured}
 use Rattle.words.specs.Number.{Bytes}
+use Rattle.reader.specs.declared.form.Fault.{Fault}
+use Rattle.reader.specs.declared.form.Fault.the-variants as fault
 use Rattle.logger.specs.Held.{ifNone, ifOpen}
 use Rattle.logger.specs.Reply.{sliceForm, ifFormed, resultOf, ifOk, Row, rowOf}
 use Rattle.logger.specs.declared.held.OpenAsk.{OpenAsk}
@@ -25,13 +28,22 @@ pub data Call : Type 0 where
   lapse : Call
   reply : List ℕ → Call
 
--- document 01's number of an answer, and the meter's result that 24 returns (0 with any other)
+-- the number of an answer, the meter's result that 24 returns (0 with any other), and the length received that 50 returns (likewise)
 pub record Answer : Type 0 where
   pub number : ℕ
   pub result : ℕ
+  pub length : ℕ
 
 abbrev pub plain : ℕ → Answer
-plain n = record { number = n; result = 0 }
+plain n = record { number = n; result = 0; length = 0 }
+
+-- "For a wrong length also return the length received."
+abbrev pub faultAnswer : Fault → Answer
+faultAnswer (fault.Length n) = record { number = 50; result = 0; length = n }
+faultAnswer fault.Crc = plain 51
+faultAnswer fault.Address = plain 52
+faultAnswer fault.Function = plain 53
+faultAnswer fault.Parameter = plain 54
 
 unfoldable pub isZero : Row → Bool
 isZero r = eqb (r .e+) 0 && eqb (r .e-) 0 && eqb (r .r+) 0 && eqb (r .r-) 0
@@ -100,14 +112,14 @@ unfoldable pub keepReply : (ℕ → List Row) → ℕ → Row → Outcome Answer
 unfolding keptWith
 keepReply kept i r = entry (plain (keptAnswer (firstOf (kept i)) r)) Closed (keptWith kept i r)
 
--- "A reply gets 20 with none open. If it isn't well formed it gets 23, and the ask stays. Else the ask closes: a result other than 0
--- gets 24 with that result; any other reply is kept for the ask's interval"
+-- "A reply gets 20 with none open. If it isn't well formed it gets 23", now one of the five, "and the ask stays. Else the ask closes: a
+-- result other than 0 gets 24 with that result; any other reply is kept for the ask's interval"
 unfoldable pub bookReply : Header → OpenAsk → (ℕ → List Row) → List ℕ → Outcome Answer Book
 unfolding keepReply
 bookReply h held kept y =
     ifOpen held (entry (plain 20) held kept) (λ address day slot.
-    ifFormed (sliceForm address y) (λ fault. entry (plain 23) held kept) (
-    ifOk (resultOf y) (entry (record { number = 24; result = resultOf y }) Closed kept) (
+    ifFormed (sliceForm address y) (λ fault. entry (faultAnswer fault) held kept) (
+    ifOk (resultOf y) (entry (record { number = 24; result = resultOf y; length = 0 }) Closed kept) (
     keepReply kept (placeOf h day slot) (rowOf y))))
 
 -- "An ask gets 1, 21 or 22 by the table, else 0 and opens."

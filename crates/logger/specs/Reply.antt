@@ -4,7 +4,7 @@ use mathlib.Core.List.{List}
 use Prim.Native.Nat.{ℕ, _+_}
 use lib.Dec.{eqb}
 use Rattle.words.specs.Place.{byteAt, numberAt}
-use Rattle.frame.specs.Code.{slice}
+use Rattle.frame.specs.Code.{read, slice}
 use Rattle.frame.specs.Layout.{resultPlace, dataPlace, sliceReply}
 use Rattle.reader.specs.Form.{formOf}
 use Rattle.reader.specs.declared.form.Fault.{Fault}
@@ -13,7 +13,7 @@ use Rattle.reader.specs.declared.form.Form.the-variants.{WellFormed, Faulty}
 
 -- the form of a reply to an ask for a slice: "14 for a slice"
 abbrev pub sliceForm : ℕ → List ℕ → Form
-sliceForm address y = formOf address slice sliceReply y
+sliceForm address y = formOf address read slice sliceReply y
 
 -- one value by the fault of a reply that is not well formed, else another
 abbrev pub ifFormed : {A : Type 0} → Form → (Fault → A) → A → A

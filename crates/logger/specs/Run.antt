@@ -3,6 +3,7 @@
 use mathlib.Core.List.{List}
 use Prim.Native.Nat.{ℕ}
 use Rattle.refusal.specs.Outcome.{Outcome, outcome}
+use Rattle.reader.specs.Form.{faultLength}
 use Rattle.logger.specs.Ask as Ask
 use Rattle.logger.specs.Held.{lapsed}
 use Rattle.logger.specs.Take as Take
@@ -16,13 +17,13 @@ pub record State : Type 0 where
   pub log : List ℕ
   pub held : OpenAsk
 
--- the number of a taken reply's answer, with the result that 24 returns
+-- the number of a taken reply's answer, with the result that 24 returns and the length that 50 does
 abbrev pub takeAnswer : TakeAnswer → Answer
 takeAnswer Done = plain (Take.numberOf Done)
 takeAnswer NoAskOpen = plain (Take.numberOf NoAskOpen)
 takeAnswer NotInLog = plain (Take.numberOf NotInLog)
-takeAnswer (Malformed fault) = plain (Take.numberOf (Malformed fault))
-takeAnswer (MeterRefused result) = record { number = Take.numberOf (MeterRefused result); result = result }
+takeAnswer (Malformed fault) = record { number = Take.numberOf (Malformed fault); result = 0; length = faultLength fault }
+takeAnswer (MeterRefused result) = record { number = Take.numberOf (MeterRefused result); result = result; length = 0 }
 takeAnswer OtherCounts = plain (Take.numberOf OtherCounts)
 takeAnswer Unsound = plain (Take.numberOf Unsound)
 

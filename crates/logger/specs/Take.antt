@@ -1,11 +1,13 @@
 -- Taking a reply. Source: document 01, "The reader and the log": "One with result 0 turns a gap or empty cell into empty (all zeros) or
 -- measured. On a measured cell, zeros or equal counts leave it, answer 0; other nonzero counts answer 25"; "a taken reply is tested 20,
--- 22, 23, 24, 25", 28 right at the start for header and length and "for a cell: just before it is used".
+-- 22, 23, 24, 25", 28 right at the start for header and length and "for a cell: just before it is used". Document 02, request 2: "23 goes
+-- ..; in its place and this order 50 length, 51 CRC, 52 address, 53 function, or a top bit that belies the result, 54 parameter".
 use mathlib.Core.Bool.{Bool, cond, _&&_}
 use mathlib.Core.List.{List}
 use Prim.Native.Nat.{ℕ}
 use lib.Dec.{eqb}
 use Rattle.refusal.specs.Outcome.{Outcome, outcome}
+use Rattle.reader.specs.Form.{faultNumber}
 use Rattle.log.specs.Header.{soundOf, ifSound}
 use Rattle.log.specs.Cell.{noCounts, ifGood}
 use Rattle.log.specs.Image.{cellAt, applied}
@@ -59,7 +61,7 @@ updated (Put c) i = closes Done (change.Put i c)
 updated Keep i = closes Done change.None
 updated Conflict i = closes OtherCounts change.None
 
--- the checks, one below the other: 28 (header, length), 20, 22, 23, 24, 28 (the cell), and then 25 or 0
+-- the checks, one below the other: 28 (header, length), 20, 22, 50 to 54, 24, 28 (the cell), and then 25 or 0
 unfoldable pub decided : List ℕ → OpenAsk → List ℕ → Decision
 unfolding updateOf updated rowOf
 decided s held y =
@@ -80,12 +82,12 @@ unfoldable pub taken : List ℕ → OpenAsk → List ℕ → Outcome Taken (List
 unfolding decided
 taken s held y = done (decided s held y) s
 
--- document 01's numbers
+-- document 01's numbers, and document 02's of a reply that is not well formed
 abbrev pub numberOf : TakeAnswer → ℕ
 numberOf Done = 0
 numberOf NoAskOpen = 20
 numberOf NotInLog = 22
-numberOf (Malformed fault) = 23
+numberOf (Malformed fault) = faultNumber fault
 numberOf (MeterRefused result) = 24
 numberOf OtherCounts = 25
 numberOf Unsound = 28

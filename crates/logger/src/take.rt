@@ -46,7 +46,7 @@ pub enum Update {
 }
 
 impl TakeAnswer {
-    // Document 01's number.
+    // Document 01's number, and document 02's of a reply that is not well formed.
     pub fn number(self) -> u8
         ensures { λ r. ⌜ r ≡ numberOf self ⌝ }
     {
@@ -54,7 +54,7 @@ impl TakeAnswer {
             TakeAnswer::Done => refusal::DONE,
             TakeAnswer::NoAskOpen => refusal::NO_ASK_OPEN,
             TakeAnswer::NotInLog => refusal::NOT_IN_LOG,
-            TakeAnswer::Malformed(_) => refusal::MALFORMED,
+            TakeAnswer::Malformed(fault) => fault.number(),
             TakeAnswer::MeterRefused(_) => refusal::METER_REFUSED,
             TakeAnswer::OtherCounts => refusal::OTHER_COUNTS,
             TakeAnswer::Unsound => refusal::UNSOUND,
@@ -85,7 +85,13 @@ fn decided(log: &[u8], held: OpenAsk, reply: &[u8]) -> Decision
     let Interval::At(i) = log::interval_of(h, day, slot) else {
         return stays(TakeAnswer::NotInLog, held);
     };
-    if let Form::Faulty(fault) = reader::form_of(address, code::SLICE, layout::SLICE_REPLY, reply) {
+    if let Form::Faulty(fault) = reader::form_of(
+        address,
+        code::READ,
+        code::SLICE,
+        layout::SLICE_REPLY,
+        reply,
+    ) {
         return stays(TakeAnswer::Malformed(fault), held);
     }
     let result = words::byte_at(reply, layout::RESULT);

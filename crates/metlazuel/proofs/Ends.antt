@@ -56,7 +56,7 @@ use Rattle.c_values.specs.declared.ask.AskRead.the-variants.{Read, Unreadable}
 use Rattle.demands.specs.Demand1.{inTable, Ends, EndsBy, givesFrame}
 use Rattle.demands.proofs.Calls.{done, stays}
 use Rattle.demands.proofs.Claims as claims
-use Rattle.metlazuel.specs.Calls.{numbered, sized, unreadNumber, resultAfter}
+use Rattle.metlazuel.specs.Calls.{numbered, sized, unreadNumber, resultAfter, receivedAfter}
 use Rattle.metlazuel.specs.LogCalls.{headerFrom, imageLength, fileLength, lengthAfter, askLeft, askForC, lapseLeft, lapseForC, closes, takeForC}
 use Rattle.metlazuel.specs.CellCalls.{cellForC, nextGapForC}
 use Rattle.metlazuel.specs.WireCalls.{requestFrom, countAfter, decodedForC, decodeForC}
@@ -159,20 +159,32 @@ unfolding askLeft
 closed-bytes true held left bs e = rw e
 closed-bytes false held left bs e = refl
 
-take-read : (a : AskRead) (log bs reply : List ℕ) (result : ℕ) → let o = takeForC a log bs reply result in
-    Ends {A = ℕ × List ℕ × List ℕ} (o .result) (resultAfter (o .result) reply result, log, cond (closes (o .result)) (written bs 0 (askBytes Closed)) bs) (o .left)
-unfolding takeForC closes resultAfter inTable
-take-read (Read held) log bs reply result =
+take-read : (a : AskRead) (log bs reply : List ℕ) (result size : ℕ) → let o = takeForC a log bs reply result size in let n = o .result in
+    Ends {A = ℕ × ℕ × List ℕ × List ℕ} n
+    (resultAfter n reply result, receivedAfter n reply size, log, cond (closes n) (written bs 0 (askBytes Closed)) bs) (o .left)
+unfolding takeForC closes resultAfter receivedAfter inTable
+take-read (Read held) log bs reply result size =
     let e = claims.demand-1 .take-reply log held reply in
     record {
       in-table = e .in-table;
       unchanged = λ n. rw (e .unchanged n, closed-bytes _ held _ bs (claims.demand-1 .ask-after log held reply));
     }
-take-read Unreadable log bs reply result = record { in-table = refl; unchanged = λ n. refl }
+take-read Unreadable log bs reply result size = record { in-table = refl; unchanged = λ n. refl }
 
-pub take : (log bs reply : List ℕ) (result : ℕ) → let o = takeForC (askOf bs) log bs reply result in
-    Ends {A = ℕ × List ℕ × List ℕ} (o .result) (resultAfter (o .result) reply result, log, cond (closes (o .result)) (written bs 0 (askBytes Closed)) bs) (o .left)
-take log bs reply result = take-read (askOf bs) log bs reply result
+pub take : (log bs reply : List ℕ) (result size : ℕ) → let o = takeForC (askOf bs) log bs reply result size in let n = o .result in
+    Ends {A = ℕ × ℕ × List ℕ × List ℕ} n
+    (resultAfter n reply result, receivedAfter n reply size, log, cond (closes n) (written bs 0 (askBytes Closed)) bs) (o .left)
+take log bs reply result size = take-read (askOf bs) log bs reply result size
+
+read-length : (a : AskRead) (log bs reply : List ℕ) (result size : ℕ) → let o = takeForC a log bs reply result size in
+    o .left .1 ≡ receivedAfter (o .result) reply size
+unfolding takeForC receivedAfter
+read-length (Read held) log bs reply result size = refl
+read-length Unreadable log bs reply result size = refl
+
+pub take-length : (log bs reply : List ℕ) (result size : ℕ) → let o = takeForC (askOf bs) log bs reply result size in
+    o .left .1 ≡ receivedAfter (o .result) reply size
+take-length log bs reply result size = read-length (askOf bs) log bs reply result size
 
 -- ---- requests, and replies decoded
 
@@ -195,19 +207,25 @@ row-kept (decoded.OnePower p) reply row n = absurd (n refl)
 row-kept (decoded.Slice c) reply row n = absurd (n refl)
 row-kept decoded.SixSlices reply row n = absurd (n refl)
 
-module _ (q : Request) (reply row : List ℕ) (count result : ℕ) where
-  abbrev Told : Outcome ℕ (ℕ × ℕ × List ℕ) → Type 0
-  Told o = Ends {A = ℕ × ℕ × List ℕ} (o .result) (count, resultAfter (o .result) reply result, row) (o .left)
+module _ (q : Request) (reply row : List ℕ) (count result size : ℕ) where
+  abbrev Told : Outcome ℕ (ℕ × ℕ × ℕ × List ℕ) → Type 0
+  Told o = Ends {A = ℕ × ℕ × ℕ × List ℕ} (o .result) (count, resultAfter (o .result) reply result, receivedAfter (o .result) reply size, row) (o .left)
 
-  decoded-ends : (d : Decoded) → Told (decodedForC d reply row count result)
+  decoded-ends : (d : Decoded) → Told (decodedForC d reply row count result size)
   unfolding countAfter
   decoded-ends d = record { in-table = claims.demand-1 .decode d; unchanged = λ n. rw (ne-eqb _ _ n, row-kept d reply row n) }
 
-  pub decode : Told (decodeForC q reply row count result)
-  unfolding decodeForC resultAfter inTable
+  pub decode : Told (decodeForC q reply row count result size)
+  unfolding decodeForC resultAfter receivedAfter inTable
   decode =
       either Told (ltb (length row) (figuresFor (subjectOf q mostSlots))) (record { in-table = refl; unchanged = λ n. refl })
       (decoded-ends (reader.decodedOf q reply))
+
+  pub decode-length : let o = decodeForC q reply row count result size in o .left .2 ≡ receivedAfter (o .result) reply size
+  unfolding decodeForC receivedAfter
+  decode-length =
+      either (λ (o : Outcome ℕ (ℕ × ℕ × ℕ × List ℕ)). o .left .2 ≡ receivedAfter (o .result) reply size)
+      (ltb (length row) (figuresFor (subjectOf q mostSlots))) refl refl
 
 -- ---- the bench meter
 

@@ -1,5 +1,5 @@
 -- Demand 3 at the boundary: a list of C's calls is a list of the proved calls below them, on the log and on the ask that the bytes are read as.
-use mathlib.Core.Path.{_≡_, refl, ap, ap₂, _∙_}
+use mathlib.Core.Path.{_≡_, refl, sym, ap, ap₂, _∙_}
 use mathlib.Core.List.{List, [], _∷_}
 use Prim.Native.Nat.{ℕ}
 use lib.ListN.{length}
@@ -7,48 +7,63 @@ use Rattle.refusal.specs.Outcome.{Outcome}
 use Rattle.words.specs.Place.{byteAt}
 use Rattle.logger.specs.Ask as ask-of
 use Rattle.logger.specs.Take as take
-use Rattle.logger.specs.Reply.{rowOf}
+use Rattle.reader.specs.declared.form.Fault.{Fault}
+use Rattle.reader.specs.declared.form.Fault.the-variants as fault
+use Rattle.reader.specs.declared.form.Form.the-variants.{Faulty}
+use Rattle.reader.proofs.FormLaws.{length-told}
+use Rattle.logger.specs.Reply.{sliceForm, rowOf}
 use Rattle.logger.specs.Book.{Call, ask, lapse, reply, Answer, plain, runOf, AllBytes}
 use Rattle.logger.specs.Run.{State, takeAnswer, step, run}
 use Rattle.logger.proofs.TakeLaws.{taken-cases, update-cases}
 use Rattle.logger.specs.declared.ask.AskAnswer.{AskAnswer}
 use Rattle.logger.specs.declared.ask.AskAnswer.the-variants as asked
 use Rattle.logger.specs.declared.take.Decision.{Decision}
+use Rattle.logger.specs.declared.take.TakeAnswer.the-variants.{Malformed}
 use Rattle.logger.specs.declared.held.OpenAsk.{OpenAsk}
 use Rattle.c_values.specs.Ask.{askOf}
 use Rattle.c_values.specs.declared.ask.AskRead.{AskRead}
 use Rattle.c_values.specs.declared.ask.AskRead.the-variants.{Read, Unreadable}
 use Rattle.demands.specs.Demand3.{Elsewhere, begin, booked, logAfresh}
 use Rattle.demands.proofs.Claims as claims
-use Rattle.metlazuel.specs.Calls.{resultAfter}
+use Rattle.metlazuel.specs.Calls.{resultAfter, receivedAfter}
 use Rattle.metlazuel.specs.LogCalls.{askForC, lapseForC, takeForC}
 use Rattle.metlazuel.specs.Demand3.{Lent, told, stepForC, ranForC, Begins}
 use Rattle.metlazuel.proofs.LogLaws as left
 
 -- ---- what C is told is the call's answer
 
-asked-told : (a : AskAnswer) (word : ℕ) → told (ask-of.numberOf a) word ≡ plain (ask-of.numberOf a)
+asked-told : (a : AskAnswer) (word size : ℕ) → told (ask-of.numberOf a) word size ≡ plain (ask-of.numberOf a)
 unfolding told
-asked-told asked.Done word = refl
-asked-told asked.TooShort word = refl
-asked-told asked.Unsound word = refl
-asked-told asked.AlreadyOpen word = refl
-asked-told asked.NotInLog word = refl
+asked-told asked.Done word size = refl
+asked-told asked.TooShort word size = refl
+asked-told asked.Unsound word size = refl
+asked-told asked.AlreadyOpen word size = refl
+asked-told asked.NotInLog word size = refl
 
-module _ (y : List ℕ) (word : ℕ) where
+module _ (y : List ℕ) (word size : ℕ) where
   abbrev Told : Decision → Type 0
   Told d =
       let n = take.numberOf (d .taken .answer) in
-      told n (resultAfter n y word) ≡ takeAnswer (d .taken .answer)
+      told n (resultAfter n y word) (receivedAfter n y size) ≡ takeAnswer (d .taken .answer)
+
+  -- the length that comes with 50 is the reply's
+  fault-told : (address : ℕ) (held : OpenAsk) (f : Fault) → sliceForm address y ≡ Faulty f → Told (take.stays (Malformed f) held)
+  unfolding told resultAfter receivedAfter
+  fault-told address held (fault.Length n) e =
+      ap (λ (k : ℕ). record { number = 50; result = 0; length = k }) (sym (length-told address 3 36 14 y n e))
+  fault-told address held fault.Crc e = refl
+  fault-told address held fault.Address e = refl
+  fault-told address held fault.Function e = refl
+  fault-told address held fault.Parameter e = refl
 
   taken-told : (log : List ℕ) (held : OpenAsk) → Told (take.decided log held y)
-  unfolding told resultAfter
+  unfolding told resultAfter receivedAfter
   taken-told log held =
       taken-cases Told log held y (λ u. refl) (λ h u.
       record {
         no-ask = λ o. refl;
         outside = λ a d t o n. refl;
-        malformed = λ i o fault n. refl;
+        malformed = λ i o f e. fault-told (o .address) held f e;
         refused = λ i o r. refl;
         bad-cell = λ i o b. refl;
         counted = λ i o r c g. update-cases Told (take.updateOf c (rowOf y)) i (λ new. refl) refl refl;
@@ -69,20 +84,20 @@ pub record Alike (o : Outcome Answer Lent) (p : Outcome Answer State) : Type 0 w
 abbrev stateOf : Lent → OpenAsk → State
 stateOf m held = record { log = m .log; held = held }
 
-zero-told : (word : ℕ) → told 0 word ≡ plain 0
+zero-told : (word size : ℕ) → told 0 word size ≡ plain 0
 unfolding told
-zero-told word = refl
+zero-told word size = refl
 
 step-alike : (m : Lent) (held : OpenAsk) (c : Call) → askOf (m .ask) ≡ Read held → Alike (stepForC m c) (step (stateOf m held) c)
 unfolding stepForC step askForC lapseForC takeForC take.taken
 step-alike m held (ask address day slot out) e = record {
-  answer = rw e (asked-told (ask-of.asked (m .log) held address day slot out .result .answer) (m .result));
+  answer = rw e (asked-told (ask-of.asked (m .log) held address day slot out .result .answer) (m .result) (m .size));
   holds = record { log = refl; ask = left.ask-left (m .ask) (m .log) held address day slot out e };
 }
-step-alike m held lapse e = record { answer = rw e (zero-told (m .result)); holds = record { log = refl; ask = left.lapse-left (m .ask) held e } }
+step-alike m held lapse e = record { answer = rw e (zero-told (m .result) (m .size)); holds = record { log = refl; ask = left.lapse-left (m .ask) held e } }
 step-alike m held (reply y) e = record {
-  answer = rw e (taken-told y (m .result) (m .log) held);
-  holds = record { log = rw e refl; ask = left.take-left (m .ask) (m .log) held y (m .result) e };
+  answer = rw e (taken-told y (m .result) (m .size) (m .log) held);
+  holds = record { log = rw e refl; ask = left.take-left (m .ask) (m .log) held y (m .result) (m .size) e };
 }
 
 -- ---- a list of calls

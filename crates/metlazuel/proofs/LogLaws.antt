@@ -14,6 +14,9 @@ use Rattle.log.specs.Header.{soundOf}
 use Rattle.log.proofs.HeaderLaws.{by-sound}
 use Rattle.log.specs.Interval.{intervalOf}
 use Rattle.log.proofs.IntervalLaws.{by-at}
+use Rattle.reader.specs.Form.{faultNumber}
+use Rattle.reader.specs.declared.form.Fault.{Fault}
+use Rattle.reader.specs.declared.form.Fault.the-variants as fault
 use Rattle.logger.specs.Reply.{rowOf}
 use Rattle.logger.proofs.TakeLaws.{by-none, taken-cases, update-cases}
 use Rattle.logger.specs.declared.take.Decision.{Decision}
@@ -55,6 +58,15 @@ module _ (bs : List ℕ) where
   abbrev Left : Outcome Taken (List ℕ) → Type 0
   Left o = askOf (askLeft (closes (take.numberOf (o .result .answer))) (o .result .held) bs) ≡ Read (o .result .held)
 
+  -- a reply that is not well formed leaves them as they are
+  fault-left : (held : OpenAsk) (f : Fault) → askOf bs ≡ Read held → askOf (askLeft (closes (faultNumber f)) held bs) ≡ Read held
+  unfolding askLeft closes
+  fault-left held (fault.Length n) e = e
+  fault-left held fault.Crc e = e
+  fault-left held fault.Address e = e
+  fault-left held fault.Function e = e
+  fault-left held fault.Parameter e = e
+
   log-left : (log : List ℕ) (held : OpenAsk) (y : List ℕ) → askOf bs ≡ Read held → Left (take.taken log held y)
   unfolding take.taken askLeft closes
   log-left log held y e =
@@ -64,13 +76,13 @@ module _ (bs : List ℕ) where
       record {
         no-ask = λ o. e;
         outside = λ a d t o n. e;
-        malformed = λ i o fault n. e;
+        malformed = λ i o f n. fault-left held f e;
         refused = λ i o r. closed;
         bad-cell = λ i o b. e;
         counted = λ i o r c g. update-cases P (take.updateOf c (rowOf y)) i (λ new. closed) closed closed;
       })
 
-  pub take-left : (log : List ℕ) (held : OpenAsk) (y : List ℕ) (before : ℕ) → askOf bs ≡ Read held
-      → askOf (takeForC (askOf bs) log bs y before .left .2) ≡ Read (take.taken log held y .result .held)
+  pub take-left : (log : List ℕ) (held : OpenAsk) (y : List ℕ) (result size : ℕ) → askOf bs ≡ Read held
+      → askOf (takeForC (askOf bs) log bs y result size .left .3) ≡ Read (take.taken log held y .result .held)
   unfolding takeForC
-  take-left log held y before e = rw e (log-left log held y e)
+  take-left log held y result size e = rw e (log-left log held y e)

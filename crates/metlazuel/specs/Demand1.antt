@@ -1,6 +1,6 @@
 -- Demand 1 of the functions that firmware links. "Every call ends with an answer from document 01's table, for every input. A refused call
 -- leaves the log and the meter's record as they stood, and writes nothing into a lent buffer but the short refusal frame where the table
--- gives one."
+-- gives one." And document 02, request 2: "For a wrong length also return the length received."
 --
 -- One claim a function, by its name, over the definition that its contract cites and with all that it is lent to write in, the words behind
 -- `length`, `count`, `result`, `kind` and `slot` too. `metlazuel_crc16` has no answer, and is lent nothing to write in. Proofs: `demand-1`, proofs/Claims.antt.
@@ -28,7 +28,7 @@ use Rattle.logger.specs.declared.held.OpenAsk.the-variants.{Closed}
 use Rattle.c_values.specs.Ask.{askOf, askBytes}
 use Rattle.c_values.specs.declared.ask.AskRead.the-variants.{Read}
 use Rattle.demands.specs.Demand1.{Ends, givesFrame}
-use Rattle.metlazuel.specs.Calls.{numbered, sized, resultAfter}
+use Rattle.metlazuel.specs.Calls.{numbered, sized, resultAfter, receivedAfter}
 use Rattle.metlazuel.specs.LogCalls.{headerFrom, imageLength, fileLength, lengthAfter, askForC, lapseForC, closes, takeForC}
 use Rattle.metlazuel.specs.CellCalls.{cellForC, nextGapForC}
 use Rattle.metlazuel.specs.WireCalls.{requestFrom, decodeForC}
@@ -60,14 +60,20 @@ pub record Demand1C : Type 0 where
   -- "A lapse closes it; with nothing open a lapse does nothing and answers 0"
   pub lapse : (bs : List ℕ) → EndsForC bs (lapseForC (askOf bs) bs)
   pub lapse-none : (bs : List ℕ) → askOf bs ≡ Read Closed → lapseForC (askOf bs) bs ≡ outcome 0 bs
-  -- result, log and ask: 24 "meter's result not 0; returned; ask closed, log kept", 25 "ask closed, log kept"
-  pub take : (log bs reply : List ℕ) (result : ℕ) → let o = takeForC (askOf bs) log bs reply result in
-      Ends {A = ℕ × List ℕ × List ℕ} (o .result) (resultAfter (o .result) reply result, log, cond (closes (o .result)) (written bs 0 (askBytes Closed)) bs) (o .left)
-  -- requests, and replies decoded: count, result and row
+  -- result, length, log and ask: 24 "meter's result not 0; returned; ask closed, log kept", 25 "ask closed, log kept"
+  pub take : (log bs reply : List ℕ) (result length : ℕ) → let o = takeForC (askOf bs) log bs reply result length in let n = o .result in
+      Ends {A = ℕ × ℕ × List ℕ × List ℕ} n
+      (resultAfter n reply result, receivedAfter n reply length, log, cond (closes n) (written bs 0 (askBytes Closed)) bs) (o .left)
+  -- 50 alone gives the length received, and every other answer, 0 too, leaves the lent one
+  pub take-length : (log bs reply : List ℕ) (result length : ℕ) → let o = takeForC (askOf bs) log bs reply result length in
+      o .left .1 ≡ receivedAfter (o .result) reply length
+  -- requests, and replies decoded: count, result, length and row
   pub request : (address parameter offset tariff detail : ℕ) (out : List ℕ)
       → EndsForC out (numbered request.numberOf (request.requested (requestFrom address parameter offset tariff detail) out))
-  pub decode : (q : Request) (reply row : List ℕ) (count result : ℕ) → let o = decodeForC q reply row count result in
-      Ends {A = ℕ × ℕ × List ℕ} (o .result) (count, resultAfter (o .result) reply result, row) (o .left)
+  pub decode : (q : Request) (reply row : List ℕ) (count result length : ℕ) → let o = decodeForC q reply row count result length in let n = o .result in
+      Ends {A = ℕ × ℕ × ℕ × List ℕ} n (count, resultAfter n reply result, receivedAfter n reply length, row) (o .left)
+  pub decode-length : (q : Request) (reply row : List ℕ) (count result length : ℕ) → let o = decodeForC q reply row count result length in
+      o .left .2 ≡ receivedAfter (o .result) reply length
   -- the bench meter: the record's bytes, and with a slice the store
   pub meter-make : (address minutes k ke reserve year month day hour minute second season : ℕ) (bs : List ℕ)
       → EndsForC bs (makeForC (madeIn address minutes (telemetryFrom k ke reserve) (clockFrom year month day hour minute second) season) bs)

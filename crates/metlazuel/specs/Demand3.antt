@@ -19,33 +19,34 @@ use Rattle.c_values.specs.declared.ask.AskRead.the-variants.{Read, Unreadable}
 use Rattle.demands.specs.Demand3.{Start, booked, logAfresh, Elsewhere}
 use Rattle.metlazuel.specs.LogCalls.{askForC, lapseForC, takeForC}
 
--- what C lends to one call after the other: the log, the ask's bytes, and the word behind `result`
+-- what C lends to one call after the other: the log, the ask's bytes, and the words behind `result` and `length`
 pub record Lent : Type 0 where
   pub log : List ℕ
   pub ask : List ℕ
   pub result : ℕ
+  pub size : ℕ
 
--- what C is told: the number, and with 24 ("meter's result not 0; returned") the word behind `result`
-unfoldable pub told : ℕ → ℕ → Answer
-told n word = record { number = n; result = cond (eqb n 24) word 0 }
+-- what C is told: the number, with 24 ("meter's result not 0; returned") the word behind `result`, and with 50 the one behind `length`
+unfoldable pub told : ℕ → ℕ → ℕ → Answer
+told n word size = record { number = n; result = cond (eqb n 24) word 0; length = cond (eqb n 50) size 0 }
 
 -- one call, by the definition that its contract cites: what C is told, and its memory after it
 unfoldable pub stepForC : Lent → Call → Outcome Answer Lent
 stepForC m (ask address day slot out) =
     let o = askForC (askOf (m .ask)) (m .log) (m .ask) address day slot out in
-    outcome (told (o .result) (m .result)) (record { log = m .log; ask = o .left .0; result = m .result })
+    outcome (told (o .result) (m .result) (m .size)) (record { log = m .log; ask = o .left .0; result = m .result; size = m .size })
 stepForC m lapse =
     let o = lapseForC (askOf (m .ask)) (m .ask) in
-    outcome (told (o .result) (m .result)) (record { log = m .log; ask = o .left; result = m .result })
+    outcome (told (o .result) (m .result) (m .size)) (record { log = m .log; ask = o .left; result = m .result; size = m .size })
 stepForC m (reply y) =
-    let o = takeForC (askOf (m .ask)) (m .log) (m .ask) y (m .result) in
-    outcome (told (o .result) (o .left .0)) (record { log = o .left .1; ask = o .left .2; result = o .left .0 })
+    let o = takeForC (askOf (m .ask)) (m .log) (m .ask) y (m .result) (m .size) in
+    outcome (told (o .result) (o .left .0) (o .left .1)) (record { log = o .left .2; ask = o .left .3; result = o .left .0; size = o .left .1 })
 
 -- a list of calls, each lent the memory as the one before left it
 abbrev pub ranForC : Lent → List Call → Outcome (List Answer) Lent
 ranForC m calls = runOf stepForC m calls
 
--- memory to begin with: a log, bytes that are read as no ask open, and any word
+-- memory to begin with: a log, bytes that are read as no ask open, and any words
 pub record Begins (m : Lent) : Type 0 where
   pub start : Start (m .log)
   pub closed : askOf (m .ask) ≡ Read Closed
@@ -53,7 +54,7 @@ pub record Begins (m : Lent) : Type 0 where
 pub record Demand3C : Type 0 where
   -- "After every such list the log is byte for byte the one worked out afresh from that history."
   pub log : (m : Lent) (b : Begins m) (calls : List Call) → AllBytes calls → ranForC m calls .left .log ≡ logAfresh (b .start) calls
-  -- "Every answer, and the ask left open, are those of document 01's plain book": each number, 24's result, and the ask as its bytes are read
+  -- "Every answer, and the ask left open, are those of document 01's plain book": each number, 24's result, 50's length, and the ask as its bytes are read
   pub answers : (m : Lent) (b : Begins m) (calls : List Call) → AllBytes calls → ranForC m calls .result ≡ booked (b .start) calls .result
   pub ask-left : (m : Lent) (b : Begins m) (calls : List Call) → AllBytes calls
       → askOf (ranForC m calls .left .ask) ≡ Read (booked (b .start) calls .left .held)

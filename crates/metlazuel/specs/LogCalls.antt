@@ -23,7 +23,7 @@ use Rattle.logger.specs.declared.held.OpenAsk.the-variants.{Closed, Open}
 use Rattle.c_values.specs.Ask.{askBytes}
 use Rattle.c_values.specs.declared.ask.AskRead.{AskRead}
 use Rattle.c_values.specs.declared.ask.AskRead.the-variants.{Read, Unreadable}
-use Rattle.metlazuel.specs.Calls.{unreadNumber, resultAfter}
+use Rattle.metlazuel.specs.Calls.{unreadNumber, resultAfter, receivedAfter}
 
 -- the numbers that C hands over, as a log's header
 abbrev pub headerFrom : ℕ → ℕ → ℕ → ℕ → ℕ → ℕ → Header
@@ -81,13 +81,13 @@ lapseForC Unreadable bs = outcome 28 bs
 unfoldable pub closes : ℕ → Bool
 closes n = eqb n 0 || eqb n 24 || eqb n 25
 
--- left: the meter's result, the log and the ask's bytes
-abbrev pub takenForC : Outcome Taken (List ℕ) → List ℕ → ℕ → List ℕ → Outcome ℕ (ℕ × List ℕ × List ℕ)
-takenForC o y before bs =
+-- left: the meter's result, the length received, the log and the ask's bytes
+abbrev pub takenForC : Outcome Taken (List ℕ) → List ℕ → ℕ → ℕ → List ℕ → Outcome ℕ (ℕ × ℕ × List ℕ × List ℕ)
+takenForC o y result size bs =
     let n = take.numberOf (o .result .answer) in
-    outcome n (resultAfter n y before, o .left, askLeft (closes n) (o .result .held) bs)
+    outcome n (resultAfter n y result, receivedAfter n y size, o .left, askLeft (closes n) (o .result .held) bs)
 
 -- bytes that are no ask are 28 too
-unfoldable pub takeForC : AskRead → List ℕ → List ℕ → List ℕ → ℕ → Outcome ℕ (ℕ × List ℕ × List ℕ)
-takeForC (Read held) log bs y before = takenForC (take.taken log held y) y before bs
-takeForC Unreadable log bs y before = outcome 28 (before, log, bs)
+unfoldable pub takeForC : AskRead → List ℕ → List ℕ → List ℕ → ℕ → ℕ → Outcome ℕ (ℕ × ℕ × List ℕ × List ℕ)
+takeForC (Read held) log bs y result size = takenForC (take.taken log held y) y result size bs
+takeForC Unreadable log bs y result size = outcome 28 (result, size, log, bs)

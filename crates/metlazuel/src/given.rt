@@ -1,7 +1,7 @@
 // What more than one call gives C.
 use frame::layout;
 ghost use mathlib.Core.Path.{_≡_};
-ghost use Rattle.metlazuel.specs.Calls.{unreadNumber, resultAfter};
+ghost use Rattle.metlazuel.specs.Calls.{unreadNumber, resultAfter, receivedAfter};
 
 // The number for bytes that are no ask or no record: an output that is too short stands before them.
 pub fn unread_number(room: usize, least: usize) -> u8
@@ -19,6 +19,16 @@ pub fn result_after(number: u8, reply: &[u8], before: u8) -> u8
 {
     if number == refusal::METER_REFUSED {
         return words::byte_at(reply, layout::RESULT);
+    }
+    before
+}
+
+// The length of a reply, where the number for it says that it is wrong.
+pub fn received_after(number: u8, reply: &[u8], before: usize) -> usize
+    ensures { λ r. ⌜ r ≡ receivedAfter number (now (reply .entry)) before ⌝ }
+{
+    if number == refusal::REPLY_LENGTH {
+        return reply.len();
     }
     before
 }

@@ -145,18 +145,20 @@ fn put_lapsed(ask: &mut [u8], held: OpenAsk)
     }
 }
 
-// uint8_t metlazuel_take(uint8_t *log, size_t n, uint8_t *ask, size_t size, const uint8_t *reply, size_t bytes, uint8_t *result)
+// uint8_t metlazuel_take(uint8_t *log, size_t n, uint8_t *ask, size_t size, const uint8_t *reply, size_t bytes, uint8_t *result,
+//     size_t *length)
 //
-// Takes a reply for the open ask. A meter's result that is not 0 goes to `result`.
+// Takes a reply for the open ask. A meter's result that is not 0 goes to `result`, a length that is wrong to `length`.
 #[no_mangle]
 pub extern "C" fn metlazuel_take(
     log: &mut [u8],
     ask: &mut [u8],
     reply: &[u8],
     result: &mut u8,
+    length: &mut usize,
 ) -> u8
-    ensures { λ n. ⌜ outcome n (now (result .exit), now (log .exit), now (ask .exit))
-        ≡ takeForC (askOf (now (ask .entry))) (now (log .entry)) (now (ask .entry)) (now (reply .entry)) (now (result .entry)) ⌝ }
+    ensures { λ n. ⌜ outcome n (now (result .exit), now (length .exit), now (log .exit), now (ask .exit))
+        ≡ takeForC (askOf (now (ask .entry))) (now (log .entry)) (now (ask .entry)) (now (reply .entry)) (now (result .entry)) (now (length .entry)) ⌝ }
 {
     let AskRead::Read(held) = c_values::ask_of(ask) else {
         return refusal::UNSOUND;
@@ -167,6 +169,7 @@ pub extern "C" fn metlazuel_take(
     let number = answer.number();
     put_left(ask, closes(number), left);
     *result = given::result_after(number, reply, *result);
+    *length = given::received_after(number, reply, *length);
     number
 }
 

@@ -34,9 +34,10 @@ pub extern "C" fn metlazuel_request(
 }
 
 // uint8_t metlazuel_decode(uint8_t address, uint8_t parameter, uint8_t offset, uint8_t tariff, uint8_t detail, const uint8_t *reply,
-//     size_t bytes, uint32_t *figures, size_t room, size_t *count, uint8_t *result)
+//     size_t bytes, uint32_t *figures, size_t room, size_t *count, uint8_t *result, size_t *length)
 //
-// The figures go to the front of `figures` and their number to `count`, a meter's result that is not 0 to `result`.
+// The figures go to the front of `figures` and their number to `count`, a meter's result that is not 0 to `result`, a length that is wrong
+// to `length`.
 #[no_mangle]
 pub extern "C" fn metlazuel_decode(
     address: u8,
@@ -48,10 +49,11 @@ pub extern "C" fn metlazuel_decode(
     figures: &mut [u32],
     count: &mut usize,
     result: &mut u8,
+    length: &mut usize,
 ) -> u8
-    ensures { λ n. ⌜ outcome n (now (count .exit), now (result .exit), now (figures .exit))
+    ensures { λ n. ⌜ outcome n (now (count .exit), now (result .exit), now (length .exit), now (figures .exit))
         ≡ decodeForC (requestFrom address parameter offset tariff detail) (now (reply .entry)) (now (figures .entry))
-        (now (count .entry)) (now (result .entry)) ⌝ }
+        (now (count .entry)) (now (result .entry)) (now (length .entry)) ⌝ }
 {
     let q = Request {
         address: address,
@@ -68,6 +70,7 @@ pub extern "C" fn metlazuel_decode(
     c_values::put_figures(figures, decoded, reply);
     let number = decoded.number();
     *result = given::result_after(number, reply, *result);
+    *length = given::received_after(number, reply, *length);
     *count = count_after(number, foretold, *count);
     number
 }

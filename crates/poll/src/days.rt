@@ -19,6 +19,7 @@ use logfile::WriteAnswer;
 use logger::AskAnswer;
 use logger::OpenAsk;
 use polling::Fate;
+use polling::Faults;
 use polling::Next;
 use polling::Passed;
 use polling::Settled;
@@ -228,7 +229,7 @@ fn followed(wire: Wire, device: &[u8], path: &[u8], fate: Fate, course: Course) 
         Fate::Taken => course,
         Fate::Refused => course,
         Fate::Silent => after_a_loss(wire, device, course),
-        Fate::Malformed => after_a_loss(wire, device, course),
+        Fate::Malformed(_) => after_a_loss(wire, device, course),
         Fate::Stopped(number) => {
             say::new_line(wire.terminal);
             say::refused(path, number);
@@ -249,7 +250,13 @@ fn nothing() -> Course {
         tally: Tally {
             taken: 0,
             silent: 0,
-            malformed: 0,
+            faults: Faults {
+                length: 0,
+                crc: 0,
+                address: 0,
+                function: 0,
+                parameter: 0,
+            },
             refused: 0,
         },
         passed: Passed {

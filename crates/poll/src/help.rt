@@ -49,6 +49,10 @@ fn line() {
         b"Ten silent reads are no answer: the interval stays a gap, and a later poll asks again, as it does after a\n",
     );
     put(b"malformed reply or a refusal.\n");
+    put(
+        b"Malformed replies are counted by what is wrong with them first: of the cable speak a wrong length and a wrong CRC,\n",
+    );
+    put(b"of a setting another address, function or parameter than was asked for.\n");
     put(b"\n");
 }
 

@@ -5,9 +5,11 @@ use calendar::DateTime;
 use libc::STDERR_FILENO;
 use log::Header;
 use polling::DAY_MINUTES;
+use polling::Faults;
 use polling::Learned;
 use polling::Passed;
 use polling::Tally;
+use reader::Fault;
 use refusal_words::WORDS_MOST;
 
 // "2024-05-17".
@@ -31,18 +33,22 @@ pub fn not_saved(path: &[u8]) {
     os::fail(path);
 }
 
-// A number of document 01's refusal table.
+// A number of the refusal table.
 pub fn refused(path: &[u8], number: u8) -> bool {
     put(b"poll: ");
     put(path);
     put(b": refused ");
     io::print_decimal(STDERR_FILENO, number as u64);
     put(b": ");
+    in_words(number);
+    put(b"\n");
+    false
+}
+
+fn in_words(number: u8) {
     let mut words = [0u8; WORDS_MOST];
     let n = refusal_words::put_words(number, &mut words);
     put(crate::part::front(&words, n));
-    put(b"\n");
-    false
 }
 
 pub fn wrong_address() -> bool {
@@ -146,7 +152,25 @@ pub fn unlearned(device: &[u8], address: u8, l: Learned) {
             io::print_decimal(STDERR_FILENO, result as u64);
             put(b"\n");
         }
-        _ => put(b": what comes is no reply of that meter: see to cable, speed and address\n"),
+        Learned::Malformed(fault) => unlike(fault),
+        _ => put(b"\n"),
+    }
+}
+
+// What is wrong with a reply, and where to look.
+fn unlike(fault: Fault) {
+    put(b": ");
+    in_words(fault.number());
+    match fault {
+        Fault::Length(n) => {
+            put(b", ");
+            io::print_decimal(STDERR_FILENO, n as u64);
+            put(b" bytes: see to cable and speed\n");
+        }
+        Fault::Crc => put(b": see to cable and speed\n"),
+        Fault::Address => put(b": see to the address\n"),
+        Fault::Function => put(b": is it an SS-301, and does nobody else ask on the line?\n"),
+        Fault::Parameter => put(b": is it an SS-301, and does nobody else ask on the line?\n"),
     }
 }
 
@@ -257,10 +281,20 @@ pub fn end(well: bool) {
 fn counts(tally: Tally, passed: Passed) {
     count(tally.taken, b" taken, ");
     count(tally.silent, b" silent, ");
-    count(tally.malformed, b" malformed, ");
-    count(tally.refused, b" refused, ");
+    count(tally.refused, b" refused; ");
+    thrown_away(tally.faults);
     count(passed.not_over, b" not over yet, ");
     count(passed.too_old, b" too old to ask for");
+}
+
+// The replies that were not well formed, by what an installer looks at then.
+fn thrown_away(faults: Faults) {
+    put(b"cable: ");
+    count(faults.length, b" length, ");
+    count(faults.crc, b" CRC; setting: ");
+    count(faults.address, b" address, ");
+    count(faults.function, b" function, ");
+    count(faults.parameter, b" parameter; ");
 }
 
 fn count(n: u32, what: &[u8]) {

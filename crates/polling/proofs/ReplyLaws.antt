@@ -18,19 +18,19 @@ use Rattle.reader.specs.declared.form.Fault.the-variants as fault
 use Rattle.polling.specs.Reply.{isWhole}
 
 -- a well-formed reply has the length that its function says
-formed-length : (address parameter full : ℕ) (y : List ℕ) → formOf address parameter full y ≡ WellFormed → length y ≡ lengthFor (byteAt y functionPlace) full
+formed-length : (address function parameter full : ℕ) (y : List ℕ) → formOf address function parameter full y ≡ WellFormed → length y ≡ lengthFor (byteAt y functionPlace) full
 unfolding formOf
-formed-length address parameter full y e = go (eqb (length y) (lengthFor (byteAt y functionPlace) full)) refl e
+formed-length address function parameter full y e = go (eqb (length y) (lengthFor (byteAt y functionPlace) full)) refl e
   where
     go : (b : Bool) → eqb (length y) (lengthFor (byteAt y functionPlace) full) ≡ b
-        → cond b (cond (crcFits y) (headOf address parameter y) (Faulty fault.Crc)) (Faulty fault.Length) ≡ WellFormed
+        → cond b (cond (crcFits y) (headOf address function parameter y) (Faulty fault.Crc)) (Faulty (fault.Length (length y))) ≡ WellFormed
         → length y ≡ lengthFor (byteAt y functionPlace) full
     go true p q = eqb-true _ _ p
     go false p q = let z : _≡_ {A = ℕ} 0 1 = cc in absurd (omega arith)
 
-pub formed-whole : (address parameter full : ℕ) (y : List ℕ) → formOf address parameter full y ≡ WellFormed → isWhole full y ≡ true
+pub formed-whole : (address function parameter full : ℕ) (y : List ℕ) → formOf address function parameter full y ≡ WellFormed → isWhole full y ≡ true
 unfolding isWhole
-formed-whole address parameter full y e = le-leb (lengthFor (byteAt y functionPlace) full) (length y) (omega (arith, formed-length address parameter full y e))
+formed-whole address function parameter full y e = le-leb (lengthFor (byteAt y functionPlace) full) (length y) (omega (arith, formed-length address function parameter full y e))
 
 -- "6 with the function's top bit set, else that of its request": no reply is shorter
 shortest : (function full : ℕ) → bareSize ≤ full → bareSize ≤ lengthFor function full
@@ -54,5 +54,5 @@ cut-short full y n f l m = go (ltb 1 n) refl
         lt-leb (lengthFor (byteAt t functionPlace) full) (length t) (omega (arith, k, shortest (byteAt t functionPlace) full f, ltb-false 1 n e))
 
 -- no front of a well-formed reply is whole: listening does not stop within it
-pub formed-front : (address parameter full : ℕ) (y : List ℕ) (n : ℕ) → bareSize ≤ full → formOf address parameter full y ≡ WellFormed → n < length y → isWhole full (take n y) ≡ false
-formed-front address parameter full y n f e l = cut-short full y n f (omega (arith, formed-length address parameter full y e)) (omega arith)
+pub formed-front : (address function parameter full : ℕ) (y : List ℕ) (n : ℕ) → bareSize ≤ full → formOf address function parameter full y ≡ WellFormed → n < length y → isWhole full (take n y) ≡ false
+formed-front address function parameter full y n f e l = cut-short full y n f (omega (arith, formed-length address function parameter full y e)) (omega arith)

@@ -1,5 +1,5 @@
 -- What becomes of an ask. Source: document 01, "The reader and the log": "A lapse closes it"; its refusal table: "23 reply not well
--- formed: ask stays open".
+-- formed: ask stays open", which document 02, request 2, tells apart.
 use Prim.Native.Nat.{ℕ}
 use mathlib.Core.List.{List, [], _∷_}
 use Rattle.refusal.specs.Outcome.{Outcome, outcome}
@@ -15,7 +15,7 @@ use Rattle.polling.specs.declared.fate.Settled.{Settled}
 -- the fate of an ask by the answer to its reply; where that is another number of the table, the number
 abbrev pub fateOf : TakeAnswer → Fate
 fateOf Done = fate.Taken
-fateOf (Malformed fault) = fate.Malformed
+fateOf (Malformed fault) = fate.Malformed fault
 fateOf (MeterRefused result) = fate.Refused
 fateOf NoAskOpen = fate.Stopped (Take.numberOf NoAskOpen)
 fateOf NotInLog = fate.Stopped (Take.numberOf NotInLog)

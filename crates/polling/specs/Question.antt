@@ -6,6 +6,7 @@ use mathlib.Core.List.{List}
 use lib.Dec.{eqb}
 use lib.ListN.{drop}
 use Rattle.words.specs.Place.{byteAt}
+use Rattle.frame.specs.Code.{read}
 use Rattle.frame.specs.Layout.{resultPlace, dataPlace, bareSize}
 use Rattle.request.specs.Subject.{subjectOf, dataBytes, mostSlots}
 use Rattle.request.specs.declared.request.Request.{Request}
@@ -51,7 +52,7 @@ toldBy q WellFormed y = cond (eqb (byteAt y resultPlace) 0) (figureOf q (drop da
 unfoldable pub learnedOf : Question → ℕ → List ℕ → Learned
 learnedOf q a y =
     let r = questionOf q a in
-    toldBy q (formOf a (r .parameter) (fullSize r) y) y
+    toldBy q (formOf a read (r .parameter) (fullSize r) y) y
 
 -- whether what was learned is the log's
 unfoldable pub fitsLog : Header → Learned → Bool

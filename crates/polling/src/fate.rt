@@ -4,12 +4,14 @@ ghost use Rattle.refusal.specs.Outcome.{outcome};
 ghost use Rattle.polling.specs.Fate.{heard, settled, fateOf};
 use logger::OpenAsk;
 use logger::TakeAnswer;
+use reader::Fault;
 
 pub enum Fate {
     // The interval's cell is no gap any more.
     Taken,
     Silent,
-    Malformed,
+    // A reply that is not well formed, and what is wrong with it.
+    Malformed(Fault),
     // The meter's result was not 0.
     Refused,
     // Any other number of the refusal table, which an ask for a gap does not give.
@@ -59,7 +61,7 @@ fn fate_of(answer: TakeAnswer) -> Fate
 {
     match answer {
         TakeAnswer::Done => Fate::Taken,
-        TakeAnswer::Malformed(_) => Fate::Malformed,
+        TakeAnswer::Malformed(fault) => Fate::Malformed(fault),
         TakeAnswer::MeterRefused(_) => Fate::Refused,
         TakeAnswer::NoAskOpen => Fate::Stopped(refusal::NO_ASK_OPEN),
         TakeAnswer::NotInLog => Fate::Stopped(refusal::NOT_IN_LOG),

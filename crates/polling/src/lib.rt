@@ -32,6 +32,7 @@ pub use reply::is_over;
 pub use reply::is_whole;
 pub use standing::Standing;
 pub use standing::standing_of;
+pub use tally::Faults;
 pub use tally::Passed;
 pub use tally::Tally;
 pub use tally::counted;

@@ -60,7 +60,7 @@ pub fn learned_from(question: Question, address: u8, reply: &[u8]) -> Learned
     ensures { λ r. ⌜ r ≡ learnedOf question address (now (reply .entry)) ⌝ }
 {
     let q = request_of(question, address);
-    match reader::form_of(address, q.parameter, full_bytes(q), reply) {
+    match reader::form_of(address, code::READ, q.parameter, full_bytes(q), reply) {
         Form::WellFormed => {
             let result = words::byte_at(reply, layout::RESULT);
             if result == code::OK {

@@ -1,13 +1,23 @@
 // What became of the asks, counted.
 ghost use mathlib.Core.Path.{_≡_};
-ghost use Rattle.polling.specs.Tally.{oneMore, sumOf, countedIn, passedOver, together, passedTogether};
+ghost use Rattle.polling.specs.Tally.{oneMore, sumOf, faultedIn, countedIn, passedOver, faultsTogether, together, passedTogether};
 use crate::fate::Fate;
 use crate::standing::Standing;
+use reader::Fault;
+
+// The replies that were not well formed, by what was wrong with them. A wrong length or CRC speaks of the cable, the others of a setting.
+pub struct Faults {
+    pub length: u32,
+    pub crc: u32,
+    pub address: u32,
+    pub function: u32,
+    pub parameter: u32,
+}
 
 pub struct Tally {
     pub taken: u32,
     pub silent: u32,
-    pub malformed: u32,
+    pub faults: Faults,
     pub refused: u32,
 }
 
@@ -25,9 +35,23 @@ pub fn counted(t: Tally, fate: Fate) -> Tally
     match fate {
         Fate::Taken => after.taken = one_more(t.taken),
         Fate::Silent => after.silent = one_more(t.silent),
-        Fate::Malformed => after.malformed = one_more(t.malformed),
+        Fate::Malformed(fault) => after.faults = faulted(t.faults, fault),
         Fate::Refused => after.refused = one_more(t.refused),
         Fate::Stopped(_) => {}
+    }
+    after
+}
+
+fn faulted(f: Faults, fault: Fault) -> Faults
+    ensures { λ r. ⌜ r ≡ faultedIn f fault ⌝ }
+{
+    let mut after = f;
+    match fault {
+        Fault::Length(_) => after.length = one_more(f.length),
+        Fault::Crc => after.crc = one_more(f.crc),
+        Fault::Address => after.address = one_more(f.address),
+        Fault::Function => after.function = one_more(f.function),
+        Fault::Parameter => after.parameter = one_more(f.parameter),
     }
     after
 }
@@ -52,8 +76,20 @@ pub fn together(a: Tally, b: Tally) -> Tally
     Tally {
         taken: sum_of(a.taken, b.taken),
         silent: sum_of(a.silent, b.silent),
-        malformed: sum_of(a.malformed, b.malformed),
+        faults: faults_together(a.faults, b.faults),
         refused: sum_of(a.refused, b.refused),
+    }
+}
+
+fn faults_together(a: Faults, b: Faults) -> Faults
+    ensures { λ r. ⌜ r ≡ faultsTogether a b ⌝ }
+{
+    Faults {
+        length: sum_of(a.length, b.length),
+        crc: sum_of(a.crc, b.crc),
+        address: sum_of(a.address, b.address),
+        function: sum_of(a.function, b.function),
+        parameter: sum_of(a.parameter, b.parameter),
     }
 }
 

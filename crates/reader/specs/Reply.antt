@@ -1,10 +1,12 @@
 -- Replies decoded. Source: document 01, "The reader and the log": "Other replies are decoded apart against their own request, without
--- log or open ask, and tested 27 (a request that no record would answer with 0), 23, 24, 26."
+-- log or open ask, and tested 27 (a request that no record would answer with 0), 23, 24, 26." Document 02, request 2: "23 goes
+-- ..; in its place and this order 50 length, 51 CRC, 52 address, 53 function, or a top bit that belies the result, 54 parameter".
 use mathlib.Core.Bool.{cond}
 use mathlib.Core.List.{List}
 use Prim.Native.Nat.{ℕ, _+_}
 use lib.Dec.{eqb}
 use Rattle.words.specs.Place.{byteAt, numberAt}
+use Rattle.frame.specs.Code.{read}
 use Rattle.frame.specs.Layout.{resultPlace, bareSize}
 use Rattle.frame.specs.declared.code.Parameter.{Parameter}
 use Rattle.frame.specs.declared.code.Parameter.the-variants as parameter
@@ -20,7 +22,7 @@ use Rattle.figures.specs.declared.power.Power.{Power}
 use Rattle.figures.specs.declared.power.Power.the-variants as power
 use Rattle.figures.specs.declared.power.PowersAnswer.{PowersAnswer}
 use Rattle.figures.specs.declared.power.PowersAnswer.the-variants as powers
-use Rattle.reader.specs.Form.{formOf}
+use Rattle.reader.specs.Form.{formOf, faultNumber}
 use Rattle.reader.specs.Rows.{replyData}
 use Rattle.reader.specs.declared.form.Form.{Form}
 use Rattle.reader.specs.declared.form.Form.the-variants.{WellFormed, Faulty}
@@ -79,17 +81,17 @@ unfolding repliedOf
 formed WellFormed s y = repliedOf s y
 formed (Faulty fault) s y = Malformed fault
 
--- a reply y decoded against the request q: 27, 23, 24, 26
+-- a reply y decoded against the request q: 27, 50 to 54, 24, 26
 unfoldable pub decodedOf : Request → List ℕ → Decoded
 unfolding formed
 decodedOf q y =
     let s = subjectOf q mostSlots in
-    cond (askable s) (formed (formOf (q .address) (q .parameter) (bareSize + dataBytes s) y) s y) OutOfRange
+    cond (askable s) (formed (formOf (q .address) read (q .parameter) (bareSize + dataBytes s) y) s y) OutOfRange
 
--- document 01's numbers
+-- document 01's numbers, and document 02's of a reply that is not well formed
 abbrev pub numberOf : Decoded → ℕ
 numberOf OutOfRange = 27
-numberOf (Malformed fault) = 23
+numberOf (Malformed fault) = faultNumber fault
 numberOf (MeterRefused result) = 24
 numberOf NotFinite = 26
 numberOf (Address a) = 0

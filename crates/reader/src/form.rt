@@ -2,11 +2,12 @@
 use frame::code;
 use frame::layout;
 ghost use mathlib.Core.Path.{_≡_};
-ghost use Rattle.reader.specs.Form.{formOf, headOf, lengthFor, functionFor};
+ghost use Rattle.reader.specs.Form.{formOf, headOf, lengthFor, functionFor, faultNumber};
 
 // What is wrong with a reply, in the order in which it is looked for.
 pub enum Fault {
-    Length,
+    // How many bytes came.
+    Length(usize),
     Crc,
     Address,
     // Another function, or a top bit that belies the result.
@@ -19,33 +20,48 @@ pub enum Form {
     Faulty(Fault),
 }
 
-// The form of a reply to a read of `parameter` sent to `address`, whose full reply has `full` bytes.
-pub fn form_of(address: u8, parameter: u8, full: usize, reply: &[u8]) -> Form
-    ensures { λ r. ⌜ r ≡ formOf address parameter full (now (reply .entry)) ⌝ }
+impl Fault {
+    // Document 02's number.
+    pub fn number(self) -> u8
+        ensures { λ r. ⌜ r ≡ faultNumber self ⌝ }
+    {
+        match self {
+            Fault::Length(_) => refusal::REPLY_LENGTH,
+            Fault::Crc => refusal::REPLY_CRC,
+            Fault::Address => refusal::REPLY_ADDRESS,
+            Fault::Function => refusal::REPLY_FUNCTION,
+            Fault::Parameter => refusal::REPLY_PARAMETER,
+        }
+    }
+}
+
+// The form of a reply to a request with `function` and `parameter` sent to `address`, whose full reply has `full` bytes.
+pub fn form_of(address: u8, function: u8, parameter: u8, full: usize, reply: &[u8]) -> Form
+    ensures { λ r. ⌜ r ≡ formOf address function parameter full (now (reply .entry)) ⌝ }
 {
     let length = length_for(words::byte_at(reply, layout::FUNCTION), full);
     if reply.len() != length {
-        return Form::Faulty(Fault::Length);
+        return Form::Faulty(Fault::Length(reply.len()));
     }
     if frame::crc_fits(reply) {
-        head_of(address, parameter, reply)
+        head_of(address, function, parameter, reply)
     } else {
         Form::Faulty(Fault::Crc)
     }
 }
 
 // What a reply's first four bytes say.
-fn head_of(address: u8, parameter: u8, reply: &[u8]) -> Form
-    ensures { λ r. ⌜ r ≡ headOf address parameter (now (reply .entry)) ⌝ }
+fn head_of(address: u8, function: u8, parameter: u8, reply: &[u8]) -> Form
+    ensures { λ r. ⌜ r ≡ headOf address function parameter (now (reply .entry)) ⌝ }
 {
     let sender = words::byte_at(reply, layout::ADDRESS);
-    let function = words::byte_at(reply, layout::FUNCTION);
+    let done = words::byte_at(reply, layout::FUNCTION);
     let asked = words::byte_at(reply, layout::PARAMETER);
-    let wanted = function_for(words::byte_at(reply, layout::RESULT));
+    let wanted = function_for(function, words::byte_at(reply, layout::RESULT));
     if sender != address {
         return Form::Faulty(Fault::Address);
     }
-    if function != wanted {
+    if done as u16 != wanted {
         return Form::Faulty(Fault::Function);
     }
     if asked != parameter {
@@ -64,12 +80,13 @@ fn length_for(function: u8, full: usize) -> usize
     }
 }
 
-fn function_for(result: u8) -> u8
-    ensures { λ r. ⌜ r ≡ functionFor result ⌝ }
+// Of 16 bits: a function may be any byte, and the top bit is added to it.
+fn function_for(function: u8, result: u8) -> u16
+    ensures { λ r. ⌜ r ≡ functionFor function result ⌝ }
 {
     if result == code::OK {
-        code::READ
+        function as u16
     } else {
-        code::REFUSED + code::READ
+        code::REFUSED as u16 + function as u16
     }
 }

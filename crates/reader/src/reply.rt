@@ -45,13 +45,13 @@ pub enum Decoded {
 }
 
 impl Decoded {
-    // Document 01's number.
+    // Document 01's number, and document 02's of a reply that is not well formed.
     pub fn number(self) -> u8
         ensures { λ r. ⌜ r ≡ numberOf self ⌝ }
     {
         match self {
             Decoded::OutOfRange => refusal::OUT_OF_RANGE,
-            Decoded::Malformed(_) => refusal::MALFORMED,
+            Decoded::Malformed(fault) => fault.number(),
             Decoded::MeterRefused(_) => refusal::METER_REFUSED,
             Decoded::NotFinite => refusal::NOT_FINITE,
             Decoded::Address(_) => refusal::DONE,
@@ -72,7 +72,7 @@ pub fn decode(q: Request, reply: &[u8]) -> Decoded
     let subject = request::subject_of(q, request::MOST_SLOTS);
     if request::is_askable(subject) {
         let full = layout::BARE_BYTES + request::data_bytes(subject);
-        match form_of(q.address, q.parameter, full, reply) {
+        match form_of(q.address, code::READ, q.parameter, full, reply) {
             Form::WellFormed => replied(subject, reply),
             Form::Faulty(fault) => Decoded::Malformed(fault),
         }

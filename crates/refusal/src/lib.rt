@@ -1,4 +1,4 @@
-// The numbers of document 01's refusal table, by name. What each leaves behind stands there.
+// The numbers of document 01's refusal table and of document 02's requests, by name. What each leaves behind stands there.
 pub const DONE: u8 = 0;
 // A lent output that is too short.
 pub const TOO_SHORT: u8 = 1;
@@ -22,8 +22,6 @@ pub const NO_ASK_OPEN: u8 = 20;
 pub const ASK_ALREADY_OPEN: u8 = 21;
 // An interval or a day that is not in the log.
 pub const NOT_IN_LOG: u8 = 22;
-// A reply that is not well formed.
-pub const MALFORMED: u8 = 23;
 // A reply whose result is not 0.
 pub const METER_REFUSED: u8 = 24;
 // Other counts than those measured.
@@ -46,3 +44,13 @@ pub const FILE_LENGTH: u8 = 33;
 pub const FILE_CRC: u8 = 34;
 
 pub const FILE_CELL: u8 = 35;
+// A reply that is not well formed: of a wrong length,
+pub const REPLY_LENGTH: u8 = 50;
+// with a wrong CRC,
+pub const REPLY_CRC: u8 = 51;
+// of another address,
+pub const REPLY_ADDRESS: u8 = 52;
+// with another function, or a top bit that belies the result,
+pub const REPLY_FUNCTION: u8 = 53;
+// about another parameter.
+pub const REPLY_PARAMETER: u8 = 54;

@@ -1,4 +1,5 @@
--- The refusal numbers in words. Source: document 01, "Refusal numbers": the column "When", cut to what a message needs.
+-- The refusal numbers in words. Source: document 01, "Refusal numbers": the column "When", cut to what a message needs; document 02,
+-- request 2, for 50 to 54.
 use Prim.Native.Nat.{ℕ}
 use Prim.Native.String.{String}
 use mathlib.Core.Bool.{cond}
@@ -36,12 +37,21 @@ logRows =
     (20, "no ask open")
     ∷ (21, "ask already open")
     ∷ (22, "interval or report day not in the log")
-    ∷ (23, "reply not well formed")
     ∷ (24, "meter's result not 0")
     ∷ (25, "other counts than those measured")
     ∷ (26, "power reply with an infinity or no number")
     ∷ (27, "setting, new log's header or request out of range")
     ∷ (28, "log with a wrong header, length or cell, or meter record outside its ranges")
+    ∷ []
+
+-- "23 goes ..; in its place and this order 50 length, 51 CRC, 52 address, 53 function, or a top bit that belies the result, 54 parameter"
+abbrev pub replyRows : List (ℕ × String)
+replyRows =
+    (50, "reply of a wrong length")
+    ∷ (51, "reply with a wrong CRC")
+    ∷ (52, "reply of another address")
+    ∷ (53, "reply with another function, or a top bit that belies its result")
+    ∷ (54, "reply about another parameter")
     ∷ []
 
 -- "30 to 35: file: mark, version, header field, length, CRC, cell"
@@ -58,8 +68,11 @@ fileRows =
 unfoldable pub fileWords : ℕ → List ℕ
 fileWords n = wordsIn fileRows n (ascii "no number of the table")
 
+unfoldable pub replyWords : ℕ → List ℕ
+replyWords n = wordsIn replyRows n (fileWords n)
+
 unfoldable pub logWords : ℕ → List ℕ
-logWords n = wordsIn logRows n (fileWords n)
+logWords n = wordsIn logRows n (replyWords n)
 
 unfoldable pub wordsOf : ℕ → List ℕ
 wordsOf n = wordsIn meterRows n (logWords n)

@@ -1,7 +1,7 @@
-// What each number of document 01's refusal table says, in the table's own words, for messages that a person reads.
+// What each number of the refusal table says, in the table's own words, for messages that a person reads.
 ghost use mathlib.Core.Path.{_≡_};
 ghost use Rattle.refusal.specs.Outcome.{outcome};
-ghost use Rattle.refusal_words.specs.Words.{wordsOf, logWords, fileWords, atFront};
+ghost use Rattle.refusal_words.specs.Words.{wordsOf, logWords, replyWords, fileWords, atFront};
 
 // Room for the words of any number.
 pub const WORDS_MOST: usize = 96;
@@ -33,7 +33,6 @@ fn put_log_words(number: u8, out: &mut [u8]) -> usize
         refusal::NO_ASK_OPEN => put(out, b"no ask open"),
         refusal::ASK_ALREADY_OPEN => put(out, b"ask already open"),
         refusal::NOT_IN_LOG => put(out, b"interval or report day not in the log"),
-        refusal::MALFORMED => put(out, b"reply not well formed"),
         refusal::METER_REFUSED => put(out, b"meter's result not 0"),
         refusal::OTHER_COUNTS => put(out, b"other counts than those measured"),
         refusal::NOT_FINITE => put(out, b"power reply with an infinity or no number"),
@@ -42,6 +41,23 @@ fn put_log_words(number: u8, out: &mut [u8]) -> usize
             out,
             b"log with a wrong header, length or cell, or meter record outside its ranges",
         ),
+        _ => put_reply_words(number, out),
+    }
+}
+
+// What is wrong with a reply that is not well formed.
+fn put_reply_words(number: u8, out: &mut [u8]) -> usize
+    ensures { λ r. ⌜ outcome r (now (out .exit)) ≡ atFront (replyWords number) (now (out .entry)) ⌝ }
+{
+    match number {
+        refusal::REPLY_LENGTH => put(out, b"reply of a wrong length"),
+        refusal::REPLY_CRC => put(out, b"reply with a wrong CRC"),
+        refusal::REPLY_ADDRESS => put(out, b"reply of another address"),
+        refusal::REPLY_FUNCTION => put(
+            out,
+            b"reply with another function, or a top bit that belies its result",
+        ),
+        refusal::REPLY_PARAMETER => put(out, b"reply about another parameter"),
         _ => put_file_words(number, out),
     }
 }

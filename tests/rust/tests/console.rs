@@ -1,18 +1,20 @@
-//! The console run as a program: the meter's script, and a short talk over log and reader.
+//! The console run as a program: the gate's script, the meter's, and a short talk over log and reader.
 
 use std::io::Write;
+use std::path::Path;
 use std::process::{Command, Stdio};
 
-/// What the console prints for these lines.
-fn console(input: &str) -> String {
+/// What the console prints for these lines, with its files in a directory.
+fn console(input: &[u8], directory: &Path) -> String {
     let mut child = Command::new(env!("CARGO_BIN_EXE_console"))
+        .current_dir(directory)
         .stdin(Stdio::piped())
         .stdout(Stdio::piped())
         .spawn()
         .expect("the console starts");
     let mut stdin = child.stdin.take().expect("a pipe");
     let text = input.to_owned();
-    let feed = std::thread::spawn(move || stdin.write_all(text.as_bytes()));
+    let feed = std::thread::spawn(move || stdin.write_all(&text));
     let output = child.wait_with_output().expect("the console ends");
     feed.join().expect("fed").expect("all of it");
     String::from_utf8(output.stdout).expect("plain text")
@@ -21,7 +23,7 @@ fn console(input: &str) -> String {
 /// Each line with its answer.
 fn talk(lines: &[(&str, &str)]) {
     let input: String = lines.iter().map(|(line, _)| format!("{line}\n")).collect();
-    let output = console(&input);
+    let output = console(input.as_bytes(), Path::new("."));
     let answers: Vec<&str> = output.lines().collect();
     assert_eq!(answers.len(), lines.len());
     for ((line, expected), answer) in lines.iter().zip(answers) {
@@ -29,13 +31,28 @@ fn talk(lines: &[(&str, &str)]) {
     }
 }
 
-#[test]
-fn the_meters_script() {
-    let answers = console(include_str!("../scripts/meter.in"));
-    for (at, (answer, expected)) in answers.lines().zip(include_str!("../scripts/meter.out").lines()).enumerate() {
+/// A script's answers are the stored ones; of two that differ the first is told.
+fn stored(answers: &str, expected: &str) {
+    for (at, (answer, expected)) in answers.lines().zip(expected.lines()).enumerate() {
         assert_eq!(answer, expected, "answer {}", at + 1);
     }
-    assert_eq!(answers, include_str!("../scripts/meter.out"));
+    assert_eq!(answers, expected);
+}
+
+#[test]
+fn the_meters_script() {
+    let answers = console(include_bytes!("../scripts/meter.in"), Path::new("."));
+    stored(&answers, include_str!("../scripts/meter.out"));
+}
+
+/// What the gate holds the proved console to is what this one says; the script begins in an empty directory.
+#[test]
+fn the_gates_script() {
+    let directory = std::env::temp_dir().join(format!("metlazuel-check-{}", std::process::id()));
+    std::fs::create_dir(&directory).expect("a new directory");
+    let answers = console(include_bytes!("../../../crates/bench/stdin"), &directory);
+    std::fs::remove_dir_all(&directory).expect("the directory goes");
+    stored(&answers, include_str!("../../../crates/bench/stdout"));
 }
 
 #[test]
@@ -61,8 +78,15 @@ fn log_and_reader() {
         ("open", "0 1 0 0"),
         ("log 2024 5 17 0 30 100", "27"),
         ("open", "0 1 0 0"),
-        ("reply", "23"),
-        ("reply 010324", "23"),
+        // a reply thrown away: length, CRC, address, function, top bit, parameter; the ask stays
+        ("reply", "50 0"),
+        ("reply 010324", "50 3"),
+        ("reply 0183240000000000000000000000", "50 14"),
+        ("reply 010324000000000000000000D63B", "51"),
+        ("reply 020324000C00000003000000D22F", "52"),
+        ("reply 011024000C000000030000008DAF", "53"),
+        ("reply 01832400EB30", "53"),
+        ("reply 010328000C000000030000001614", "54"),
         ("open", "0 1 0 0"),
         // 01 83 24 03 and its CRC
         ("reply 01832403AB31", "24 3"),
@@ -81,7 +105,8 @@ fn log_and_reader() {
         ("save /nowhere/at/all", "?"),
         ("request 1 36 5 17 0", "0 010324051100536B"),
         ("request 1 37 0 0 0", "27"),
-        ("decode 1 36 5 17 0", "23"),
+        ("decode 1 36 5 17 0", "50 0"),
+        ("decode 1 36 5 17 0 010324020C00000003000000CF4B", "53"),
         ("decode 1 37 0 0 0", "27"),
         ("decode 1 36 5 17 0 01832403AB31", "24 3"),
     ]);
@@ -99,7 +124,7 @@ fn a_carriage_return_at_a_lines_end() {
         (&format!("{longest}\r"), "2"),
         (&format!("{longest}0"), "?"),
     ]);
-    assert_eq!(console("\r\n#\r\nlapse\r"), "0\n");
+    assert_eq!(console(b"\r\n#\r\nlapse\r", Path::new(".")), "0\n");
 }
 
 #[test]

@@ -54,14 +54,8 @@ slice-aggregate-put-8 c = search needs
 put-requires-8 : tie.Need-put-requires-8
 put-requires-8 c κs = search needs
 
-slice-aggregate-put-9 : tie.Need-slice-aggregate-put-9
-slice-aggregate-put-9 c = search needs
-
-put-requires-9 : tie.Need-put-requires-9
-put-requires-9 c κs = search needs
-
-put-file-words-requires : tie.Need-put-file-words-requires
-put-file-words-requires c κs = search needs
+put-reply-words-requires : tie.Need-put-reply-words-requires
+put-reply-words-requires c κs = search needs
 
 same-length : tie.Need-same-length
 same-length c = search needs
@@ -139,20 +133,11 @@ same-length-9 : tie.Need-same-length-9
 same-length-9 c = search needs
 
 returns-9 : tie.Need-returns-9
-unfolding ascii wordsIn logWords
-returns-9 c =
-    let taken = c .before .before .before .before .before .match in
-    rw (taken .keys9) (c .before .before .put9 .ensures)
-
-same-length-10 : tie.Need-same-length-10
-same-length-10 c = search needs
-
-returns-10 : tie.Need-returns-10
 unfolding logWords
-returns-10 c =
+returns-9 c =
     let args = c .before .before .before .before .before .before .args in
     let taken = c .before .before .before .before .match in
-    rw (other (Unit {0}) logRows (args .number) _ (taken .rest)) (c .before .before .put-file-words .ensures)
+    rw (other (Unit {0}) logRows (args .number) _ (taken .rest)) (c .before .before .put-reply-words .ensures)
 
 pub put-log-words-spec : {M : Type 1} → statement M
 put-log-words-spec =
@@ -174,9 +159,7 @@ put-log-words-spec =
     put-requires-7
     slice-aggregate-put-8
     put-requires-8
-    slice-aggregate-put-9
-    put-requires-9
-    put-file-words-requires
+    put-reply-words-requires
     same-length
     returns
     same-length-2
@@ -194,6 +177,4 @@ put-log-words-spec =
     same-length-8
     returns-8
     same-length-9
-    returns-9
-    same-length-10
-    returns-10)
+    returns-9)

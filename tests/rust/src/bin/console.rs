@@ -316,11 +316,12 @@ fn string_or_nothing(words: &[&str]) -> Option<Vec<u8>> {
 
 // Words said
 
-/// The answer's number and, for a 0, what comes with it; a 24 comes with the meter's result.
+/// The answer's number and, for a 0, what comes with it; a 24 comes with the meter's result, a 50 with the length received.
 fn said(answer: Result<String, Refusal>) -> String {
     match answer {
         Ok(words) => format!("0 {words}"),
         Err(Refusal::MeterRefused(result)) => format!("24 {result}"),
+        Err(Refusal::ReplyLength(length)) => format!("50 {length}"),
         Err(refusal) => refusal.number().to_string(),
     }
 }

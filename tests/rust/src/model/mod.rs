@@ -1,5 +1,6 @@
 //! The model, one module a concept.
 
+pub mod book;
 pub mod calendar;
 pub mod crc;
 pub mod log;

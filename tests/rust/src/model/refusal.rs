@@ -1,4 +1,4 @@
-//! Refusal numbers (01, "Refusal numbers"); 0, done, is the Ok of a Result.
+//! Refusal numbers (01, "Refusal numbers"; 02, the requests); 0, done, is the Ok of a Result.
 
 #[derive(Clone, Copy, Debug, PartialEq, Eq)]
 pub enum Refusal {
@@ -24,8 +24,6 @@ pub enum Refusal {
     AskOpen,
     /// 22: interval or report day not in the log
     NotInLog,
-    /// 23: reply not well formed
-    Malformed,
     /// 24: the meter's result is not 0, and is returned
     MeterRefused(u8),
     /// 25: other counts than those measured
@@ -43,6 +41,16 @@ pub enum Refusal {
     FileLength,
     FileCrc,
     FileCell,
+    /// 50: a reply of the wrong length, which is returned
+    ReplyLength(usize),
+    /// 51
+    ReplyCrc,
+    /// 52
+    ReplyAddress,
+    /// 53: another function than asked for, or a top bit that belies the result
+    ReplyFunction,
+    /// 54
+    ReplyParameter,
 }
 
 impl Refusal {
@@ -61,7 +69,6 @@ impl Refusal {
             NoAsk => 20,
             AskOpen => 21,
             NotInLog => 22,
-            Malformed => 23,
             MeterRefused(_) => 24,
             OtherCounts => 25,
             NotFinite => 26,
@@ -73,6 +80,11 @@ impl Refusal {
             FileLength => 33,
             FileCrc => 34,
             FileCell => 35,
+            ReplyLength(_) => 50,
+            ReplyCrc => 51,
+            ReplyAddress => 52,
+            ReplyFunction => 53,
+            ReplyParameter => 54,
         }
     }
 

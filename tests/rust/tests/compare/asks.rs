@@ -6,7 +6,7 @@ use crate::library;
 use crate::logs::{any_image, any_log, fitting, right_header, spoil, start, with_faulty_cell};
 use crate::random::Random;
 use crate::run::{same, same_bytes, Answer, Group, Same};
-use crate::twin::number;
+use crate::twin::{number, told_length, told_result};
 use metlazuel_check::model::crc::sealed;
 use metlazuel_check::model::log::{self, read_file, Ask, Cell};
 use metlazuel_check::model::refusal::Refusal;
@@ -22,6 +22,7 @@ const HEADER_BYTES: usize = 14;
 const SLICE: u8 = 36;
 /// What is lent before a call.
 const LENT: u8 = 0xA5;
+const LENT_LENGTH: usize = usize::MAX;
 
 #[test]
 fn fresh_logs() {
@@ -119,7 +120,7 @@ fn histories() {
             }
         }
     }
-    group.end(&[0, 1, 20, 21, 22, 23, 24, 25, 28]);
+    group.end(&[0, 1, 20, 21, 22, 24, 25, 28, 50, 51, 52, 53, 54]);
 }
 
 fn compare(group: &mut Group, case: u64, logs: &mut Logs, call: &Call) {
@@ -218,16 +219,15 @@ impl Logs {
         Ok(library_number)
     }
 
+    /// Only a 24 stores the result, and only a 50 the length received.
     fn take(&mut self, reply: &[u8]) -> Answer {
         let outcome = self.model_take(reply);
-        let result = match outcome {
-            Err(Refusal::MeterRefused(result)) => result,
-            _ => LENT,
-        };
-        let mut library_result = LENT;
-        let library_number = library::take(&mut self.library_image, &mut self.library_ask, reply, &mut library_result);
+        let (mut library_result, mut library_length) = (LENT, LENT_LENGTH);
+        let (image, ask) = (&mut self.library_image, &mut self.library_ask);
+        let library_number = library::take(image, ask, reply, &mut library_result, &mut library_length);
         same("number", number(&outcome), library_number)?;
-        same("result", result, library_result)?;
+        same("result", told_result(&outcome, LENT), library_result)?;
+        same("length", told_length(&outcome, LENT_LENGTH), library_length)?;
         self.same_logs()?;
         Ok(library_number)
     }
@@ -292,7 +292,7 @@ fn any_reply(random: &mut Random, logs: &Logs) -> Vec<u8> {
         1 => damaged(random, right),
         2 => damaged_and_sealed(random, &right),
         3 => {
-            let length = random.below(20);
+            let length = if random.one_in(8) { random.below(1_000) } else { random.below(20) };
             random.bytes(length)
         }
         _ => right,

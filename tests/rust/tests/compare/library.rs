@@ -39,6 +39,7 @@ mod c {
             reply: *const u8,
             bytes: usize,
             result: *mut u8,
+            length: *mut usize,
         ) -> u8;
         pub fn metlazuel_request(
             address: u8,
@@ -61,6 +62,7 @@ mod c {
             room: usize,
             count: *mut usize,
             result: *mut u8,
+            length: *mut usize,
         ) -> u8;
         pub fn metlazuel_meter_make(
             kept: *mut u8,
@@ -184,12 +186,12 @@ pub fn lapse(kept: &mut [u8]) -> u8 {
     guarded(kept, |kept| unsafe { c::metlazuel_lapse(kept.as_mut_ptr(), kept.len()) })
 }
 
-pub fn take(log: &mut [u8], kept: &mut [u8], reply: &[u8], result: &mut u8) -> u8 {
+pub fn take(log: &mut [u8], kept: &mut [u8], reply: &[u8], result: &mut u8, length: &mut usize) -> u8 {
     guarded(log, |log| {
         guarded(kept, |kept| unsafe {
             let (n, size, bytes) = (log.len(), kept.len(), reply.len());
             let (log, kept, reply) = (log.as_mut_ptr(), kept.as_mut_ptr(), reply.as_ptr());
-            c::metlazuel_take(log, n, kept, size, reply, bytes, result)
+            c::metlazuel_take(log, n, kept, size, reply, bytes, result, length)
         })
     })
 }
@@ -201,12 +203,17 @@ pub fn request(request: &Request, out: &mut [u8]) -> u8 {
     })
 }
 
-pub fn decode(request: &Request, reply: &[u8], figures: &mut [u32], count: &mut usize, result: &mut u8) -> u8 {
+/// What is lent beside the figures: their count, the meter's result, the length received.
+pub type Told<'a> = (&'a mut usize, &'a mut u8, &'a mut usize);
+
+pub fn decode(request: &Request, reply: &[u8], figures: &mut [u32], (count, result, length): Told) -> u8 {
     let Request { address, parameter, offset, tariff, detail } = *request;
     guarded(figures, |figures| unsafe {
         let (bytes, room) = (reply.len(), figures.len());
         let (reply, figures) = (reply.as_ptr(), figures.as_mut_ptr());
-        c::metlazuel_decode(address, parameter, offset, tariff, detail, reply, bytes, figures, room, count, result)
+        c::metlazuel_decode(
+            address, parameter, offset, tariff, detail, reply, bytes, figures, room, count, result, length,
+        )
     })
 }
 

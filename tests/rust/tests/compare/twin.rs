@@ -40,6 +40,22 @@ pub fn number<T>(outcome: &Result<T, Refusal>) -> u8 {
     }
 }
 
+/// What a reply's call stores through its result: only a 24 does.
+pub fn told_result<T>(outcome: &Result<T, Refusal>, lent: u8) -> u8 {
+    match outcome {
+        Err(Refusal::MeterRefused(result)) => *result,
+        _ => lent,
+    }
+}
+
+/// What a reply's call stores through its length: only a 50 does.
+pub fn told_length<T>(outcome: &Result<T, Refusal>, lent: usize) -> usize {
+    match outcome {
+        Err(Refusal::ReplyLength(length)) => *length,
+        _ => lent,
+    }
+}
+
 /// Makes a meter with both into bytes that are lent, and the twin where it is done.
 pub fn made(settings: &Settings, lent: &[u8]) -> (Answer, Option<Twin>) {
     let outcome = model_make(settings, lent.len());

@@ -6,7 +6,7 @@ use crate::library;
 use crate::random::Random;
 use crate::run::{same, same_bytes, Answer, Group};
 use crate::sweep::{byte_changes, length_changes};
-use crate::twin::number;
+use crate::twin::{number, told_length, told_result};
 use metlazuel_check::model::crc::sealed;
 use metlazuel_check::model::reader::{Figures, Request, READ};
 use metlazuel_check::model::refusal::Refusal;
@@ -17,6 +17,7 @@ const MOST_FIGURES: usize = 24;
 /// What is lent before a call.
 const LENT: u8 = 0xA5;
 const LENT_FIGURE: u32 = 0xA5A5_A5A5;
+const LENT_LENGTH: usize = usize::MAX;
 
 /// Every parameter and detail, with offsets and tariffs in and out of their ranges.
 #[test]
@@ -61,7 +62,7 @@ fn decodes() {
         let answer = decode_both(&request, &reply, room);
         group.call(case, answer, || format!("{request:?}, {reply:?} into {room}"));
     }
-    group.end(&[0, 1, 23, 24, 26, 27]);
+    group.end(&[0, 1, 24, 26, 27, 50, 51, 52, 53, 54]);
 }
 
 /// A right reply and a refusal to each kind of request, with each byte changed to each value and in every length.
@@ -78,7 +79,7 @@ fn every_byte_of_right_replies() {
             decode_each(&mut group, case, &request, byte_changes(&reply).chain(length_changes(&reply)));
         }
     }
-    group.end(&[0, 23, 24, 26, 27]);
+    group.end(&[0, 24, 26, 27, 50, 51, 52, 53, 54]);
 }
 
 fn decode_each(group: &mut Group, case: u64, request: &Request, replies: impl Iterator<Item = Vec<u8>>) {
@@ -88,24 +89,24 @@ fn decode_each(group: &mut Group, case: u64, request: &Request, replies: impl It
     }
 }
 
-/// The number, the count, the result and the whole row. 1 comes first; a refusal leaves row and count, and only a 24 stores the result.
+/// The number, the count, the result, the length and the whole row. 1 comes first; a refusal leaves row and count, only a 24 stores the
+/// result, and only a 50 the length received.
 fn decode_both(request: &Request, reply: &[u8], room: usize) -> Answer {
     let outcome = if room < foretold(request) { Err(Refusal::OutputTooShort) } else { request.decode(reply) };
-    let (mut row, mut count, mut result) = (vec![LENT_FIGURE; room], usize::MAX, LENT);
-    match &outcome {
-        Ok(figures) => {
-            let figures = numbers(figures);
-            row[..figures.len()].copy_from_slice(&figures);
-            count = figures.len();
-        }
-        Err(Refusal::MeterRefused(told)) => result = *told,
-        Err(_) => {}
+    let (mut row, mut count) = (vec![LENT_FIGURE; room], LENT_LENGTH);
+    if let Ok(figures) = &outcome {
+        let figures = numbers(figures);
+        row[..figures.len()].copy_from_slice(&figures);
+        count = figures.len();
     }
-    let (mut library_row, mut library_count, mut library_result) = (vec![LENT_FIGURE; room], usize::MAX, LENT);
-    let library_number = library::decode(request, reply, &mut library_row, &mut library_count, &mut library_result);
+    let (mut library_row, mut library_count) = (vec![LENT_FIGURE; room], LENT_LENGTH);
+    let (mut library_result, mut library_length) = (LENT, LENT_LENGTH);
+    let lent = (&mut library_count, &mut library_result, &mut library_length);
+    let library_number = library::decode(request, reply, &mut library_row, lent);
     same("number", number(&outcome), library_number)?;
     same("count", count, library_count)?;
-    same("result", result, library_result)?;
+    same("result", told_result(&outcome, LENT), library_result)?;
+    same("length", told_length(&outcome, LENT_LENGTH), library_length)?;
     same("row", row, library_row)?;
     Ok(library_number)
 }
@@ -175,7 +176,7 @@ fn any_reply(random: &mut Random, request: &Request) -> Vec<u8> {
         1 => damaged(random, right),
         2 => damaged_and_sealed(random, &right),
         3 => {
-            let length = random.below(64);
+            let length = if random.one_in(8) { random.below(1_000) } else { random.below(64) };
             random.bytes(length)
         }
         _ => right,

@@ -40,6 +40,9 @@ put-left-requires c κs = search needs
 result-after-requires : tie.Need-result-after-requires
 result-after-requires c κs = search needs
 
+received-after-requires : tie.Need-received-after-requires
+received-after-requires c κs = search needs
+
 same-length-2 : tie.Need-same-length-2
 same-length-2 c = search needs
 
@@ -49,19 +52,21 @@ same-length-3 c = search needs
 returns-2 : tie.Need-returns-2
 unfolding takeForC
 returns-2 c =
-    let put-left = c .before .before .before .before .put-left in
-    let closed = c .before .before .before .before .before in
+    let result-after = c .before .before .result-after in
+    let put-left = c .before .before .before .before .before .before .put-left in
+    let closed = c .before .before .before .before .before .before .before in
     let taken = closed .before .before .before .before .before in
     let known = taken .before .before .before in
     let read = known .before .before in
     let start = read .before .before .before .before .before .args in
     simp (
       sym (read .ask-of .ensures) ∙ known .held .given .1,
-      c .result-after .ensures,
+      c .received-after .ensures,
+      result-after .ensures,
       put-left .ensures,
       closed .closes .ensures,
       closed .before .before .number .ensures,
-    ) (ap (λ (o : Outcome Taken (List ℕ)). takenForC o (start .reply .now) (start .result .now) (start .ask .now)) (taken .take-reply .ensures))
+    ) (ap (λ (o : Outcome Taken (List ℕ)). takenForC o (start .reply .now) (start .result .now) (start .length .now) (start .ask .now)) (taken .take-reply .ensures))
 
 pub metlazuel-take-spec : {M : Type 1} → statement M
 metlazuel-take-spec =
@@ -77,6 +82,7 @@ metlazuel-take-spec =
     closes-requires
     put-left-requires
     result-after-requires
+    received-after-requires
     same-length-2
     same-length-3
     returns-2)

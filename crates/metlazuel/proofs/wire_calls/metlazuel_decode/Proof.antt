@@ -28,6 +28,9 @@ number-requires c κs = search needs
 result-after-requires : tie.Need-result-after-requires
 result-after-requires c κs = search needs
 
+received-after-requires : tie.Need-received-after-requires
+received-after-requires c κs = search needs
+
 count-after-requires : tie.Need-count-after-requires
 count-after-requires c κs = search needs
 
@@ -37,8 +40,9 @@ same-length c = search needs
 returns-2 : tie.Need-returns-2
 unfolding decodeForC
 returns-2 c =
-    let number = c .before .before .before .before .number in
-    let put = c .before .before .before .before .before .before .before in
+    let result-after = c .before .before .before .before .result-after in
+    let number = c .before .before .before .before .before .before .number in
+    let put = c .before .before .before .before .before .before .before .before .before in
     let decoded = put .before .before in
     let test = decoded .before in
     let count = test .before .figures-for .ensures in
@@ -47,7 +51,8 @@ returns-2 c =
     simp (
       room,
       c .count-after .ensures,
-      c .before .before .result-after .ensures,
+      c .before .before .received-after .ensures,
+      result-after .ensures,
       put .put-figures .ensures,
       number .ensures,
       count,
@@ -67,6 +72,7 @@ metlazuel-decode-spec =
     put-figures-requires
     number-requires
     result-after-requires
+    received-after-requires
     count-after-requires
     same-length
     returns-2)

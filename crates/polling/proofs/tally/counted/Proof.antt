@@ -1,4 +1,4 @@
--- `counted` meets its contract: each arm sets the one count that `countedIn` sets for that fate, to what `one_more` ensures.
+-- `counted` meets its contract: each arm sets the one count that `countedIn` sets for that fate, to what `one_more` or `faulted` ensures.
 use Rattle.polling.specs.Tally.{countedIn}
 use borrow.Author.Needs.{needs}
 use Rattle.polling.proofs.tally.counted.Statement.{statement}
@@ -16,6 +16,12 @@ enum-told-2 c = search needs
 one-more-requires-2 : tie.Need-one-more-requires-2
 one-more-requires-2 c κs = search needs
 
+enum-known-fate : tie.Need-enum-known-fate
+enum-known-fate c = search needs
+
+faulted-requires : tie.Need-faulted-requires
+faulted-requires c κs = search needs
+
 enum-told-3 : tie.Need-enum-told-3
 enum-told-3 c = search needs
 
@@ -24,12 +30,6 @@ one-more-requires-3 c κs = search needs
 
 enum-told-4 : tie.Need-enum-told-4
 enum-told-4 c = search needs
-
-one-more-requires-4 : tie.Need-one-more-requires-4
-one-more-requires-4 c κs = search needs
-
-enum-told-5 : tie.Need-enum-told-5
-enum-told-5 c = search needs
 
 returns : tie.Need-returns
 unfolding countedIn
@@ -41,15 +41,17 @@ returns-2 c = simp (c .before .enum-told2 .given .1, c .one-more2 .ensures)
 
 returns-3 : tie.Need-returns-3
 unfolding countedIn
-returns-3 c = simp (c .before .enum-told3 .given .1, c .one-more3 .ensures)
+returns-3 c =
+    let at-fate = c .before .before .fate in
+    simp (at-fate .given .1, c .faulted .ensures)
 
 returns-4 : tie.Need-returns-4
 unfolding countedIn
-returns-4 c = simp (c .before .enum-told4 .given .1, c .one-more4 .ensures)
+returns-4 c = simp (c .before .enum-told3 .given .1, c .one-more3 .ensures)
 
 returns-5 : tie.Need-returns-5
 unfolding countedIn
-returns-5 c = simp (c .enum-told5 .given .1)
+returns-5 c = simp (c .enum-told4 .given .1)
 
 pub counted-spec : {M : Type 1} → statement M
 counted-spec =
@@ -59,11 +61,11 @@ counted-spec =
     one-more-requires
     enum-told-2
     one-more-requires-2
+    enum-known-fate
+    faulted-requires
     enum-told-3
     one-more-requires-3
     enum-told-4
-    one-more-requires-4
-    enum-told-5
     returns
     returns-2
     returns-3

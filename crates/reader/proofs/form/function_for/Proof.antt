@@ -5,6 +5,9 @@ use borrow.Author.Needs.{needs}
 use Rattle.reader.proofs.form.function_for.Statement.{statement}
 use Rattle.reader.proofs.form.function_for.Tie as tie
 
+cast-result : tie.Need-cast-result
+cast-result c = search needs
+
 add-result : tie.Need-add-result
 add-result c = search needs
 
@@ -17,4 +20,4 @@ unfolding functionFor
 returns-2 c = simp (ne-eqb _ _ (c .if1 .left))
 
 pub function-for-spec : {M : Type 1} → statement M
-function-for-spec = tie.close (tie.spec add-result returns returns-2)
+function-for-spec = tie.close (tie.spec cast-result add-result returns returns-2)

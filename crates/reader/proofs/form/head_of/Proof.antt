@@ -27,6 +27,9 @@ returns c =
     let byte-at = c .before .before .before .before .before .byte-at in
     simp (sym (byte-at .ensures), ne-eqb _ _ (c .if1 .taken))
 
+cast-if2 : tie.Need-cast-if2
+cast-if2 c = search needs
+
 returns-2 : tie.Need-returns-2
 unfolding headOf
 returns-2 c =
@@ -83,6 +86,7 @@ head-of-spec =
     byte-at-requires-4
     function-for-requires
     returns
+    cast-if2
     returns-2
     returns-3
     returns-4)

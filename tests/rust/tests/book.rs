@@ -1,0 +1,107 @@
+//! Demand 3 of the model: histories of asks, lapses and replies of any bytes, given to the log's calls and to the plain book. Every
+//! answer, the ask left open and the log's bytes are those of the book.
+
+#[path = "compare/damage.rs"]
+#[allow(dead_code)]
+mod damage;
+#[path = "compare/random.rs"]
+#[allow(dead_code)]
+mod random;
+
+use damage::{damaged, damaged_and_sealed};
+use metlazuel_check::model::book::Book;
+use metlazuel_check::model::calendar::date_of;
+use metlazuel_check::model::crc::sealed;
+use metlazuel_check::model::log::{self, Ask, Header};
+use metlazuel_check::model::refusal::Refusal;
+use metlazuel_check::model::{count_bytes, reader::READ};
+use random::Random;
+use std::collections::BTreeSet;
+
+const HISTORIES: u64 = 2_000;
+const CALLS: usize = 60;
+const HEADER_BYTES: usize = 14;
+const SLICE: u8 = 36;
+const SEED: u64 = 2;
+
+#[test]
+fn every_history_is_the_books() {
+    let mut numbers = BTreeSet::new();
+    for case in 0..HISTORIES {
+        let random = &mut Random::of(SEED, case);
+        let fresh = log::fresh(any_header(random)).expect("a header in its ranges");
+        let first = history(random, fresh, &mut numbers);
+        let file = log::write_file(&first).expect("a sound log");
+        history(random, log::read_file(&file).expect("a log's file"), &mut numbers);
+    }
+    let told = [0, 20, 21, 22, 24, 25, 50, 51, 52, 53, 54];
+    assert_eq!(numbers, BTreeSet::from(told), "the numbers that the histories led to");
+}
+
+/// A history from a log with no ask open; gives the log after it.
+fn history(random: &mut Random, mut image: Vec<u8>, numbers: &mut BTreeSet<u8>) -> Vec<u8> {
+    let header = log::header(&image).expect("a sound log");
+    let front = image[..HEADER_BYTES].to_vec();
+    let mut book = Book::begin(header, |day, slot| log::cell(&image, day, slot).expect("a sound cell"));
+    let mut open = None;
+    for _ in 0..CALLS {
+        let (ours, books) = call(random, &mut image, &mut open, &mut book);
+        assert_eq!(ours, books);
+        assert_eq!(open, book.open());
+        numbers.insert(ours.map_or_else(Refusal::number, |()| 0));
+    }
+    assert_eq!(image, [front, book.cells()].concat());
+    image
+}
+
+type Answer = Result<(), Refusal>;
+
+/// One call of each, and both answers.
+fn call(random: &mut Random, image: &mut [u8], open: &mut Option<Ask>, book: &mut Book) -> (Answer, Answer) {
+    match random.below(16) {
+        0..=6 => {
+            let ask = any_ask(random, image);
+            (log::ask(image, open, ask).map(|_| ()), book.ask(ask))
+        }
+        7 => {
+            log::lapse(open);
+            book.lapse();
+            (Ok(()), Ok(()))
+        }
+        _ => {
+            let reply = any_reply(random, *open);
+            (log::take(image, open, &reply), book.reply(&reply))
+        }
+    }
+}
+
+fn any_header(random: &mut Random) -> Header {
+    let (year, month, day) = date_of(random.below(36_500) as u32);
+    let (days, minutes) = (random.within(1, 3), random.pick(&[15, 30]));
+    Header { year, month, day, days, minutes, ke: random.word().max(1) }
+}
+
+/// One of two intervals most often, so that replies meet; else any.
+fn any_ask(random: &mut Random, image: &[u8]) -> Ask {
+    let days = image[8];
+    let (day, slot) =
+        if random.one_in(4) { (random.within(0, days), random.within(0, 96)) } else { (0, random.within(0, 1)) };
+    Ask { address: random.pick(&[0, 1, 255]), day, slot }
+}
+
+/// Right for the open ask most often.
+fn any_reply(random: &mut Random, open: Option<Ask>) -> Vec<u8> {
+    let address = open.map_or(1, |ask| ask.address);
+    let counts = match random.below(3) {
+        0 => [0; 4],
+        1 => std::array::from_fn(|_| random.below(2) as u16),
+        _ => std::array::from_fn(|_| random.word()),
+    };
+    let right = sealed([&[address, READ, SLICE, 0][..], &count_bytes(counts)].concat());
+    match random.below(8) {
+        0 => sealed(vec![address, 0x80 + READ, SLICE, random.byte()]),
+        1 => damaged(random, right),
+        2 => damaged_and_sealed(random, &right),
+        _ => right,
+    }
+}
