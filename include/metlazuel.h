@@ -19,7 +19,7 @@
 extern "C" {
 #endif
 
-// The answers: the numbers of document 01's refusal table, and 50 to 54 of document 02's request 2.
+// The answers: the numbers of document 01's refusal table, and 40, 41 and 50 to 54 of document 02.
 enum metlazuel_answer {
     METLAZUEL_DONE = 0,
     METLAZUEL_TOO_SHORT = 1,          // a lent output that is too short
@@ -44,6 +44,8 @@ enum metlazuel_answer {
     METLAZUEL_FILE_LENGTH = 33,
     METLAZUEL_FILE_CRC = 34,
     METLAZUEL_FILE_CELL = 35,
+    METLAZUEL_MERCURY_FORM = 40,      // Mercury 206: a frame with a wrong length, CRC, address or command
+    METLAZUEL_MERCURY_DIGIT = 41,     // Mercury 206: a figure with a half-byte above 9
     METLAZUEL_REPLY_LENGTH = 50,      // a reply that is not well formed: of a wrong length,
     METLAZUEL_REPLY_CRC = 51,         //   with a wrong CRC (both speak of the cable),
     METLAZUEL_REPLY_ADDRESS = 52,     //   of another address,
@@ -64,7 +66,10 @@ enum {
     METLAZUEL_FILE_BYTES = METLAZUEL_LOG_BYTES + 2, // and its file, with a CRC
     METLAZUEL_COUNTS = 4,          // the counts of a cell, in 16-bit numbers: E+, E-, R+, R-
     METLAZUEL_ROW = 7,             // a day's report, in 32-bit numbers
-    METLAZUEL_FIGURES = 24         // the most figures of a reply, in 32-bit numbers
+    METLAZUEL_FIGURES = 24,        // the most figures of a reply, in 32-bit numbers
+    METLAZUEL_MERCURY_REQUEST_BYTES = 7, // a Mercury 206's request
+    METLAZUEL_MERCURY_FIGURES = 8, // the most figures of its replies, in 32-bit numbers
+    METLAZUEL_MERCURY_REST = 7     // the bytes behind its frequency
 };
 
 // The parameters of the meter, by the numbers that it gives them (SS-301 operator's instruction 3.16, Appendix A).
@@ -225,6 +230,35 @@ uint8_t metlazuel_meter_slice(uint8_t *meter, size_t n, uint8_t *store, size_t s
 // Sets the powers that METLAZUEL_PARAMETER_ACTIVE_POWER or METLAZUEL_PARAMETER_REACTIVE_POWER reads, those of A, B and C, each as the bits
 // of a 32-bit float. UNSOUND, OUT_OF_RANGE, else DONE.
 uint8_t metlazuel_meter_powers(uint8_t *meter, size_t n, uint8_t parameter, uint32_t a, uint32_t b, uint32_t c);
+
+// ---- the Mercury 206
+//
+// Another meter, whose readings enter no log. Its address is its number; each call is of one of three commands.
+enum metlazuel_mercury_command {
+    METLAZUEL_MERCURY_TARIFFS = 0x27,
+    METLAZUEL_MERCURY_LOAD = 0x63,     // voltage, current and power
+    METLAZUEL_MERCURY_FREQUENCY = 0x81
+};
+
+// Puts a request to the front of out: METLAZUEL_MERCURY_REQUEST_BYTES. TOO_SHORT, MERCURY_FORM (another command), else DONE.
+uint8_t metlazuel_mercury_request(uint32_t address, uint8_t command, uint8_t *out, size_t room);
+
+// Decodes the reply to a request. Its figures go to the front of a row of 32-bit numbers, and how many they are to *count:
+//   tariffs     4   energy by tariff, in tens of watt-hours
+//   load        3   tenths of a volt, hundredths of an ampere, watts
+//   frequency   8   hundredths of a hertz, and the seven bytes behind it as they are, a number each
+// TOO_SHORT (a row for fewer figures than a reply to this request has), MERCURY_FORM, MERCURY_DIGIT, else DONE. A refusal leaves figures and
+// *count.
+uint8_t metlazuel_mercury_decode(uint32_t address, uint8_t command, const uint8_t *reply, size_t bytes, uint32_t *figures, size_t room,
+                                 size_t *count);
+
+// The bench: answers a request as the meter with this address and these figures does, in the units of metlazuel_mercury_decode. rest is the
+// METLAZUEL_MERCURY_REST bytes behind the frequency; of fewer, those that are missing are 0. The reply goes to the front of out, which has
+// at least METLAZUEL_FRAME_BYTES, and its length to *length. TOO_SHORT, OUT_OF_RANGE (a figure above its digits: tariffs have eight, power six,
+// the others four), MERCURY_FORM (nothing is to be sent), else DONE. A refusal leaves out and *length.
+uint8_t metlazuel_mercury_answer(uint32_t address, uint32_t first, uint32_t second, uint32_t third, uint32_t fourth, uint16_t voltage,
+                                 uint16_t current, uint32_t power, uint16_t frequency, const uint8_t *rest, size_t size,
+                                 const uint8_t *request, size_t bytes, uint8_t *out, size_t room, size_t *length);
 
 #ifdef __cplusplus
 }

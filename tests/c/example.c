@@ -1,12 +1,12 @@
 // A day in small: a bench meter with one slice, a log that asks it for the first three half hours, its cells and gaps, the day's report,
-// the log's file, and the meter's clock and powers read without a log. What it prints stands in example.out; `tests/c/run` builds, runs and
+// the log's file, the meter's clock and powers read without a log, and a Mercury 206. What it prints stands in example.out; `tests/c/run` builds, runs and
 // compares it, as C and as C++.
 #include <stdio.h>
 #include <stdlib.h>
 #include <string.h>
 #include "metlazuel.h"
 
-enum { METER = 1 };
+enum { METER = 1, MERCURY = 1234 };
 
 static uint8_t record[METLAZUEL_RECORD_BYTES], store[METLAZUEL_STORE_BYTES];
 static uint8_t image[METLAZUEL_LOG_BYTES], file[METLAZUEL_FILE_BYTES], back[METLAZUEL_LOG_BYTES];
@@ -146,6 +146,43 @@ static void show_powers(void)
            power_of(f[3]));
 }
 
+// A Mercury 206 beside it: a command sent to the bench and its reply decoded; another meter's request gets no answer.
+static size_t read_mercury(uint8_t command, uint32_t *figures)
+{
+    static const uint8_t rest[METLAZUEL_MERCURY_REST] = {0x3A};
+    uint8_t request[METLAZUEL_MERCURY_REQUEST_BYTES], reply[METLAZUEL_FRAME_BYTES];
+    size_t length = 0, count = 0;
+    expect("mercury_request", metlazuel_mercury_request(MERCURY, command, request, sizeof request), METLAZUEL_DONE);
+    expect("mercury_answer",
+           metlazuel_mercury_answer(MERCURY + 1, 22750, 0, 0, 0, 2300, 150, 100, 5050, rest, sizeof rest, request, sizeof request, reply,
+                                    sizeof reply, &length),
+           METLAZUEL_MERCURY_FORM);
+    expect("mercury_answer",
+           metlazuel_mercury_answer(MERCURY, 22750, 1, 99999999, 0, 2300, 150, 100, 5050, rest, sizeof rest, request, sizeof request, reply,
+                                    sizeof reply, &length),
+           METLAZUEL_DONE);
+    expect("mercury_decode",
+           metlazuel_mercury_decode(MERCURY, command, reply, length, figures, METLAZUEL_MERCURY_FIGURES, &count), METLAZUEL_DONE);
+    reply[5] = 0xA0;
+    reply[length - 2] ^= 1;
+    expect("mercury_decode",
+           metlazuel_mercury_decode(MERCURY, command, reply, length, figures, METLAZUEL_MERCURY_FIGURES, &count), METLAZUEL_MERCURY_FORM);
+    return count;
+}
+
+static void show_mercury(void)
+{
+    static const uint8_t commands[] = {METLAZUEL_MERCURY_TARIFFS, METLAZUEL_MERCURY_LOAD, METLAZUEL_MERCURY_FREQUENCY};
+    uint32_t f[METLAZUEL_MERCURY_FIGURES];
+    for (size_t c = 0; c < sizeof commands; c++) {
+        size_t count = read_mercury(commands[c], f);
+        printf("Mercury 206, command %02X:", commands[c]);
+        for (size_t i = 0; i < count; i++)
+            printf(" %u", (unsigned)f[i]);
+        printf("\n");
+    }
+}
+
 int main(void)
 {
     size_t n;
@@ -157,5 +194,6 @@ int main(void)
     save(n);
     show_clock();
     show_powers();
+    show_mercury();
     return 0;
 }

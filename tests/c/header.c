@@ -311,6 +311,42 @@ static void file_answers(void)
     check("the file itself", metlazuel_read_file(file, sizeof file, image, sizeof image, &length) == METLAZUEL_DONE);
 }
 
+// The Mercury 206's commands, lengths and numbers, and the longest row.
+static void mercury(void)
+{
+    static const uint8_t rest[METLAZUEL_MERCURY_REST + 1] = {1, 2, 3, 4, 5, 6, 7, 8};
+    static const uint8_t commands[] = {METLAZUEL_MERCURY_TARIFFS, METLAZUEL_MERCURY_LOAD, METLAZUEL_MERCURY_FREQUENCY};
+    static const size_t counts[] = {4, 3, METLAZUEL_MERCURY_FIGURES};
+    uint8_t request[METLAZUEL_MERCURY_REQUEST_BYTES], reply[METLAZUEL_FRAME_BYTES];
+    uint32_t row[METLAZUEL_MERCURY_FIGURES] = {0};
+    size_t length = 0, count = 0;
+    check("a shorter request", metlazuel_mercury_request(1234, commands[0], request, sizeof request - 1) == METLAZUEL_TOO_SHORT);
+    check("a fourth command", metlazuel_mercury_request(1234, 0x28, request, sizeof request) == METLAZUEL_MERCURY_FORM);
+    for (size_t c = 0; c < sizeof commands; c++) {
+        check("a request", metlazuel_mercury_request(1234, commands[c], request, sizeof request) == METLAZUEL_DONE);
+        check("a shorter reply's room",
+              metlazuel_mercury_answer(1234, 1, 2, 3, 4, 5, 6, 7, 8, rest, METLAZUEL_MERCURY_REST, request, sizeof request, reply,
+                                       sizeof reply - 1, &length)
+                  == METLAZUEL_TOO_SHORT);
+        check("a figure above its digits",
+              metlazuel_mercury_answer(1234, 1, 2, 3, 100000000, 5, 6, 7, 8, rest, METLAZUEL_MERCURY_REST, request, sizeof request, reply,
+                                       sizeof reply, &length)
+                  == METLAZUEL_OUT_OF_RANGE);
+        check("an answer",
+              metlazuel_mercury_answer(1234, 1, 2, 3, 4, 5, 6, 7, 8, rest, METLAZUEL_MERCURY_REST, request, sizeof request, reply,
+                                       sizeof reply, &length)
+                  == METLAZUEL_DONE);
+        check("a shorter row", metlazuel_mercury_decode(1234, commands[c], reply, length, row, counts[c] - 1, &count) == METLAZUEL_TOO_SHORT);
+        check("figures", metlazuel_mercury_decode(1234, commands[c], reply, length, row, counts[c], &count) == METLAZUEL_DONE
+                             && count == counts[c]);
+    }
+    check("the last byte behind a frequency", row[METLAZUEL_MERCURY_REST] == 7);
+    reply[5] = 0x0A;
+    length = seal(reply, length - 2);
+    check("a half-byte of ten", metlazuel_mercury_decode(1234, METLAZUEL_MERCURY_FREQUENCY, reply, length, row, METLAZUEL_MERCURY_FIGURES, &count)
+                                    == METLAZUEL_MERCURY_DIGIT);
+}
+
 int main(void)
 {
     longest_log();
@@ -326,5 +362,6 @@ int main(void)
     reader_answers();
     infinite_power();
     file_answers();
+    mercury();
     return wrong;
 }

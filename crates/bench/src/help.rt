@@ -20,9 +20,10 @@ fn lines() {
     reader_lines();
     meter_lines();
     meter_reads();
+    mercury_lines();
     put(b"\nhelp: these lines    quit: the end, as the input's own\n");
     put(b"Bytes are pairs of hex digits; a line that cannot be read is answered ?\n");
-    put(b"Any other number than 0 is a refusal of document 01's table, alone on its line.\n");
+    put(b"Any other number than 0 is a refusal of the papers' table, alone on its line.\n");
 }
 
 fn log_lines() {
@@ -60,6 +61,14 @@ fn meter_reads() {
     put(b"    record: 0 ADDRESS LEVEL SECONDS YEAR MONTH DAY HOUR MINUTE SECOND SEASON NEXT\n");
     put(b"    shown: 0 and six bytes\n");
     put(b"    inquire ADDRESS PARAMETER OFFSET TARIFF DETAIL: as decode; 2 for silence\n");
+}
+
+fn mercury_lines() {
+    put(b"\nThe Mercury 206:\n");
+    put(b"    mercury ADDRESS T1 T2 T3 T4 VOLTAGE CURRENT POWER FREQUENCY REST: 0\n");
+    put(b"    mercury-frame BYTES: 0 and the reply; silence: 40 alone\n");
+    put(b"    mercury-ask ADDRESS COMMAND: 0 FRAME\n");
+    put(b"    mercury-decode ADDRESS COMMAND BYTES: 0 and the figures\n");
 }
 
 fn put(bytes: &[u8]) {

@@ -7,6 +7,7 @@ mod verb;
 use console_io::Rest;
 use console_log::Kept;
 use logger::OpenAsk;
+use mercury_bench::Meter;
 use meter_record::Record;
 use meter_record::RecordAnswer;
 
@@ -40,6 +41,7 @@ fn session(image: &mut [u8], store: &mut [u8], line: &mut [u8], block: &mut [u8]
         held: OpenAsk::Closed,
     };
     let mut record = first;
+    let mut mercury = console_mercury::first();
     let mut rest = Rest { at: 0, end: 0 };
     // Nothing says that the input ends: this many lines no run has.
     let mut turns = u64::MAX;
@@ -51,9 +53,10 @@ fn session(image: &mut [u8], store: &mut [u8], line: &mut [u8], block: &mut [u8]
         rest = taken.rest;
         let n = taken.length;
         let verb = verb::verb_of(console::part(line, n));
-        // A verb is the log's or the meter's: the other leaves all as it stands.
+        // A verb is the log's or one of the two meters': the others leave all as it stands.
         kept = on_log(verb, console::part(line, n), image, kept);
         record = on_meter(verb, console::part(line, n), store, record);
+        mercury = on_mercury(verb, console::part(line, n), mercury);
         turns -= 1;
     }
 }
@@ -88,8 +91,15 @@ fn read(verb: usize, line: &[u8], image: &[u8], held: OpenAsk) {
 }
 
 fn on_meter(verb: usize, line: &[u8], store: &mut [u8], r: Record) -> Record {
-    if verb <= verb::NOTHING {
+    if verb <= verb::MERCURY {
         return r;
     }
     console_meter::called(line, store, r)
+}
+
+fn on_mercury(verb: usize, line: &[u8], m: Meter) -> Meter {
+    if verb == verb::MERCURY {
+        return console_mercury::called(line, m);
+    }
+    m
 }

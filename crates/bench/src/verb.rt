@@ -23,12 +23,18 @@ pub const DECODE: usize = 10;
 
 pub const HELP: usize = 11;
 
-// A line that is passed over. What has none of the names is left to the meter.
+// A line that is passed over.
 pub const NOTHING: usize = 12;
+
+// One about the Mercury 206. What has none of the names is left to the meter.
+pub const MERCURY: usize = 13;
 
 pub fn verb_of(line: &[u8]) -> usize {
     if console::is_passed_over(line) {
         return NOTHING;
+    }
+    if console_mercury::is_named(line) {
+        return MERCURY;
     }
     console::place_of(
         console::word(line, 0),

@@ -15,6 +15,7 @@ mod bench_meter;
 mod cell_calls;
 mod given;
 mod log_calls;
+mod mercury_calls;
 mod wire_calls;
 
 pub use answer_call::metlazuel_meter_answer;
@@ -29,6 +30,9 @@ pub use log_calls::metlazuel_lapse;
 pub use log_calls::metlazuel_log_fresh;
 pub use log_calls::metlazuel_take;
 pub use log_calls::metlazuel_write_file;
+pub use mercury_calls::metlazuel_mercury_answer;
+pub use mercury_calls::metlazuel_mercury_decode;
+pub use mercury_calls::metlazuel_mercury_request;
 pub use wire_calls::metlazuel_decode;
 pub use wire_calls::metlazuel_request;
 

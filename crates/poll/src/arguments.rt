@@ -32,6 +32,11 @@ pub enum ShortArgument {
     Unread,
 }
 
+pub enum LongArgument {
+    Long(u32),
+    Unread,
+}
+
 pub enum Start {
     Of(Header),
     OutOfRange,
@@ -40,6 +45,8 @@ pub enum Start {
 const MOST_BYTE: u64 = 255;
 
 const MOST_SHORT: u64 = 65535;
+
+const MOST_LONG: u64 = 4294967295;
 
 // Where the words of `poll DEVICE ADDRESS LOGFILE ..` and of `poll new LOGFILE YEAR MONTH DAY DAYS MINUTES KE` stand.
 pub const DEVICE: usize = 1;
@@ -54,6 +61,16 @@ const FIRST_OPTION: usize = 4;
 const SECOND_OPTION: usize = 5;
 
 const THIRD_OPTION: usize = 6;
+
+// The first word, among `new mercury`.
+const NEW: usize = 0;
+
+const MERCURY: usize = 1;
+
+// Where the words of `poll mercury DEVICE ADDRESS` stand.
+pub const MERCURY_DEVICE: usize = 2;
+
+pub const MERCURY_ADDRESS: usize = 3;
 
 const AGAIN: usize = 0;
 
@@ -80,9 +97,18 @@ const LAST_YEAR: u16 = 2255;
 
 // Whether the first word is `new`.
 pub fn is_new() -> bool {
+    first_place() == NEW
+}
+
+// Whether it is `mercury`.
+pub fn is_mercury() -> bool {
+    first_place() == MERCURY
+}
+
+fn first_place() -> usize {
     let mut word = io::buffer();
     let n = os::arg(DEVICE, &mut word);
-    console::place_of(&word[..n], b"new") == 0
+    console::place_of(&word[..n], b"new mercury")
 }
 
 pub fn said_options() -> Options {
@@ -196,6 +222,19 @@ fn short_argument(i: usize) -> ShortArgument {
             }
         }
         NumberAnswer::NotANumber => ShortArgument::Unread,
+    }
+}
+
+pub fn long_argument(i: usize) -> LongArgument {
+    match number_argument(i) {
+        NumberAnswer::Number(n) => {
+            if n <= MOST_LONG {
+                LongArgument::Long(n as u32)
+            } else {
+                LongArgument::Unread
+            }
+        }
+        NumberAnswer::NotANumber => LongArgument::Unread,
     }
 }
 

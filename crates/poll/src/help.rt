@@ -36,6 +36,10 @@ fn uses() {
     put(
         b"    30 minutes, Ke milliwatt-hours a count (1 to 65535). A file that is there is left as it is.\n",
     );
+    put(b"poll mercury DEVICE ADDRESS\n");
+    put(
+        b"    reads the Mercury 206 with this number: energy by tariff, voltage, current, power and frequency. They enter no log.\n",
+    );
     put(b"\n");
 }
 

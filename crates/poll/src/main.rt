@@ -1,12 +1,14 @@
-// Polls a meter on a serial line for the intervals of a log that are still gaps, or makes the file of a fresh log. What is asked, what
-// a reply does to the log and what the report says are decided in the libraries.
+// Polls a meter on a serial line for the intervals of a log that are still gaps, makes the file of a fresh log, or reads a Mercury 206.
+// What is asked, what a reply does to the log and what the report says are decided in the libraries.
 mod arguments;
 mod days;
 mod fresh;
 mod help;
 mod locks;
+mod mercury_meter;
 mod meter;
 mod part;
+mod reading;
 mod report;
 mod say;
 mod session;
@@ -14,6 +16,8 @@ mod wire;
 
 // The arguments of each form, the program's own name among them.
 const NEW_WORDS: usize = 9;
+
+const MERCURY_WORDS: usize = 4;
 
 const LEAST_WORDS: usize = 4;
 
@@ -29,6 +33,18 @@ fn main() {
         help::show();
         return;
     }
+    if arguments::is_mercury() {
+        if count == MERCURY_WORDS {
+            say::end(mercury_meter::read());
+            return;
+        }
+        help::show();
+        return;
+    }
+    polled(count);
+}
+
+fn polled(count: usize) {
     if count < LEAST_WORDS {
         help::show();
         return;

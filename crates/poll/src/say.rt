@@ -51,8 +51,30 @@ fn in_words(number: u8) {
     put(crate::part::front(&words, n));
 }
 
+// What of a Mercury 206's reply is wrong.
+pub fn malformed(device: &[u8], fault: mercury::Fault) -> bool {
+    put(b"poll: ");
+    put(device);
+    put(b": refused ");
+    io::print_decimal(STDERR_FILENO, refusal::MERCURY_FORM as u64);
+    put(b": the reply's ");
+    match fault {
+        mercury::Fault::Length => put(b"length"),
+        mercury::Fault::Crc => put(b"CRC"),
+        mercury::Fault::Address => put(b"address"),
+        mercury::Fault::Command => put(b"command"),
+    }
+    put(b" is wrong\n");
+    false
+}
+
 pub fn wrong_address() -> bool {
     put(b"poll: ADDRESS is a number from 0 to 255\n");
+    false
+}
+
+pub fn wrong_mercury() -> bool {
+    put(b"poll: ADDRESS is the Mercury 206's number, from 0 to 4294967295\n");
     false
 }
 
@@ -87,6 +109,16 @@ pub fn no_line(device: &[u8]) -> bool {
 pub fn asking(device: &[u8], address: u8) {
     put(b"poll: asking meter ");
     io::print_decimal(STDERR_FILENO, address as u64);
+    asking_on(device);
+}
+
+pub fn asking_mercury(device: &[u8], address: u32) {
+    put(b"poll: asking Mercury 206 ");
+    io::print_decimal(STDERR_FILENO, address as u64);
+    asking_on(device);
+}
+
+fn asking_on(device: &[u8]) {
     put(b" on ");
     put(device);
     put(b"; if nothing follows, set the port: ");
@@ -112,6 +144,15 @@ pub fn silent(device: &[u8], address: u8) {
     put(b": no answer of meter ");
     io::print_decimal(STDERR_FILENO, address as u64);
     put(b": is it on, is that its address, is the port set to its speed?\n");
+}
+
+pub fn silent_mercury(device: &[u8], address: u32) -> bool {
+    put(b"poll: ");
+    put(device);
+    put(b": no answer of Mercury 206 ");
+    io::print_decimal(STDERR_FILENO, address as u64);
+    put(b": is it on, is that its number, is the port set to its speed?\n");
+    false
 }
 
 pub fn never_silent(device: &[u8]) {

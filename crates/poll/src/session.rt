@@ -153,6 +153,7 @@ fn on_device(
         fd: fd,
         address: address,
         terminal: libc::isatty(STDERR_FILENO) == 1,
+        refuses: true,
     };
     let well = on_wire(wire, device, path, image, h, span, options);
     libc::close(fd);

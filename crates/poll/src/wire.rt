@@ -8,6 +8,8 @@ pub struct Wire {
     pub address: u8,
     // Whether standard error is one.
     pub terminal: bool,
+    // Whether a reply may be a refusal, which is shorter: the Mercury 206 has none.
+    pub refuses: bool,
 }
 
 pub enum Heard {
@@ -112,7 +114,7 @@ fn drain(fd: i32, quiet: u8) -> Line {
 }
 
 fn gathered(wire: Wire, device: &[u8], full: usize, reply: &mut [u8]) -> Heard {
-    let heard = gather(wire.fd, full, reply);
+    let heard = gather(wire.fd, wire.refuses, full, reply);
     match heard {
         Heard::Bytes(_) => {}
         Heard::Failed => {
@@ -123,7 +125,7 @@ fn gathered(wire: Wire, device: &[u8], full: usize, reply: &mut [u8]) -> Heard {
     heard
 }
 
-fn gather(fd: i32, full: usize, reply: &mut [u8]) -> Heard {
+fn gather(fd: i32, refuses: bool, full: usize, reply: &mut [u8]) -> Heard {
     let mut n: usize = 0;
     let mut silent: u8 = 0;
     let mut turns = GATHER_READS;
@@ -140,12 +142,19 @@ fn gather(fd: i32, full: usize, reply: &mut [u8]) -> Heard {
                 return Heard::Failed;
             }
         }
-        if polling::is_over(full, front(reply, n), silent) {
+        if is_over(refuses, full, front(reply, n), silent) {
             return Heard::Bytes(n);
         }
         turns -= 1;
     }
     Heard::Bytes(n)
+}
+
+fn is_over(refuses: bool, full: usize, reply: &[u8], silent: u8) -> bool {
+    if refuses {
+        return polling::is_over(full, reply, silent);
+    }
+    polling::is_enough(full, reply.len(), silent)
 }
 
 // One read, to the bytes behind the first n of a buffer.

@@ -18,7 +18,15 @@ isWhole full y = leb (lengthFor (byteAt y functionPlace) full) (length y)
 abbrev pub silentMost : ℕ
 silentMost = 10
 
--- whether to stop listening: the reply is whole, or so many reads were silent before its first byte, or one behind it
+-- whether to stop listening to a reply that is not whole, with so many of its bytes heard: so many reads were silent before its first byte, or
+-- one behind it
+abbrev pub isEnded : ℕ → ℕ → Bool
+isEnded heard silent = cond (eqb heard 0) (leb silentMost silent) (ltb 0 silent)
+
 unfoldable pub isOver : ℕ → List ℕ → ℕ → Bool
 unfolding isWhole
-isOver full y silent = cond (isWhole full y) true (cond (eqb (length y) 0) (leb silentMost silent) (ltb 0 silent))
+isOver full y silent = cond (isWhole full y) true (isEnded (length y) silent)
+
+-- the same where every reply has its full length: the Mercury 206's have (document 02, CR 1)
+unfoldable pub isEnough : ℕ → ℕ → ℕ → Bool
+isEnough full heard silent = cond (leb full heard) true (isEnded heard silent)

@@ -28,6 +28,7 @@ pub use question::fits_log;
 pub use question::learned_from;
 pub use question::put_question;
 pub use reply::SILENT_MOST;
+pub use reply::is_enough;
 pub use reply::is_over;
 pub use reply::is_whole;
 pub use standing::Standing;

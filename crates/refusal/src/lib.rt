@@ -44,6 +44,11 @@ pub const FILE_LENGTH: u8 = 33;
 pub const FILE_CRC: u8 = 34;
 
 pub const FILE_CELL: u8 = 35;
+// A Mercury 206's frame with a wrong length, CRC, address or command.
+pub const MERCURY_FORM: u8 = 40;
+// A half-byte above 9 in a Mercury 206's figure.
+pub const MERCURY_DIGIT: u8 = 41;
+
 // A reply that is not well formed: of a wrong length,
 pub const REPLY_LENGTH: u8 = 50;
 // with a wrong CRC,

@@ -65,8 +65,15 @@ fileRows =
     ∷ (35, "a cell of the file is wrong")
     ∷ []
 
+-- document 02, CR 1: "40 wrong length, CRC, address or command at either side, then 41 a half-byte above 9"
+abbrev pub mercuryRows : List (ℕ × String)
+mercuryRows = (40, "Mercury 206: length, CRC, address or command wrong") ∷ (41, "Mercury 206: a half-byte above 9") ∷ []
+
+unfoldable pub mercuryWords : ℕ → List ℕ
+mercuryWords n = wordsIn mercuryRows n (ascii "no number of the table")
+
 unfoldable pub fileWords : ℕ → List ℕ
-fileWords n = wordsIn fileRows n (ascii "no number of the table")
+fileWords n = wordsIn fileRows n (mercuryWords n)
 
 unfoldable pub replyWords : ℕ → List ℕ
 replyWords n = wordsIn replyRows n (fileWords n)

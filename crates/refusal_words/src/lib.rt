@@ -1,7 +1,8 @@
-// What each number of the refusal table says, in the table's own words, for messages that a person reads.
+// What each number of document 01's refusal table, and of document 02's additions to it, says in their own words, for messages that a
+// person reads.
 ghost use mathlib.Core.Path.{_≡_};
 ghost use Rattle.refusal.specs.Outcome.{outcome};
-ghost use Rattle.refusal_words.specs.Words.{wordsOf, logWords, replyWords, fileWords, atFront};
+ghost use Rattle.refusal_words.specs.Words.{wordsOf, logWords, replyWords, fileWords, mercuryWords, atFront};
 
 // Room for the words of any number.
 pub const WORDS_MOST: usize = 96;
@@ -72,6 +73,16 @@ fn put_file_words(number: u8, out: &mut [u8]) -> usize
         refusal::FILE_LENGTH => put(out, b"the file's length is wrong"),
         refusal::FILE_CRC => put(out, b"the file's CRC is wrong"),
         refusal::FILE_CELL => put(out, b"a cell of the file is wrong"),
+        _ => put_mercury_words(number, out),
+    }
+}
+
+fn put_mercury_words(number: u8, out: &mut [u8]) -> usize
+    ensures { λ r. ⌜ outcome r (now (out .exit)) ≡ atFront (mercuryWords number) (now (out .entry)) ⌝ }
+{
+    match number {
+        refusal::MERCURY_FORM => put(out, b"Mercury 206: length, CRC, address or command wrong"),
+        refusal::MERCURY_DIGIT => put(out, b"Mercury 206: a half-byte above 9"),
         _ => put(out, b"no number of the table"),
     }
 }

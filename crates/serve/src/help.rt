@@ -15,11 +15,15 @@ pub fn say() {
 fn words() {
     put(b"DEVICE  the serial line, opened for reading and writing\n");
     put(
-        b"SCRIPT  a file of the console's lines meter, power, slice and second, which make the meter;\n",
+        b"SCRIPT  a file of the console's lines meter, power, slice and second, which make the meter, or mercury, which\n",
     );
-    put(b"        frame, record, shown and inquire, empty lines and # lines are passed over\n");
+    put(
+        b"        makes it a Mercury 206; lines that only ask, empty lines and # lines are passed over\n",
+    );
     put(b"COUNT   how many frames are read at most; else serve goes on until DEVICE is closed\n\n");
-    put(b"The meter's clock goes on with the wall clock.\n");
+    put(
+        b"The SS-301's clock goes on with the wall clock; a Mercury 206's figures stay as they are.\n",
+    );
 }
 
 fn put(bytes: &[u8]) {

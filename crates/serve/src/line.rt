@@ -14,7 +14,7 @@ pub struct Served {
 }
 
 // Longer than any frame, so that one which is too long is seen as that.
-const FRAME_ROOM: usize = 256;
+pub const FRAME_ROOM: usize = 256;
 
 // Until the device is closed, or so many frames were read.
 pub fn serve(fd: i32, count: u64, device: &[u8], store: &mut [u8], record: Record) {
@@ -64,7 +64,7 @@ fn turn(fd: i32, device: &[u8], store: &mut [u8], s: Served) -> Served {
 
 // A read that failed has its reason in errno. One that gave nothing is the end of a device that was closed; of a line that is still
 // there it shows a setting which would hand over frames in pieces.
-fn nothing_read(fd: i32, device: &[u8], got: isize) {
+pub fn nothing_read(fd: i32, device: &[u8], got: isize) {
     if got < 0 {
         say::failed(device);
         return;
@@ -90,7 +90,7 @@ fn answer(fd: i32, store: &mut [u8], frame: &[u8], s: Served) -> Served {
 }
 
 // How many were answered, this one among them unless it is met with silence.
-fn replied(fd: i32, reply: &[u8], answered: u64) -> u64 {
+pub fn replied(fd: i32, reply: &[u8], answered: u64) -> u64 {
     if reply.len() == 0 {
         return answered;
     }
@@ -98,6 +98,6 @@ fn replied(fd: i32, reply: &[u8], answered: u64) -> u64 {
     next(answered)
 }
 
-fn next(n: u64) -> u64 {
+pub fn next(n: u64) -> u64 {
     if n < u64::MAX { n + 1 } else { n }
 }

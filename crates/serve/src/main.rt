@@ -2,9 +2,11 @@
 // right is decided in the libraries.
 mod help;
 mod line;
+mod mercury_line;
 mod say;
 mod script;
 
+use mercury_bench::Meter;
 use meter_record::Record;
 use script::Ready;
 use text::NumberAnswer;
@@ -56,6 +58,7 @@ fn made(count: u64) {
     let n = os::arg(SCRIPT, &mut path);
     match script::made_by(&path[..n], &mut store) {
         Ready::Meter(record) => opened(count, &mut store, record),
+        Ready::Mercury(m) => opened_as_mercury(count, m),
         Ready::Stopped => {}
     }
 }
@@ -70,5 +73,18 @@ fn opened(count: u64, store: &mut [u8], record: Record) {
     }
     say::waiting(&path[..n], record.address);
     line::serve(fd, count, &path[..n], store, record);
+    libc::close(fd);
+}
+
+fn opened_as_mercury(count: u64, m: Meter) {
+    let mut path = io::buffer();
+    let n = os::arg(DEVICE, &mut path);
+    let fd = os::open_update(&path[..n]);
+    if fd < 0 {
+        say::failed(&path[..n]);
+        return;
+    }
+    say::waiting_as_mercury(&path[..n], m.address);
+    mercury_line::serve(fd, count, &path[..n], m);
     libc::close(fd);
 }

@@ -15,6 +15,16 @@ pub fn wrong_count() {
 pub fn waiting(device: &[u8], address: u8) {
     put(b"serve: answering as meter ");
     io::print_decimal(STDERR_FILENO, address as u64);
+    on(device);
+}
+
+pub fn waiting_as_mercury(device: &[u8], address: u32) {
+    put(b"serve: answering as Mercury 206 ");
+    io::print_decimal(STDERR_FILENO, address as u64);
+    on(device);
+}
+
+fn on(device: &[u8]) {
     put(b" on ");
     put(device);
     put(b"; a frame is what one read gives: ");

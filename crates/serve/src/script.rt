@@ -1,14 +1,35 @@
 // The script: the console's lines that set the meter.
 use crate::say;
 use console_io::Rest;
+use console_mercury::MeterLine;
 use console_setup::LineAnswer;
+use mercury_bench::Meter;
 use meter_record::Record;
 use meter_record::RecordAnswer;
 
 pub enum Ready {
     Meter(Record),
+    // The script says `mercury`.
+    Mercury(Meter),
     // And it was said why.
     Stopped,
+}
+
+pub enum Second {
+    None,
+    Mercury(Meter),
+}
+
+// What the script has made so far.
+pub struct Made {
+    pub record: Record,
+    pub second: Second,
+}
+
+pub enum Step {
+    Made(Made),
+    Refused(u8),
+    Unread,
 }
 
 pub fn made_by(path: &[u8], store: &mut [u8]) -> Ready {
@@ -20,7 +41,11 @@ pub fn made_by(path: &[u8], store: &mut [u8]) -> Ready {
         say::failed(path);
         return Ready::Stopped;
     }
-    let ready = lines(fd, path, store, first);
+    let made = Made {
+        record: first,
+        second: Second::None,
+    };
+    let ready = lines(fd, path, store, made);
     // A read that failed looks like the script's end, and shows in the next.
     let mut one = [0u8; 1];
     let after = libc::read(fd, &mut one);
@@ -32,7 +57,7 @@ pub fn made_by(path: &[u8], store: &mut [u8]) -> Ready {
     ready
 }
 
-fn lines(fd: i32, path: &[u8], store: &mut [u8], first: Record) -> Ready {
+fn lines(fd: i32, path: &[u8], store: &mut [u8], first: Made) -> Ready {
     let mut line = [0u8; console_io::LINE_ROOM];
     let mut block = [0u8; 4096];
     walk(fd, path, store, first, &mut line, &mut block)
@@ -42,62 +67,101 @@ fn walk(
     fd: i32,
     path: &[u8],
     store: &mut [u8],
-    first: Record,
+    first: Made,
     line: &mut [u8],
     block: &mut [u8],
 ) -> Ready {
-    let mut record = first;
+    let mut made = first;
     let mut rest = Rest { at: 0, end: 0 };
     // Nothing says that a file ends: this many lines none has.
     let mut number: u64 = 1;
     while number < u64::MAX {
         let taken = console_io::next_line(fd, block, rest, line);
         if taken.ended {
-            return Ready::Meter(record);
+            return ready_of(made);
         }
         rest = taken.rest;
         let n = taken.length;
-        let answer = set(console::part(line, n), store, record);
-        let RecordAnswer::Done(after) = answered(answer, path, number) else {
+        let step = set(console::part(line, n), store, made);
+        tell(step, path, number);
+        let Step::Made(after) = step else {
             return Ready::Stopped;
         };
-        record = after;
+        made = after;
         number += 1;
     }
     Ready::Stopped
 }
 
+fn ready_of(made: Made) -> Ready {
+    let record = made.record;
+    let second = made.second;
+    match second {
+        Second::Mercury(m) => Ready::Mercury(m),
+        Second::None => Ready::Meter(record),
+    }
+}
+
 // How many names there are of lines that only ask.
-const ASKING: usize = 4;
+const ASKING: usize = 7;
 
-// What only asks the meter changes nothing here.
-fn set(line: &[u8], store: &mut [u8], r: Record) -> LineAnswer {
+// What only asks a meter changes nothing here.
+fn set(line: &[u8], store: &mut [u8], made: Made) -> Step {
     if console::is_passed_over(line) {
-        return LineAnswer::Answered(RecordAnswer::Done(r));
+        return Step::Made(made);
     }
-    if console::place_of(console::word(line, 0), b"frame record shown inquire") < ASKING {
-        return LineAnswer::Answered(RecordAnswer::Done(r));
+    if asks(line) {
+        return Step::Made(made);
     }
-    console_setup::set(line, store, r)
+    let record = made.record;
+    let second = made.second;
+    if console_mercury::is_setting(line) {
+        return mercury_step(console_mercury::set(line), record);
+    }
+    step_of(console_setup::set(line, store, record), second)
 }
 
-// What a line was answered; one that was not done is named on standard error.
-fn answered(answer: LineAnswer, path: &[u8], number: u64) -> RecordAnswer {
-    match answer {
-        LineAnswer::Answered(a) => {
-            refused(path, number, a.number());
-            a
-        }
-        LineAnswer::Unread => {
-            say::unread(path, number);
-            RecordAnswer::OutOfRange
-        }
+fn asks(line: &[u8]) -> bool {
+    console::place_of(
+        console::word(line, 0),
+        b"frame record shown inquire mercury-frame mercury-ask mercury-decode",
+    )
+        < ASKING
+}
+
+fn mercury_step(line: MeterLine, record: Record) -> Step {
+    match line {
+        MeterLine::Set(m) => Step::Made(Made {
+            record: record,
+            second: Second::Mercury(m),
+        }),
+        MeterLine::OutOfRange => Step::Refused(refusal::OUT_OF_RANGE),
+        MeterLine::Unread => Step::Unread,
     }
 }
 
-fn refused(path: &[u8], number: u64, n: u8) {
-    if n == refusal::DONE {
-        return;
+fn step_of(line: LineAnswer, second: Second) -> Step {
+    match line {
+        LineAnswer::Answered(a) => record_step(a, second),
+        LineAnswer::Unread => Step::Unread,
     }
-    say::refused(path, number, n);
+}
+
+fn record_step(a: RecordAnswer, second: Second) -> Step {
+    match a {
+        RecordAnswer::Done(record) => Step::Made(Made {
+            record: record,
+            second: second,
+        }),
+        _ => Step::Refused(a.number()),
+    }
+}
+
+// One that was not done is named on standard error.
+fn tell(step: Step, path: &[u8], number: u64) {
+    match step {
+        Step::Made(_) => {}
+        Step::Refused(n) => say::refused(path, number, n),
+        Step::Unread => say::unread(path, number),
+    }
 }

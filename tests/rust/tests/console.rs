@@ -145,3 +145,31 @@ fn the_report_of_document_01_with_p9() {
         ("report 0", "0 46 1 1 12 0 3 0"),
     ]);
 }
+
+#[test]
+fn the_mercury_206() {
+    talk(&[
+        ("mercury-frame 000004D2637948", "0 000004D26300000000000000E74F"),
+        ("mercury-ask 1234 39", "0 000004D227797B"),
+        ("mercury-ask 1234 99", "0 000004D2637948"),
+        ("mercury-ask 1234 129", "0 000004D281F901"),
+        ("mercury-ask 1234 130", "40"),
+        ("mercury 1234 1 2 3 99999999 2300 150 999999 5050 3a000000000000", "0"),
+        ("mercury-frame 000004D281F901", "0 000004D28150503A000000000000CCA4"),
+        ("mercury-frame 0000000081E460", "40"),
+        ("mercury-frame 000004D2810901", "40"),
+        // a figure above its digits: the ones before stay, and so does the address
+        ("mercury 5 1 2 3 100000000 2300 150 999999 5050 3A000000000000", "27"),
+        ("mercury 5 1 2 3 4 2300 150 1000000 5050 3A000000000000", "27"),
+        ("mercury-frame 000004D227797B", "0 000004D22700000001000000020000000399999999D3F9"),
+        ("mercury-decode 1234 39 000004D22700000001000000020000000399999999D3F9", "0 1 2 3 99999999"),
+        ("mercury-decode 1234 129 000004D28150503A000000000000CCA4", "0 5050 3A000000000000"),
+        ("mercury-decode 1234 99 000004D28150503A000000000000CCA4", "40"),
+        ("mercury-decode 1234 129", "40"),
+        ("mercury-decode 1234 129 000004D2815A50000000000000002807", "41"),
+        ("mercury 1234 0 0 0 0 0 0 0 0 000000000000", "?"),
+        ("mercury-frame", "?"),
+        ("mercury-ask 1234", "?"),
+        ("mercury-decode 1234", "?"),
+    ]);
+}

@@ -7,11 +7,14 @@ use Rattle.bench.proofs.session.Statement.{statement}
 use Rattle.bench.proofs.session.Tie as tie
 
 abbrev Inv-loop : tie.InvT-loop
-Inv-loop image₀ store₀ line₀ block₀ kept₀ record₀ rest₀ turns₀ image store line block kept «record» rest turns =
+Inv-loop image₀ store₀ line₀ block₀ kept₀ record₀ mercury₀ rest₀ turns₀ image store line block kept «record» mercury rest turns =
     (length line ≡ length line₀) × (length image ≡ length image₀) × (length store ≡ length store₀) × (length block ≡ length block₀)
 
 abbrev μ-loop : tie.MeasureT-loop
-μ-loop image₀ store₀ line₀ block₀ kept₀ record₀ rest₀ turns₀ image store line block kept «record» rest turns = turns
+μ-loop image₀ store₀ line₀ block₀ kept₀ record₀ mercury₀ rest₀ turns₀ image store line block kept «record» mercury rest turns = turns
+
+first-requires : tie.Need-first-requires Inv-loop μ-loop
+first-requires c κs = search needs
 
 loop-holds : tie.Need-loop-holds Inv-loop μ-loop
 loop-holds c = search needs
@@ -52,26 +55,33 @@ part-requires-3 c κs = search needs
 on-meter-requires : tie.Need-on-meter-requires Inv-loop μ-loop
 on-meter-requires c κs = search needs
 
+part-requires-4 : tie.Need-part-requires-4 Inv-loop μ-loop
+part-requires-4 c κs = search needs
+
+on-mercury-requires : tie.Need-on-mercury-requires Inv-loop μ-loop
+on-mercury-requires c κs = search needs
+
 sub-turns : tie.Need-sub-turns Inv-loop μ-loop
 sub-turns c =
-    let back = c .before .before .before .before .before .before .before .before .before .before .before .before in
-    let loop-test = back .before .before .before .before .before .before .before .before .before .before .before .before .loop-test in
+    let back = c .before .before .before .before .before .before .before .before .before .before .before .before .before .before in
+    let loop-test = back .before .before .before .before .before .before .before .before .before .before .before .before .before .loop-test in
     loop-test .taken
 
 loop-less : tie.Need-loop-less Inv-loop μ-loop
 loop-less c =
-    let back = c .before .before .before .before .before .before .before .before .before .before .before .before in
-    let loop-test = back .before .before .before .before .before .before .before .before .before .before .before .before .loop-test in
+    let back = c .before .before .before .before .before .before .before .before .before .before .before .before .before .before in
+    let loop-test = back .before .before .before .before .before .before .before .before .before .before .before .before .before .loop-test in
     omega (arith, loop-test .taken)
 
 loop-again : tie.Need-loop-again Inv-loop μ-loop
 loop-again c =
-    let back = c .before .before .before .before .before .before .before .before .before .before .before .before .before .before .before .before .before .before in
+    let back = c .before .before .before .before .before .before .before .before .before .before .before .before .before .before .before .before .before .before .before .before .before in
     let block = back .before .before .block in
     let line = back .line in
-    let image = c .before .before .before .before .before .before .before .image in
+    let image = c .before .before .before .before .before .before .before .before .before .before .image in
+    let store = c .before .before .before .before .store in
     let held = back .before .before .before .before .before .before .before .loop .inv in
-    (line .given ∙ held .0, image .given ∙ held .1, c .before .store .given ∙ held .2, block .given ∙ held .3)
+    (line .given ∙ held .0, image .given ∙ held .1, store .given ∙ held .2, block .given ∙ held .3)
 
 same-length-5 : tie.Need-same-length-5 Inv-loop μ-loop
 same-length-5 c = search needs
@@ -94,6 +104,7 @@ session-spec =
     (tie.spec
     Inv-loop
     μ-loop
+    first-requires
     loop-holds
     next-call-requires
     same-length
@@ -107,6 +118,8 @@ session-spec =
     on-log-requires
     part-requires-3
     on-meter-requires
+    part-requires-4
+    on-mercury-requires
     sub-turns
     loop-less
     loop-again

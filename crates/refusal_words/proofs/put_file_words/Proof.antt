@@ -1,7 +1,7 @@
--- `put_file_words` meets its contract: each arm stores the words of its row, and a number of no row gets the words for none.
-use Rattle.refusal_words.proofs.WordsLaws.{other}
-use Rattle.refusal_words.specs.Words.{fileRows, wordsIn, fileWords}
+-- `put_file_words` meets its contract: each arm stores the words of its row, and a number of no row is left to the Mercury 206's.
 use Rattle.text.specs.Ascii.{ascii}
+use Rattle.refusal_words.specs.Words.{fileRows, wordsIn, fileWords}
+use Rattle.refusal_words.proofs.WordsLaws.{other}
 use borrow.Author.Needs.{needs}
 use Rattle.refusal_words.proofs.put_file_words.Statement.{statement}
 use Rattle.refusal_words.proofs.put_file_words.Tie as tie
@@ -42,11 +42,8 @@ slice-aggregate-put-6 c = search needs
 put-requires-6 : tie.Need-put-requires-6
 put-requires-6 c κs = search needs
 
-slice-aggregate-put-7 : tie.Need-slice-aggregate-put-7
-slice-aggregate-put-7 c = search needs
-
-put-requires-7 : tie.Need-put-requires-7
-put-requires-7 c κs = search needs
+put-mercury-words-requires : tie.Need-put-mercury-words-requires
+put-mercury-words-requires c κs = search needs
 
 same-length : tie.Need-same-length
 same-length c = search needs
@@ -54,8 +51,8 @@ same-length c = search needs
 returns : tie.Need-returns
 unfolding ascii wordsIn fileWords
 returns c =
-    let taken = c .before .before .before .before .before .match in
-    rw (taken .keys1) (c .before .before .put .ensures)
+    let at-match = c .before .before .before .before .before .match in
+    rw (at-match .keys1) (c .before .before .put .ensures)
 
 same-length-2 : tie.Need-same-length-2
 same-length-2 c = search needs
@@ -63,8 +60,8 @@ same-length-2 c = search needs
 returns-2 : tie.Need-returns-2
 unfolding ascii wordsIn fileWords
 returns-2 c =
-    let taken = c .before .before .before .before .before .match in
-    rw (taken .keys2) (c .before .before .put2 .ensures)
+    let at-match = c .before .before .before .before .before .match in
+    rw (at-match .keys2) (c .before .before .put2 .ensures)
 
 same-length-3 : tie.Need-same-length-3
 same-length-3 c = search needs
@@ -72,8 +69,8 @@ same-length-3 c = search needs
 returns-3 : tie.Need-returns-3
 unfolding ascii wordsIn fileWords
 returns-3 c =
-    let taken = c .before .before .before .before .before .match in
-    rw (taken .keys3) (c .before .before .put3 .ensures)
+    let at-match = c .before .before .before .before .before .match in
+    rw (at-match .keys3) (c .before .before .put3 .ensures)
 
 same-length-4 : tie.Need-same-length-4
 same-length-4 c = search needs
@@ -81,8 +78,8 @@ same-length-4 c = search needs
 returns-4 : tie.Need-returns-4
 unfolding ascii wordsIn fileWords
 returns-4 c =
-    let taken = c .before .before .before .before .before .match in
-    rw (taken .keys4) (c .before .before .put4 .ensures)
+    let at-match = c .before .before .before .before .before .match in
+    rw (at-match .keys4) (c .before .before .put4 .ensures)
 
 same-length-5 : tie.Need-same-length-5
 same-length-5 c = search needs
@@ -90,8 +87,8 @@ same-length-5 c = search needs
 returns-5 : tie.Need-returns-5
 unfolding ascii wordsIn fileWords
 returns-5 c =
-    let taken = c .before .before .before .before .before .match in
-    rw (taken .keys5) (c .before .before .put5 .ensures)
+    let at-match = c .before .before .before .before .before .match in
+    rw (at-match .keys5) (c .before .before .put5 .ensures)
 
 same-length-6 : tie.Need-same-length-6
 same-length-6 c = search needs
@@ -99,18 +96,18 @@ same-length-6 c = search needs
 returns-6 : tie.Need-returns-6
 unfolding ascii wordsIn fileWords
 returns-6 c =
-    let taken = c .before .before .before .before .before .match in
-    rw (taken .keys6) (c .before .before .put6 .ensures)
+    let at-match = c .before .before .before .before .before .match in
+    rw (at-match .keys6) (c .before .before .put6 .ensures)
 
 same-length-7 : tie.Need-same-length-7
 same-length-7 c = search needs
 
 returns-7 : tie.Need-returns-7
-unfolding ascii fileWords
+unfolding fileWords
 returns-7 c =
-    let args = c .before .before .before .before .before .before .before .args in
-    let taken = c .before .before .before .before .before .match in
-    rw (other (Unit {0}) fileRows (args .number) _ (taken .rest)) (c .before .before .put7 .ensures)
+    let at-args = c .before .before .before .before .before .before .args in
+    let at-match = c .before .before .before .before .match in
+    rw (other (Unit {0}) fileRows (at-args .number) _ (at-match .rest)) (c .before .before .put-mercury-words .ensures)
 
 pub put-file-words-spec : {M : Type 1} → statement M
 put-file-words-spec =
@@ -128,8 +125,7 @@ put-file-words-spec =
     put-requires-5
     slice-aggregate-put-6
     put-requires-6
-    slice-aggregate-put-7
-    put-requires-7
+    put-mercury-words-requires
     same-length
     returns
     same-length-2

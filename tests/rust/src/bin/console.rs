@@ -2,6 +2,7 @@
 
 use metlazuel_check::model::calendar::Moment;
 use metlazuel_check::model::log::{self, Ask, Cell, Header};
+use metlazuel_check::model::mercury::{self, Reading};
 use metlazuel_check::model::meter::{self, Level, Phases, Record, Season, Telemetry};
 use metlazuel_check::model::reader::{Figures, Request};
 use metlazuel_check::model::refusal::Refusal;
@@ -9,6 +10,8 @@ use std::io::{self, BufRead, Write};
 
 const LONGEST_LINE: usize = 4_096;
 const MOST_SECONDS: u32 = 100_000_000;
+/// The Mercury 206 of the start, with all its figures zero.
+const MERCURY_ADDRESS: u32 = 1_234;
 const START: [&str; 12] = ["1", "30", "400", "100", "0", "2000", "1", "1", "0", "0", "0", "0"];
 
 fn main() -> io::Result<()> {
@@ -34,12 +37,13 @@ fn passed_over(line: &[u8]) -> bool {
     line.is_empty() || line[0] == b'#'
 }
 
-/// What the console keeps: a log image, an open ask, a meter record and a slice store.
+/// What the console keeps: a log image, an open ask, a meter record and a slice store; a Mercury 206's address and figures.
 struct Console {
     image: Vec<u8>,
     open: Option<Ask>,
     record: Record,
     store: Vec<u8>,
+    mercury: (u32, mercury::Figures),
 }
 
 /// An answer's line, or None for a line that cannot be read.
@@ -48,7 +52,8 @@ type Line = Option<String>;
 impl Console {
     fn new() -> Console {
         let record = new_record(&START).expect("readable").expect("in range");
-        Console { image: vec![], open: None, record, store: meter::empty_store() }
+        let mercury = (MERCURY_ADDRESS, mercury::Figures::ZEROS);
+        Console { image: vec![], open: None, record, store: meter::empty_store(), mercury }
     }
 
     fn line(&mut self, line: &[u8]) -> String {
@@ -78,6 +83,10 @@ impl Console {
             "record" => self.record(words),
             "shown" => self.shown(words),
             "inquire" => self.inquire(words),
+            "mercury" => self.mercury(words),
+            "mercury-frame" => self.mercury_frame(words),
+            "mercury-ask" => mercury_ask(words),
+            "mercury-decode" => mercury_decode(words),
             _ => None,
         }
     }
@@ -222,6 +231,34 @@ impl Console {
             (_, reply) => request.decode(&reply).map(figures),
         }
     }
+
+    // Mercury 206
+
+    /// The bench's address and figures; a refused line keeps the ones before.
+    fn mercury(&mut self, words: &[&str]) -> Line {
+        let bench = mercury_bench(words)?;
+        Some(done(bench.1.check().map(|()| self.mercury = bench)))
+    }
+
+    /// Number and reply; for silence the number alone.
+    fn mercury_frame(&mut self, words: &[&str]) -> Line {
+        let [frame] = *words else { return None };
+        let ((address, figures), mut out) = (&self.mercury, [0; 64]);
+        let (outcome, length) = mercury::answer(*address, figures, &string(frame)?, &mut out);
+        Some(said(outcome.map(|()| hex(&out[..length]))))
+    }
+}
+
+fn mercury_ask(words: &[&str]) -> Line {
+    let [address, command] = *words else { return None };
+    let frame = mercury::request(long(address)?, byte(command)?);
+    Some(said(frame.map(|frame| hex(&frame))))
+}
+
+fn mercury_decode(words: &[&str]) -> Line {
+    let [address, command, ref reply @ ..] = *words else { return None };
+    let (address, command, reply) = (long(address)?, byte(command)?, string_or_nothing(reply)?);
+    Some(said(mercury::decode(address, command, &reply).map(reading)))
 }
 
 fn request(words: &[&str]) -> Line {
@@ -254,6 +291,20 @@ fn new_record(words: &[&str]) -> Option<Result<Record, Refusal>> {
     }))
 }
 
+/// ADDRESS T1 T2 T3 T4 VOLTAGE CURRENT POWER FREQUENCY REST
+fn mercury_bench(words: &[&str]) -> Option<(u32, mercury::Figures)> {
+    let [address, t1, t2, t3, t4, voltage, current, power, frequency, rest] = *words else { return None };
+    let figures = mercury::Figures {
+        tariffs: [long(t1)?, long(t2)?, long(t3)?, long(t4)?],
+        voltage: word(voltage)?,
+        current: word(current)?,
+        power: long(power)?,
+        frequency: word(frequency)?,
+        rest: string(rest)?.try_into().ok()?,
+    };
+    Some((long(address)?, figures))
+}
+
 /// Year - 2000; a year outside 2000..2099 is a setting out of range.
 fn since_2000(year: u16) -> Result<u8, Refusal> {
     match year {
@@ -282,6 +333,10 @@ fn byte(text: &str) -> Option<u8> {
 
 fn word(text: &str) -> Option<u16> {
     number(text, u32::from(u16::MAX)).map(|number| number as u16)
+}
+
+fn long(text: &str) -> Option<u32> {
+    number(text, u32::MAX)
 }
 
 /// A decimal number without sign, up to `most`.
@@ -351,6 +406,14 @@ fn figures(figures: Figures) -> String {
         Figures::Date(bytes) | Figures::Mask(bytes) => list(bytes),
         Figures::Slice(counts) => list(counts),
         Figures::SixSlices(rows) => list(rows.into_iter().flatten()),
+    }
+}
+
+fn reading(reading: Reading) -> String {
+    match reading {
+        Reading::Tariffs(tariffs) => list(tariffs),
+        Reading::Instant { voltage, current, power } => format!("{voltage} {current} {power}"),
+        Reading::Frequency { frequency, rest } => format!("{frequency} {}", hex(&rest)),
     }
 }
 

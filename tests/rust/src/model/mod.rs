@@ -4,6 +4,7 @@ pub mod book;
 pub mod calendar;
 pub mod crc;
 pub mod log;
+pub mod mercury;
 pub mod meter;
 pub mod reader;
 pub mod refusal;

@@ -41,6 +41,10 @@ pub enum Refusal {
     FileLength,
     FileCrc,
     FileCell,
+    /// 40: a Mercury 206's frame with a wrong length, CRC, address or command
+    MercuryFrame,
+    /// 41: a half-byte above 9
+    NotDecimal,
     /// 50: a reply of the wrong length, which is returned
     ReplyLength(usize),
     /// 51
@@ -80,6 +84,8 @@ impl Refusal {
             FileLength => 33,
             FileCrc => 34,
             FileCell => 35,
+            MercuryFrame => 40,
+            NotDecimal => 41,
             ReplyLength(_) => 50,
             ReplyCrc => 51,
             ReplyAddress => 52,

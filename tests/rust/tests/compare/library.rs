@@ -106,12 +106,41 @@ mod c {
             rminus: u16,
         ) -> u8;
         pub fn metlazuel_meter_powers(kept: *mut u8, n: usize, parameter: u8, a: u32, b: u32, c: u32) -> u8;
+        pub fn metlazuel_mercury_request(address: u32, command: u8, out: *mut u8, room: usize) -> u8;
+        pub fn metlazuel_mercury_decode(
+            address: u32,
+            command: u8,
+            reply: *const u8,
+            bytes: usize,
+            figures: *mut u32,
+            room: usize,
+            count: *mut usize,
+        ) -> u8;
+        pub fn metlazuel_mercury_answer(
+            address: u32,
+            first: u32,
+            second: u32,
+            third: u32,
+            fourth: u32,
+            voltage: u16,
+            current: u16,
+            power: u32,
+            frequency: u16,
+            rest: *const u8,
+            size: usize,
+            request: *const u8,
+            bytes: usize,
+            out: *mut u8,
+            room: usize,
+            length: *mut usize,
+        ) -> u8;
     }
 }
 
 use crate::settings::Settings;
 use metlazuel_check::model::calendar::Moment;
 use metlazuel_check::model::log::{Ask, Header};
+use metlazuel_check::model::mercury::Figures;
 use metlazuel_check::model::reader::Request;
 
 /// Numbers on both sides of what is lent, which must stay as they are.
@@ -253,4 +282,27 @@ pub fn slice(kept: &mut [u8], store: &mut [u8], key: [u8; 3], counts: [u16; 4]) 
 
 pub fn powers(kept: &mut [u8], parameter: u8, [a, b, c]: [u32; 3]) -> u8 {
     guarded(kept, |kept| unsafe { c::metlazuel_meter_powers(kept.as_mut_ptr(), kept.len(), parameter, a, b, c) })
+}
+
+pub fn mercury_request(address: u32, command: u8, out: &mut [u8]) -> u8 {
+    guarded(out, |out| unsafe { c::metlazuel_mercury_request(address, command, out.as_mut_ptr(), out.len()) })
+}
+
+pub fn mercury_decode(address: u32, command: u8, reply: &[u8], figures: &mut [u32], count: &mut usize) -> u8 {
+    guarded(figures, |figures| unsafe {
+        let (bytes, room) = (reply.len(), figures.len());
+        c::metlazuel_mercury_decode(address, command, reply.as_ptr(), bytes, figures.as_mut_ptr(), room, count)
+    })
+}
+
+pub fn mercury_answer(address: u32, figures: &Figures, request: &[u8], out: &mut [u8], length: &mut usize) -> u8 {
+    let Figures { tariffs: [first, second, third, fourth], voltage, current, power, frequency, rest } = *figures;
+    guarded(out, |out| unsafe {
+        let (size, bytes, room) = (rest.len(), request.len(), out.len());
+        let (rest, request, out) = (rest.as_ptr(), request.as_ptr(), out.as_mut_ptr());
+        c::metlazuel_mercury_answer(
+            address, first, second, third, fourth, voltage, current, power, frequency, rest, size, request, bytes, out,
+            room, length,
+        )
+    })
 }

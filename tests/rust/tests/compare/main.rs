@@ -10,6 +10,7 @@ mod frames;
 mod layout;
 mod library;
 mod logs;
+mod mercury;
 mod random;
 mod run;
 mod settings;

@@ -9,10 +9,10 @@ use Rattle.poll.proofs.wire.gather.Statement.{statement}
 use Rattle.poll.proofs.wire.gather.Tie as tie
 
 abbrev Inv-loop : tie.InvT-loop
-Inv-loop fd full reply₀ n₀ silent₀ turns₀ reply n silent turns = (length reply ≡ length reply₀) × (silent + turns ≤ 64)
+Inv-loop fd refuses full reply₀ n₀ silent₀ turns₀ reply n silent turns = (length reply ≡ length reply₀) × (silent + turns ≤ 64)
 
 abbrev μ-loop : tie.MeasureT-loop
-μ-loop fd full reply₀ n₀ silent₀ turns₀ reply n silent turns = turns
+μ-loop fd refuses full reply₀ n₀ silent₀ turns₀ reply n silent turns = turns
 
 loop-holds : tie.Need-loop-holds Inv-loop μ-loop
 loop-holds c = search needs

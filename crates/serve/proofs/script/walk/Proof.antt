@@ -12,17 +12,20 @@ abbrev most : ℕ
 most = 18446744073709551615
 
 abbrev Inv-loop : tie.InvT-loop
-Inv-loop fd path store₀ line₀ block₀ record₀ rest₀ number₀ store line block «record» rest number =
+Inv-loop fd path store₀ line₀ block₀ made₀ rest₀ number₀ store line block made rest number =
     (length store ≡ length store₀) × (length line ≡ length line₀) × (length block ≡ length block₀)
 
 abbrev μ-loop : tie.MeasureT-loop
-μ-loop fd path store₀ line₀ block₀ record₀ rest₀ number₀ store line block «record» rest number = most - number
+μ-loop fd path store₀ line₀ block₀ made₀ rest₀ number₀ store line block made rest number = most - number
 
 loop-holds : tie.Need-loop-holds Inv-loop μ-loop
 loop-holds c = search needs
 
 next-line-requires : tie.Need-next-line-requires Inv-loop μ-loop
 next-line-requires c κs = search needs
+
+ready-of-requires : tie.Need-ready-of-requires Inv-loop μ-loop
+ready-of-requires c κs = search needs
 
 same-length : tie.Need-same-length Inv-loop μ-loop
 same-length c = search needs
@@ -42,11 +45,11 @@ part-requires c κs = search needs
 set-requires : tie.Need-set-requires Inv-loop μ-loop
 set-requires c κs = search needs
 
-answered-requires : tie.Need-answered-requires Inv-loop μ-loop
-answered-requires c κs = search needs
+tell-requires : tie.Need-tell-requires Inv-loop μ-loop
+tell-requires c κs = search needs
 
-enum-known-after : tie.Need-enum-known-after Inv-loop μ-loop
-enum-known-after c = search needs
+enum-known-step : tie.Need-enum-known-step Inv-loop μ-loop
+enum-known-step c = search needs
 
 same-length-4 : tie.Need-same-length-4 Inv-loop μ-loop
 same-length-4 c = search needs
@@ -99,14 +102,15 @@ walk-spec =
     μ-loop
     loop-holds
     next-line-requires
+    ready-of-requires
     same-length
     same-length-2
     same-length-3
     returns
     part-requires
     set-requires
-    answered-requires
-    enum-known-after
+    tell-requires
+    enum-known-step
     same-length-4
     same-length-5
     same-length-6

@@ -1,0 +1,4 @@
+pub mod CommandLaws
+pub mod LayoutLaws
+pub mod DataLaws
+pub mod ReplyLaws

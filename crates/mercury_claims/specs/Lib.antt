@@ -1,0 +1,3 @@
+pub mod MercuryDemand1
+pub mod Inverse
+pub mod Vectors

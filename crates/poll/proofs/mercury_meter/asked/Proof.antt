@@ -1,0 +1,58 @@
+-- `asked` meets its contract: it ensures nothing, and `turns` falls from 3 with each try.
+use borrow.Author.Needs.{needs}
+use Prim.Native.Nat.{_≤_}
+use Rattle.poll.proofs.mercury_meter.asked.Statement.{statement}
+use Rattle.poll.proofs.mercury_meter.asked.Tie as tie
+
+abbrev Inv-loop : tie.InvT-loop
+Inv-loop wire device address code told₀ turns₀ told turns = turns ≤ 3
+
+abbrev μ-loop : tie.MeasureT-loop
+μ-loop wire device address code told₀ turns₀ told turns = turns
+
+loop-holds : tie.Need-loop-holds Inv-loop μ-loop
+loop-holds c = search needs
+
+asked-once-requires : tie.Need-asked-once-requires Inv-loop μ-loop
+asked-once-requires c κs = search needs
+
+is-settled-requires : tie.Need-is-settled-requires Inv-loop μ-loop
+is-settled-requires c κs = search needs
+
+returns : tie.Need-returns Inv-loop μ-loop
+returns c = search needs
+
+settled-requires : tie.Need-settled-requires Inv-loop μ-loop
+settled-requires c κs = search needs
+
+returns-2 : tie.Need-returns-2 Inv-loop μ-loop
+returns-2 c = search needs
+
+sub-turns : tie.Need-sub-turns Inv-loop μ-loop
+sub-turns c = search needs
+
+loop-less : tie.Need-loop-less Inv-loop μ-loop
+loop-less c = search needs
+
+loop-again : tie.Need-loop-again Inv-loop μ-loop
+loop-again c = search needs
+
+returns-3 : tie.Need-returns-3 Inv-loop μ-loop
+returns-3 c = search needs
+
+pub asked-spec : {M : Type 1} → statement M
+asked-spec =
+    tie.close
+    (tie.spec
+    Inv-loop
+    μ-loop
+    loop-holds
+    asked-once-requires
+    is-settled-requires
+    returns
+    settled-requires
+    returns-2
+    sub-turns
+    loop-less
+    loop-again
+    returns-3)
