@@ -19,17 +19,18 @@
 extern "C" {
 #endif
 
-// The answers: the numbers of document 01's refusal table, and 40, 41 and 50 to 54 of document 02.
+// The answers: the numbers of document 01's refusal table, and 16, 40, 41 and 50 to 54 of document 02.
 enum metlazuel_answer {
     METLAZUEL_DONE = 0,
     METLAZUEL_TOO_SHORT = 1,          // a lent output that is too short
     METLAZUEL_SILENT = 2,             // meter: a frame with a wrong length, CRC or address, which it passes over
-    METLAZUEL_UNKNOWN_FUNCTION = 10,  // meter; 10 to 15 come with a refusal frame
+    METLAZUEL_UNKNOWN_FUNCTION = 10,  // meter; 10 to 16 come with a refusal frame
     METLAZUEL_UNKNOWN_PARAMETER = 11, // meter
     METLAZUEL_NOT_OPEN = 12,          // meter: a parameter that is not open to the function
     METLAZUEL_WRONG_LENGTH = 13,      // meter: a length that is wrong for the command
     METLAZUEL_NO_ACCESS = 14,         // meter: a level too low, or a wrong password
     METLAZUEL_WRONG_ARGUMENT = 15,    // meter
+    METLAZUEL_BY_ADDRESS_ZERO = 16,   // meter: a change or a zeroing by address 0
     METLAZUEL_NO_ASK_OPEN = 20,
     METLAZUEL_ASK_ALREADY_OPEN = 21,
     METLAZUEL_NOT_IN_LOG = 22,        // an interval or a day that the log does not have
@@ -216,7 +217,7 @@ uint8_t metlazuel_meter_make(uint8_t *meter, size_t n, uint8_t address, uint8_t 
                              uint8_t year, uint8_t month, uint8_t day, uint8_t hour, uint8_t minute, uint8_t second, uint8_t season);
 
 // Answers a frame. The reply goes to the front of out, which has at least METLAZUEL_FRAME_BYTES, and its length to *length. TOO_SHORT,
-// UNSOUND, SILENT (nothing is to be sent, and *length is left as it was), UNKNOWN_FUNCTION to WRONG_ARGUMENT (six bytes), else DONE.
+// UNSOUND, SILENT (nothing is to be sent, and *length is left as it was), UNKNOWN_FUNCTION to BY_ADDRESS_ZERO (six bytes), else DONE.
 uint8_t metlazuel_meter_answer(uint8_t *meter, size_t n, uint8_t *store, size_t size, const uint8_t *frame, size_t bytes, uint8_t *out,
                                size_t room, size_t *length);
 

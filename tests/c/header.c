@@ -220,6 +220,9 @@ static void meter_answers(void)
     command("a password read", METLAZUEL_FUNCTION_READ, METLAZUEL_PARAMETER_PASSWORD, zeros, 2, METLAZUEL_NOT_OPEN);
     command("a byte too few", METLAZUEL_FUNCTION_READ, METLAZUEL_PARAMETER_CLOCK, zeros, 1, METLAZUEL_WRONG_LENGTH);
     command("a field not used", METLAZUEL_FUNCTION_READ, METLAZUEL_PARAMETER_CLOCK, ones, 2, METLAZUEL_WRONG_ARGUMENT);
+    uint8_t zeroing[METLAZUEL_FRAME_BYTES] = {0, METLAZUEL_FUNCTION_ZERO, METLAZUEL_PARAMETER_SLICE, 0};
+    check("zeroing by address 0", exchange(zeroing, 4, reply, &length) == METLAZUEL_BY_ADDRESS_ZERO);
+    check("its refusal frame", length == 6 && reply[0] == 0 && reply[1] == (METLAZUEL_FUNCTION_ZERO | METLAZUEL_FUNCTION_REFUSED));
 }
 
 // A reply for the ask: the answer.

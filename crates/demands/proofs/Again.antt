@@ -41,7 +41,7 @@ use Rattle.meter_command.proofs.JudgementLaws.{change-accepted}
 use Rattle.meter_command.specs.Parts.{functionIn, named, parameterByte, parameterIn, dataIn}
 use Rattle.meter.specs.Bench.{slicePut}
 use Rattle.meter.specs.Effect.{renewed, afterBy, clearsBy}
-use Rattle.meter.specs.Reply.{isSound, answerOf}
+use Rattle.meter.specs.Reply.{isSound, met, answerOf}
 use Rattle.meter.proofs.KeepLaws.{handsBack, answer-sound, put-sound}
 use Rattle.demands.specs.Demand1.{answerNumber}
 use Rattle.demands.specs.Demand2.{answered, replyIn}
@@ -191,7 +191,7 @@ change-read r s f out room b e w n =
     let o = answerOf r s f out in
     let y = o .answer .after in
     let q = readOf y (parameterByte f) 0 in
-    let c = change-accepted r f (verdict-done r s f out function.Change e (n .zero)) .opens in
+    let c = change-accepted (met r f) r f (verdict-done r s f out function.Change e (n .zero)) .opens in
     let fits = fits-changed r s f out room e b n in
     own y (o .store) q room fits (bytes-changed r s f out room e n) (read-bytes y (parameterByte f) 0 fits (parameter-small f b) (lit≤ tt)) (n .room)
     (after-sound r s f out room n) refl (plain-askable (parameterIn f) y (parameterByte f) (slotsOf (y .minutes)) c w)

@@ -1,4 +1,4 @@
--- Demand 1, the meter's answer: a command that it heard is done or refused by 10 to 15, and what is refused changes nothing but the output.
+-- Demand 1, the meter's answer: a command that it heard is done or refused by 10 to 16, and what is refused changes nothing but the output.
 use mathlib.Core.Path.{_≡_, refl}
 use mathlib.Core.Bool.{Bool, true, false, cond, _||_, false≢true}
 use mathlib.Core.List.{List}
@@ -19,14 +19,15 @@ use Rattle.frame.specs.declared.code.Parameter.{Parameter}
 use Rattle.slots.specs.Day.{slotsOf}
 use Rattle.request.specs.Subject.{subjectOf, askable}
 use Rattle.meter_record.specs.declared.record.Record.{Record}
-use Rattle.meter_command.specs.Access.{isMain, changeAllowed, passwordFor, unlockVerdict, lockVerdict}
+use Rattle.meter_command.specs.Access.{byOwn, isMain, changeAllowed, passwordFor, unlockVerdict, lockVerdict}
 use Rattle.meter_command.specs.Judgement.{passed, checked, argumentFits, readVerdict, changeVerdict, zeroVerdict, verdictBy, verdictOf}
 use Rattle.meter_command.specs.Parts.{functionIn, parameterIn, requestIn}
 use Rattle.meter_command.specs.Verdict.{numberOf}
+use Rattle.meter_command.specs.declared.access.Met.{Met}
 use Rattle.meter_command.specs.declared.verdict.Verdict.{Verdict}
 use Rattle.meter_command.specs.declared.verdict.Verdict.the-variants as verdict
 use Rattle.meter.specs.Reply as meter
-use Rattle.meter.specs.Reply.{isSound, heard, headOf, unheard, refused, replied, answerOf}
+use Rattle.meter.specs.Reply.{isSound, met, heard, verdictOn, headOf, unheard, refused, replied, answerOf}
 use Rattle.demands.specs.Demand1.{inTable, Ends, givesFrame, answerNumber}
 
 -- ---- a command that is heard
@@ -34,33 +35,37 @@ use Rattle.demands.specs.Demand1.{inTable, Ends, givesFrame, answerNumbe
 unfoldable pub Judged : Verdict → Type 0
 Judged v = (eqb (numberOf v) 0 || givesFrame (numberOf v)) ≡ true
 
-checked-judged : (a b c d e : Bool) → Judged (checked a b c d e)
+checked-judged : (a b c d e g : Bool) → Judged (checked a b c d e g)
 unfolding Judged checked passed
-checked-judged a b c d e = either Judged a (either Judged b (either Judged c (either Judged d (either Judged e refl refl) refl) refl) refl) refl
+checked-judged a b c d e g =
+    either Judged a (either Judged b (either Judged c (either Judged d (either Judged e (either Judged g refl refl) refl) refl) refl) refl) refl
 
 module _ (r : Record) (f : List ℕ) where
   p : Parameter
   p = parameterIn f
 
-  judged-by : (fn : Function) → Judged (verdictBy fn r f)
+  judged-by : (fn : Function) (m : Met) → Judged (verdictBy fn m r f)
   unfolding Judged p verdictBy readVerdict changeVerdict zeroVerdict unlockVerdict lockVerdict
-  judged-by function.Read = checked-judged (known (rowOf p)) ((rowOf p) .readable) (eqb (length f) 8) true (askable (subjectOf (requestIn f) (slotsOf (r .minutes))))
-  judged-by function.Change =
-      checked-judged (known (rowOf p)) ((rowOf p) .changeable) (eqb (length f) (6 + (rowOf p) .«change_bytes»)) (changeAllowed p (r .protection .level)) (argumentFits p r f)
-  judged-by function.Zero = checked-judged (known (rowOf p)) ((rowOf p) .zeroable) (eqb (length f) 6) (isMain (r .protection .level)) (eqb (byteAt f 3) 0)
-  judged-by function.Unlock =
+  judged-by function.Read m =
+      checked-judged (known (rowOf p)) ((rowOf p) .readable) (eqb (length f) 8) true true (askable (subjectOf (requestIn f) (slotsOf (r .minutes))))
+  judged-by function.Change m =
+      checked-judged (known (rowOf p)) ((rowOf p) .changeable) (eqb (length f) (6 + (rowOf p) .«change_bytes»)) (byOwn m) (changeAllowed p (r .protection .level))
+      (argumentFits p r f)
+  judged-by function.Zero m =
+      checked-judged (known (rowOf p)) ((rowOf p) .zeroable) (eqb (length f) 6) (byOwn m) (isMain (r .protection .level)) (eqb (byteAt f 3) 0)
+  judged-by function.Unlock m =
       either Judged (eqb (length f) 14)
       (either Judged (leb (byteAt f 3) 1)
       (either Judged (eqb (numberAt f 4 8) (passwordFor (r .passwords) (byteAt f 3))) (either Judged (eqb (byteAt f 2) 0) refl refl) refl)
       refl)
       refl
-  judged-by function.Lock =
+  judged-by function.Lock m =
       either Judged (eqb (length f) 6) (either Judged (eqb (byteAt f 2) 0) (either Judged (eqb (byteAt f 3) 0) refl refl) refl) refl
-  judged-by function.Unknown = refl
+  judged-by function.Unknown m = refl
 
-  pub judged : Judged (verdictOf r f)
+  pub judged : Judged (verdictOn r f)
   unfolding verdictOf
-  judged = judged-by (functionIn f)
+  judged = judged-by (functionIn f) (met r f)
 
 -- ---- the answer: record and store, and of a refused command the output and how many of its bytes are sent
 
@@ -87,6 +92,7 @@ module _ (r : Record) (s f out : List ℕ) where
   replied-ends verdict.UnknownParameter j = refused-ends verdict.UnknownParameter refl refl
   replied-ends verdict.NotOpen j = refused-ends verdict.NotOpen refl refl
   replied-ends verdict.WrongLength j = refused-ends verdict.WrongLength refl refl
+  replied-ends verdict.ByAddressZero j = refused-ends verdict.ByAddressZero refl refl
   replied-ends verdict.NoAccess j = refused-ends verdict.NoAccess refl refl
   replied-ends verdict.WrongArgument j = refused-ends verdict.WrongArgument refl refl
 
@@ -95,7 +101,7 @@ module _ (r : Record) (s f out : List ℕ) where
   answer-ends =
       either (AnswerEnds r s f out) (ltb (length out) longest) (unheard-ends verdict.TooShort refl refl)
       (either (AnswerEnds r s f out) (isSound r s)
-      (either (AnswerEnds r s f out) (heard r f) (replied-ends (verdictOf r f) (judged r f)) (unheard-ends verdict.Silent refl refl))
+      (either (AnswerEnds r s f out) (heard r f) (replied-ends (verdictOn r f) (judged r f)) (unheard-ends verdict.Silent refl refl))
       (unheard-ends verdict.Unsound refl refl))
 
   pub answer : let o = answerOf r s f out in Ends {A = Record × List ℕ} (answerNumber o) (r, s) (o .answer .after, o .store)

@@ -18,16 +18,18 @@ use Rattle.meter_store.specs.Store.{cleared}
 use Rattle.meter_record.specs.With.{withProtection, withPasswords}
 use Rattle.meter_record.specs.declared.record.Passwords.{Passwords}
 use Rattle.meter_record.specs.declared.record.Record.{Record}
-use Rattle.meter_command.specs.Access.{isMain, changeAllowed, passwordFor, levelFor, unlockVerdict}
+use Rattle.meter_command.specs.Access.{byOwn, isMain, changeAllowed, passwordFor, levelFor, unlockVerdict}
 use Rattle.meter_command.specs.Change.{passwordsAfter, changedTo, changed, zeroed}
 use Rattle.meter_command.specs.Judgement.{verdictOf, verdictBy}
 use Rattle.meter_command.proofs.JudgementLaws.{change-accepted, zero-accepted}
 use Rattle.meter_command.proofs.KeepLaws.{change-level, zero-level}
 use Rattle.meter_command.specs.Parts.{functionIn, parameterIn, detailIn, dataIn}
 use Rattle.meter_command.specs.Verdict.{isDone}
+use Rattle.meter_command.specs.declared.access.Met.{Met}
+use Rattle.meter_command.specs.declared.access.Met.the-variants.{Own, Zero, Neither}
 use Rattle.meter_command.specs.declared.verdict.Verdict.the-variants.{Done, WrongLength, NoAccess, WrongArgument}
 use Rattle.meter.specs.Effect.{renewed, afterOf, afterBy, isSlice, clears, clearsBy, storeAfter}
-use Rattle.meter.specs.Reply.{Outcome, answerOf}
+use Rattle.meter.specs.Reply.{Outcome, met, answerOf}
 use Rattle.demands.specs.Demand1.{answerNumber}
 use Rattle.demands.specs.Changes.{otherNamed, Alone, Permitted, Leaves}
 use Rattle.demands.proofs.Answer.{answer}
@@ -45,9 +47,9 @@ module _ (r : Record) (s f out : List ℕ) (fn : Function) (e : functionIn f ≡
   store-done =
       ap (λ (o : Outcome). o .store) (passed r s f out h .whole) ∙ ap (λ (g : Function). cond (clearsBy g (parameterIn f)) (cleared s) s) e
 
-  pub verdict-done : isDone (verdictBy fn r f) ≡ true
+  pub verdict-done : isDone (verdictBy fn (met r f) r f) ≡ true
   unfolding verdictOf
-  verdict-done = ap (λ (g : Function). isDone (verdictBy g r f)) (sym e) ∙ ap isDone (passed r s f out h .verdict)
+  verdict-done = ap (λ (g : Function). isDone (verdictBy g (met r f) r f)) (sym e) ∙ ap isDone (passed r s f out h .verdict)
 
 -- ---- changes
 
@@ -96,11 +98,18 @@ zero-alone parameter.Unknown detail r = refl
 renewal-of : (r x : Record) → x .protection ≡ r .protection → renewed x ≡ withProtection x (opened (r .protection .level))
 renewal-of r x e = ap (λ (p : Protection). withProtection x (opened (p .level))) e
 
+-- what may change the meter met its own address
+own-only : (m : Met) → byOwn m ≡ true → m ≡ Own
+own-only Own h = refl
+own-only Zero h = absurd (false≢true h)
+own-only Neither h = absurd (false≢true h)
+
 pub change : (r : Record) (s f out : List ℕ) → functionIn f ≡ function.Change → let o = answerOf r s f out in answerNumber o ≡ 0
     → Permitted (changeAllowed (parameterIn f) (r .protection .level)) f r s o
 unfolding verdictBy afterBy clearsBy
 change r s f out e h = record {
-  had = change-accepted r f (verdict-done r s f out function.Change e h) .allowed;
+  had = change-accepted (met r f) r f (verdict-done r s f out function.Change e h) .allowed;
+  by-own = own-only (met r f) (change-accepted (met r f) r f (verdict-done r s f out function.Change e h) .own);
   before-renewal = changed (parameterIn f) r f;
   alone = change-alone (parameterIn f) r f;
   renewal = after-done r s f out function.Change e h ∙ renewal-of r (changed (parameterIn f) r f) (change-level (parameterIn f) r f);
@@ -111,7 +120,8 @@ pub zeroing : (r : Record) (s f out : List ℕ) → functionIn f ≡ function.Ze
     → Permitted (isMain (r .protection .level)) f r (cond (isSlice (parameterIn f)) (cleared s) s) o
 unfolding verdictBy afterBy clearsBy
 zeroing r s f out e h = record {
-  had = zero-accepted r f (verdict-done r s f out function.Zero e h) .allowed;
+  had = zero-accepted (met r f) r f (verdict-done r s f out function.Zero e h) .allowed;
+  by-own = own-only (met r f) (zero-accepted (met r f) r f (verdict-done r s f out function.Zero e h) .own);
   before-renewal = zeroed (parameterIn f) r;
   alone = zero-alone (parameterIn f) (detailIn f) r;
   renewal = after-done r s f out function.Zero e h ∙ renewal-of r (zeroed (parameterIn f) r) (zero-level (parameterIn f) r);

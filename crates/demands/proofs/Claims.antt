@@ -3,12 +3,15 @@ use Rattle.demands.specs.Demand1.{Demand1}
 use Rattle.demands.specs.Demand1Inquire.{Demand1Inquire}
 use Rattle.demands.specs.Demand2.{Demand2}
 use Rattle.demands.specs.Demand2Again.{Demand2Again}
+use Rattle.demands.specs.Demand2ByZero.{Demand2ByZero}
 use Rattle.demands.specs.Demand2Done.{Demand2Done}
 use Rattle.demands.specs.Demand3.{Demand3}
 use Rattle.demands.specs.Faults.{ReplyFaults}
 use Rattle.demands.specs.Examples.{Marked}
 use Rattle.demands.proofs.Again as again
+use Rattle.demands.proofs.Alike as alike
 use Rattle.demands.proofs.Answer as answer
+use Rattle.demands.proofs.ByZero as by-zero
 use Rattle.demands.proofs.Calls as calls
 use Rattle.demands.proofs.Changes as changes
 use Rattle.demands.proofs.Done as done
@@ -76,6 +79,14 @@ demand-2-done = record {
   in-range = range.in-range;
   out-of-range-made = range.out-of-range-made;
   in-range-made = range.in-range-made;
+}
+
+pub demand-2-by-zero : Demand2ByZero
+demand-2-by-zero = record {
+  came-by-own = by-zero.came-by-own;
+  by-zero-refused = by-zero.by-zero-refused;
+  sixteen = by-zero.sixteen;
+  others-alike = alike.others-alike;
 }
 
 pub demand-2-again : Demand2Again

@@ -21,33 +21,34 @@ use Rattle.request.specs.Request.{requestFrame}
 use Rattle.request.specs.Subject.{subjectOf, askable}
 use Rattle.request.specs.declared.request.Request.{Request}
 use Rattle.meter_record.specs.declared.record.Record.{Record}
-use Rattle.meter_command.specs.Access.{isMain, changeAllowed, passwordFor, unlockVerdict, lockVerdict}
+use Rattle.meter_command.specs.Access.{byOwn, isMain, changeAllowed, passwordFor, unlockVerdict, lockVerdict}
 use Rattle.meter_command.specs.Judgement.{passed, checked, argumentFits, readVerdict, changeVerdict, zeroVerdict, verdictBy, verdictOf}
 use Rattle.meter_command.specs.Parts.{functionIn, parameterIn, parameterByte, requestIn, detailIn}
+use Rattle.meter_command.specs.declared.access.Met.the-variants.{Own}
 use Rattle.meter_command.specs.declared.verdict.Verdict.the-variants.{Done}
-use Rattle.meter.specs.Reply.{replied, answerOf}
+use Rattle.meter.specs.Reply.{met, verdictOn, replied, answerOf}
 use Rattle.demands.specs.Demand1.{answerNumber}
 use Rattle.demands.specs.Demand2.{answered}
 use Rattle.demands.specs.Demand2Done.{Ready}
 
 -- ---- a command that passes every check is answered 0
 
-answered-zero : (r : Record) (s f out : List ℕ) → Ready r s f out → verdictOf r f ≡ Done → answerNumber (answerOf r s f out) ≡ 0
+answered-zero : (r : Record) (s f out : List ℕ) → Ready r s f out → verdictOn r f ≡ Done → answerNumber (answerOf r s f out) ≡ 0
 unfolding answerOf replied
 answered-zero r s f out y v = simp (le-ltb (length out) 64 (y .room), y .sound, y .hears, v)
 
-zero-by : (r : Record) (s f out : List ℕ) (fn : Function) → Ready r s f out → functionIn f ≡ fn → verdictBy fn r f ≡ Done
+zero-by : (r : Record) (s f out : List ℕ) (fn : Function) → Ready r s f out → functionIn f ≡ fn → verdictBy fn (met r f) r f ≡ Done
     → answerNumber (answerOf r s f out) ≡ 0
 unfolding verdictOf
-zero-by r s f out fn y e v = answered-zero r s f out y (ap (λ (g : Function). verdictBy g r f) e ∙ v)
+zero-by r s f out fn y e v = answered-zero r s f out y (ap (λ (g : Function). verdictBy g (met r f) r f) e ∙ v)
 
-all-passed : {k o l a f : Bool} → k ≡ true → o ≡ true → l ≡ true → a ≡ true → f ≡ true → checked k o l a f ≡ Done
+all-passed : {k o l w a f : Bool} → k ≡ true → o ≡ true → l ≡ true → w ≡ true → a ≡ true → f ≡ true → checked k o l w a f ≡ Done
 unfolding checked passed
-all-passed k o l a f = simp (k, o, l, a, f)
+all-passed k o l w a f = simp (k, o, l, w, a, f)
 
 -- ---- what can be read, changed or zeroed is known
 
-known-by : (column : Row → Bool) → column (rowOf parameter.Unknown) ≡ false → (p : Parameter) → column (rowOf p) ≡ true → known (rowOf p) ≡ true
+pub known-by : (column : Row → Bool) → column (rowOf parameter.Unknown) ≡ false → (p : Parameter) → column (rowOf p) ≡ true → known (rowOf p) ≡ true
 known-by column n parameter.ActivePower h = refl
 known-by column n parameter.ReactivePower h = refl
 known-by column n parameter.Address h = refl
@@ -64,8 +65,9 @@ known-by column n parameter.Unknown h = absurd (false≢true (sym n ∙ h))
 -- ---- a read
 
 read-by : (r : Record) (q : Request)
-    → verdictOf r (requestFrame q)
-    ≡ checked (known (rowOf (parameterOf (q .parameter)))) ((rowOf (parameterOf (q .parameter))) .readable) true true (askable (subjectOf q (slotsOf (r .minutes))))
+    → verdictOn r (requestFrame q)
+    ≡ checked (known (rowOf (parameterOf (q .parameter)))) ((rowOf (parameterOf (q .parameter))) .readable) true true true
+    (askable (subjectOf q (slotsOf (r .minutes))))
 unfolding verdictOf verdictBy readVerdict requestFrame framed functionOf parameterByte bytesOf requestIn
 read-by r q = refl
 
@@ -75,23 +77,24 @@ unfolding subjectOf
 read-done r s q out y h =
     let p = parameterOf (q .parameter) in
     let readable = request.asked p q (slotsOf (r .minutes)) h .readable in
-    answered-zero r s (requestFrame q) out y (read-by r q ∙ all-passed (known-by (λ (w : Row). w .readable) refl p readable) readable refl refl h)
+    answered-zero r s (requestFrame q) out y (read-by r q ∙ all-passed (known-by (λ (w : Row). w .readable) refl p readable) readable refl refl refl h)
 
 -- ---- a change, a zeroing
 
-pub change-done : (r : Record) (s f out : List ℕ) → Ready r s f out → functionIn f ≡ function.Change → let w = rowOf (parameterIn f) in
+pub change-done : (r : Record) (s f out : List ℕ) → Ready r s f out → met r f ≡ Own → functionIn f ≡ function.Change → let w = rowOf (parameterIn f) in
     w .changeable ≡ true → length f ≡ 6 + w .«change_bytes» → changeAllowed (parameterIn f) (r .protection .level) ≡ true
     → argumentFits (parameterIn f) r f ≡ true → answerNumber (answerOf r s f out) ≡ 0
 unfolding verdictBy changeVerdict
-change-done r s f out y e c l a g =
-    zero-by r s f out function.Change y e (all-passed (known-by (λ (w : Row). w .changeable) refl (parameterIn f) c) c (eq-eqb _ _ l) a g)
+change-done r s f out y m e c l a g =
+    zero-by r s f out function.Change y e (all-passed (known-by (λ (w : Row). w .changeable) refl (parameterIn f) c) c (eq-eqb _ _ l) (ap byOwn m) a g)
 
-pub zeroing-done : (r : Record) (s f out : List ℕ) → Ready r s f out → functionIn f ≡ function.Zero
+pub zeroing-done : (r : Record) (s f out : List ℕ) → Ready r s f out → met r f ≡ Own → functionIn f ≡ function.Zero
     → (rowOf (parameterIn f)) .zeroable ≡ true → length f ≡ 6 → isMain (r .protection .level) ≡ true → detailIn f ≡ 0
     → answerNumber (answerOf r s f out) ≡ 0
 unfolding verdictBy zeroVerdict
-zeroing-done r s f out y e z l a d =
-    zero-by r s f out function.Zero y e (all-passed (known-by (λ (w : Row). w .zeroable) refl (parameterIn f) z) z (eq-eqb _ _ l) a (eq-eqb _ _ d))
+zeroing-done r s f out y m e z l a d =
+    zero-by r s f out function.Zero y e (all-passed (known-by (λ (w : Row). w .zeroable) refl (parameterIn f) z) z (eq-eqb _ _ l) (ap byOwn m) a
+    (eq-eqb _ _ d))
 
 -- ---- a password, a lock
 

@@ -20,10 +20,9 @@ use Rattle.request.specs.declared.request.Request.{Request}
 use Rattle.meter_store.specs.Store.{sixOf}
 use Rattle.meter_record.specs.Widths.{FitsRecord}
 use Rattle.meter_record.specs.declared.record.Record.{Record}
-use Rattle.meter_command.specs.Judgement.{verdictOf}
 use Rattle.meter_command.specs.Verdict.{numberOf, isDone}
 use Rattle.meter_command.specs.declared.verdict.Verdict.the-variants.{Done}
-use Rattle.meter.specs.Reply.{Outcome, isSound, heard, replied, answerOf}
+use Rattle.meter.specs.Reply.{Outcome, isSound, heard, verdictOn, replied, answerOf}
 use Rattle.reader.specs.Reply.{decodedOf}
 use Rattle.reader.specs.Rows.{replyData, sixOf as sixIn}
 use Rattle.reader.specs.declared.reply.Decoded.{Decoded}
@@ -79,14 +78,14 @@ silent-told r s q out room sound hear h = omega (arith, simp (le-ltb (length out
 
 -- and it is done
 done-verdict : (r : Record) (s : List ℕ) (q : Request) (out : List ℕ) → 64 ≤ length out → isSound r s ≡ true → heard r (requestFrame q) ≡ true
-    → isDone (verdictOf r (requestFrame q)) ≡ true → (answered r s q out) .answer .verdict ≡ verdictOf r (requestFrame q)
+    → isDone (verdictOn r (requestFrame q)) ≡ true → (answered r s q out) .answer .verdict ≡ verdictOn r (requestFrame q)
 unfolding answerOf replied
 done-verdict r s q out room sound hear d = simp (le-ltb (length out) 64 room, sound, hear, d)
 
 -- so the meter's own answer is 0
 own-done : (r : Record) (s : List ℕ) (q : Request) (out : List ℕ) → FitsRequest q → inquiry.numberOf ((inquiry.inquired r s q out) .answer) ≡ 0
     → (answered r s q out) .answer .verdict ≡ Done
-own-done r s q out k h = go (heard r (requestFrame q)) refl (isDone (verdictOf r (requestFrame q))) refl
+own-done r s q out k h = go (heard r (requestFrame q)) refl (isDone (verdictOn r (requestFrame q))) refl
   where
     t : Sent r s q out
     t = sent r s q out h
@@ -94,7 +93,7 @@ own-done r s q out k h = go (heard r (requestFrame q)) refl (isDone (verdictOf r
     told : inquiry.numberOf ((toldOf (answered r s q out) q) .answer) ≡ 0
     told = ap (λ (o : inquiry.Outcome). inquiry.numberOf (o .answer)) (sym (t .whole)) ∙ h
 
-    go : (c : Bool) → heard r (requestFrame q) ≡ c → (d : Bool) → isDone (verdictOf r (requestFrame q)) ≡ d
+    go : (c : Bool) → heard r (requestFrame q) ≡ c → (d : Bool) → isDone (verdictOn r (requestFrame q)) ≡ d
         → (answered r s q out) .answer .verdict ≡ Done
     go false e d g = absurd (silent-told r s q out (t .room) (t .sound) e told)
     go true e false g =

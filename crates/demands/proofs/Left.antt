@@ -19,14 +19,13 @@ use Rattle.request.specs.Subject.{subjectOf, mostSlots, askable}
 use Rattle.request.specs.declared.request.Request.{Request}
 use Rattle.meter_record.specs.Widths.{FitsRecord}
 use Rattle.meter_record.specs.declared.record.Record.{Record}
-use Rattle.meter_command.specs.Judgement.{verdictOf}
 use Rattle.meter_command.specs.Verdict.{numberOf, isDone}
 use Rattle.meter_command.specs.declared.verdict.Verdict.{Verdict}
 use Rattle.meter_command.specs.declared.verdict.Verdict.the-variants as verdict
 use Rattle.meter_reading.specs.Reading.{dataOf}
 use Rattle.meter.specs.Effect.{clears, clearsBy, storeAfter}
 use Rattle.meter.specs.Reply as meter
-use Rattle.meter.specs.Reply.{isSound, heard, headOf, replied, answerOf}
+use Rattle.meter.specs.Reply.{isSound, heard, verdictOn, headOf, replied, answerOf}
 use Rattle.reader.specs.Form.{faultNumber}
 use Rattle.reader.specs.declared.form.Fault.{Fault}
 use Rattle.reader.specs.declared.form.Fault.the-variants as fault
@@ -57,7 +56,7 @@ module _ (r : Record) (s : List ℕ) (q : Request) (out : List ℕ) where
       let kept : meter.Outcome → Type 0 = λ o. o .store ≡ s in
       either kept (ltb (length out) 64) refl
       (either kept (isSound r s)
-      (either kept (heard r (requestFrame q)) (either kept (isDone (verdictOf r (requestFrame q))) (read-clears-nothing s q) refl) refl)
+      (either kept (heard r (requestFrame q)) (either kept (isDone (verdictOn r (requestFrame q))) (read-clears-nothing s q) refl) refl)
       refl)
 
   told-store : (o : meter.Outcome) → o .store ≡ s → (toldOf o q) .store ≡ s
@@ -123,11 +122,12 @@ module _ (r : Record) (s : List ℕ) (q : Request) (out : List ℕ) (a : askable
   told-left verdict.UnknownParameter j = told _ _
   told-left verdict.NotOpen j = told _ _
   told-left verdict.WrongLength j = told _ _
+  told-left verdict.ByAddressZero j = told _ _
   told-left verdict.NoAccess j = told _ _
   told-left verdict.WrongArgument j = told _ _
 
-  heard-left : Left (verdictOf r f) (toldOf (replied (verdictOf r f) r s f out) q)
-  heard-left = told-left (verdictOf r f) (judged r f)
+  heard-left : Left (verdictOn r f) (toldOf (replied (verdictOn r f) r s f out) q)
+  heard-left = told-left (verdictOn r f) (judged r f)
 
 pub output : (r : Record) (s : List ℕ) (q : Request) (out : List ℕ) → let o = inquired r s q out in
     o .out ≡ cond (noReply (inquiry.numberOf (o .answer))) out (written out 0 (replyTo r s (requestFrame q)))
@@ -171,6 +171,7 @@ not-silent verdict.UnknownFunction j = refl
 not-silent verdict.UnknownParameter j = refl
 not-silent verdict.NotOpen j = refl
 not-silent verdict.WrongLength j = refl
+not-silent verdict.ByAddressZero j = refl
 not-silent verdict.NoAccess j = refl
 not-silent verdict.WrongArgument j = refl
 
@@ -181,11 +182,11 @@ told-loud o q e = simp e
 
 -- the meter's verdict on a request that it heard, whole
 heard-verdict : (r : Record) (s f out : List ℕ) → ltb (length out) 64 ≡ false → isSound r s ≡ true → heard r f ≡ true
-    → (answerOf r s f out) .answer .verdict ≡ verdictOf r f
+    → (answerOf r s f out) .answer .verdict ≡ verdictOn r f
 unfolding answerOf replied
-heard-verdict r s f out e k m = go (isDone (verdictOf r f)) refl
+heard-verdict r s f out e k m = go (isDone (verdictOn r f)) refl
   where
-    go : (d : Bool) → isDone (verdictOf r f) ≡ d → (answerOf r s f out) .answer .verdict ≡ verdictOf r f
+    go : (d : Bool) → isDone (verdictOn r f) ≡ d → (answerOf r s f out) .answer .verdict ≡ verdictOn r f
     go true g = simp (e, k, m, g)
     go false g = simp (e, k, m, g)
 
@@ -195,11 +196,11 @@ heard-number : (r : Record) (s : List ℕ) (q : Request) (out : List ℕ) → lt
 unfolding inquired asked
 heard-number r s q out e k l m =
     let v = heard-verdict r s (requestFrame q) out e k m in
-    simp (e, k, l) (told-loud (answered r s q out) q (ap isSilent v ∙ not-silent (verdictOf r (requestFrame q)) (judged r (requestFrame q))))
+    simp (e, k, l) (told-loud (answered r s q out) q (ap isSilent v ∙ not-silent (verdictOn r (requestFrame q)) (judged r (requestFrame q))))
 
 -- a request that is done has the record's own figures
 done-number : (r : Record) (s : List ℕ) (q : Request) (out : List ℕ) → FitsRecord r → Bytes s → FitsRequest q → ltb (length out) 64 ≡ false
-    → isSound r s ≡ true → askable (subjectOf q mostSlots) ≡ true → heard r (requestFrame q) ≡ true → isDone (verdictOf r (requestFrame q)) ≡ true
+    → isSound r s ≡ true → askable (subjectOf q mostSlots) ≡ true → heard r (requestFrame q) ≡ true → isDone (verdictOn r (requestFrame q)) ≡ true
     → reader.numberOf (decodedOf q (replyIn (answered r s q out))) ≡ 0
 done-number r s q out w b k e n l m g =
     let v = heard-verdict r s (requestFrame q) out e n m ∙ done-only _ g in
@@ -208,14 +209,14 @@ done-number r s q out w b k e n l m g =
 
 pub refused-output : (r : Record) (s : List ℕ) (q : Request) (out : List ℕ) → FitsRecord r → Bytes s → FitsRequest q
     → let o = inquired r s q out in let f = requestFrame q in (inquiry.numberOf (o .answer) ≡ 0 → ⊥)
-    → o .out ≡ cond (eqb (inquiry.numberOf (o .answer)) 24) (written out 0 (framed (headOf (verdictOf r f) f))) out
+    → o .out ≡ cond (eqb (inquiry.numberOf (o .answer)) 24) (written out 0 (framed (headOf (verdictOn r f) f))) out
 unfolding inquired asked toldOf answerOf noReply
 refused-output r s q out w b k n =
-    go (ltb (length out) 64) refl (isSound r s) refl (askable (subjectOf q mostSlots)) refl (heard r (requestFrame q)) refl (isDone (verdictOf r (requestFrame q))) refl
+    go (ltb (length out) 64) refl (isSound r s) refl (askable (subjectOf q mostSlots)) refl (heard r (requestFrame q)) refl (isDone (verdictOn r (requestFrame q))) refl
   where
     go : (a : Bool) → ltb (length out) 64 ≡ a → (c : Bool) → isSound r s ≡ c → (d : Bool) → askable (subjectOf q mostSlots) ≡ d
-        → (g : Bool) → heard r (requestFrame q) ≡ g → (h : Bool) → isDone (verdictOf r (requestFrame q)) ≡ h
-        → (inquired r s q out) .out ≡ cond (eqb (inquiry.numberOf ((inquired r s q out) .answer)) 24) (written out 0 (framed (headOf (verdictOf r (requestFrame q)) (requestFrame q)))) out
+        → (g : Bool) → heard r (requestFrame q) ≡ g → (h : Bool) → isDone (verdictOn r (requestFrame q)) ≡ h
+        → (inquired r s q out) .out ≡ cond (eqb (inquiry.numberOf ((inquired r s q out) .answer)) 24) (written out 0 (framed (headOf (verdictOn r (requestFrame q)) (requestFrame q)))) out
     go true e c i d l g m h p = simp e
     go false e false i d l g m h p = simp (e, i)
     go false e true i false l g m h p = simp (e, i, l)
@@ -225,7 +226,7 @@ refused-output r s q out w b k n =
         let y = refused r s q out k l (ltb-false (length out) 64 e) i m p in
         let x : inquiry.numberOf ((inquired r s q out) .answer) ≡ 24 = heard-number r s q out e i l m ∙ ap reader.numberOf y in
         let f = requestFrame q in
-        let head = headOf (verdictOf r f) f in
+        let head = headOf (verdictOn r f) f in
         output r s q out
         ∙ ap (λ (j : ℕ). cond (noReply j) out (written out 0 (replyTo r s f))) x
         ∙ ap (λ (j : Bool). written out 0 (framed (cond j (head ++ dataOf r s f) head))) p

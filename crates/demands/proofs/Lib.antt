@@ -8,6 +8,8 @@ pub mod Inquiry
 pub mod Changes
 pub mod Fits
 pub mod Done
+pub mod ByZero
+pub mod Alike
 pub mod Range
 pub mod Left
 pub mod Again

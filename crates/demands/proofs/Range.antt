@@ -1,6 +1,6 @@
 -- Demand 2, 27: what it refuses no record answers with 0, and what it lets pass some record does.
 use mathlib.Core.Path.{_≡_, refl, sym, ap, ap₂, _∙_}
-use mathlib.Core.Bool.{Bool, true, false, _&&_, _||_, false≢true}
+use mathlib.Core.Bool.{Bool, true, false, cond, _&&_, _||_, false≢true}
 use mathlib.Core.List.{List, [], _∷_}
 use Prim.Native.Nat.{ℕ, _+_, _<_}
 use native.Mathlib.Omega.{arith}
@@ -51,7 +51,8 @@ use Rattle.meter_record.specs.Ranges.{isTelemetry}
 use Rattle.meter_record.specs.Record.{fresh}
 use Rattle.meter_record.specs.Widths.{FitsRecord}
 use Rattle.meter_record.specs.declared.record.Record.{Record}
-use Rattle.meter.specs.Reply.{isSound, heard}
+use Rattle.meter_command.specs.declared.access.Met.the-variants.{Own, Zero, Neither}
+use Rattle.meter.specs.Reply.{isSound, met, isHeard, heard}
 use Rattle.demands.specs.Demand1.{answerNumber}
 use Rattle.demands.specs.Demand2.{answered}
 use Rattle.demands.specs.Demand2Done.{BytesRequest, Answerable}
@@ -142,11 +143,18 @@ request-address : (q : Request) → byteAt (requestFrame q) 0 ≡ q .address
 unfolding requestFrame framed
 request-address q = refl
 
+by-either : (zero own : Bool) → (zero || own) ≡ true → isHeard (cond zero Zero (cond own Own Neither)) ≡ true
+by-either true own e = refl
+by-either false true e = refl
+by-either false false e = absurd (false≢true e)
+
 pub hears-request : (r : Record) (q : Request) → BytesRequest q → (eqb (q .address) 0 || eqb (q .address) (r .address)) ≡ true
     → heard r (requestFrame q) ≡ true
-unfolding heard
+unfolding heard met
 hears-request r q k e =
-    ap₂ _&&_ (request-sealed q k) (ap (λ (a : ℕ). eqb a 0 || eqb a (r .address)) (request-address q) ∙ e)
+    ap₂ (λ (sealed : Bool) (a : ℕ). isHeard (cond sealed (cond (eqb a 0) Zero (cond (eqb a (r .address)) Own Neither)) Neither)) (request-sealed q k)
+    (request-address q)
+    ∙ by-either (eqb (q .address) 0) (eqb (q .address) (r .address)) e
 
 -- ---- a meter from the factory, of 15 minutes, with the request's address
 

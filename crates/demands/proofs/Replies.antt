@@ -37,10 +37,11 @@ use Rattle.meter_command.proofs.JudgementLaws.{read-accepted}
 use Rattle.meter_command.specs.Parts.{functionIn, parameterByte, requestIn}
 use Rattle.meter_command.specs.Verdict.{resultOf, isDone}
 use Rattle.meter_command.specs.declared.verdict.Verdict.{Verdict}
-use Rattle.meter_command.specs.declared.verdict.Verdict.the-variants.{Done, TooShort, Unsound, Silent, UnknownFunction, UnknownParameter, NotOpen, WrongLength, NoAccess, WrongArgument}
+use Rattle.meter_command.specs.declared.verdict.Verdict.the-variants.{Done, TooShort, Unsound, Silent, UnknownFunction, UnknownParameter}
+use Rattle.meter_command.specs.declared.verdict.Verdict.the-variants.{NotOpen, WrongLength, ByAddressZero, NoAccess, WrongArgument}
 use Rattle.meter_reading.specs.Reading.{figuresOf, sixBytes, dataOf}
 use Rattle.meter.specs.Reply as meter
-use Rattle.meter.specs.Reply.{isSound, heard, functionFor, headOf, done, replied, answerOf}
+use Rattle.meter.specs.Reply.{isSound, met, heard, verdictOn, functionFor, headOf, done, replied, answerOf}
 use Rattle.meter.proofs.ReplyLaws.{length-figures, length-head}
 use Rattle.reader.specs.Form as form
 use Rattle.reader.specs.Form.{lengthFor, formOf}
@@ -65,20 +66,21 @@ done-only UnknownFunction h = absurd (false≢true h)
 done-only UnknownParameter h = absurd (false≢true h)
 done-only NotOpen h = absurd (false≢true h)
 done-only WrongLength h = absurd (false≢true h)
+done-only ByAddressZero h = absurd (false≢true h)
 done-only NoAccess h = absurd (false≢true h)
 done-only WrongArgument h = absurd (false≢true h)
 
 pub record Passed (r : Record) (s f out : List ℕ) : Type 0 where
   pub room : 64 ≤ length out
   pub sound : isSound r s ≡ true
-  pub verdict : verdictOf r f ≡ Done
+  pub verdict : verdictOn r f ≡ Done
   pub whole : answerOf r s f out ≡ done Done r s f out
 
 pub passed : (r : Record) (s f out : List ℕ) → answerNumber (answerOf r s f out) ≡ 0 → Passed r s f out
 unfolding answerOf replied
-passed r s f out h = go (ltb (length out) 64) refl (isSound r s) refl (heard r f) refl (verdictOf r f) refl
+passed r s f out h = go (ltb (length out) 64) refl (isSound r s) refl (heard r f) refl (verdictOn r f) refl
   where
-    go : (a : Bool) → ltb (length out) 64 ≡ a → (b : Bool) → isSound r s ≡ b → (c : Bool) → heard r f ≡ c → (v : Verdict) → verdictOf r f ≡ v
+    go : (a : Bool) → ltb (length out) 64 ≡ a → (b : Bool) → isSound r s ≡ b → (c : Bool) → heard r f ≡ c → (v : Verdict) → verdictOn r f ≡ v
         → Passed r s f out
     go true e b k c l v m = absurd (omega (arith, simp e at h))
     go false e false k c l v m = absurd (omega (arith, simp (e, k) at h))
@@ -91,6 +93,7 @@ passed r s f out h = go (ltb (length out) 64) refl (isSound r s) refl (heard r f
     go false e true k true l UnknownParameter m = absurd (omega (arith, simp (e, k, l, m) at h))
     go false e true k true l NotOpen m = absurd (omega (arith, simp (e, k, l, m) at h))
     go false e true k true l WrongLength m = absurd (omega (arith, simp (e, k, l, m) at h))
+    go false e true k true l ByAddressZero m = absurd (omega (arith, simp (e, k, l, m) at h))
     go false e true k true l NoAccess m = absurd (omega (arith, simp (e, k, l, m) at h))
     go false e true k true l WrongArgument m = absurd (omega (arith, simp (e, k, l, m) at h))
 
@@ -109,11 +112,11 @@ unfolding requestFrame framed requestIn
 request-again q = refl
 
 -- a request that is answered with 0 asks for something
-pub asked : (r : Record) (q : Request) → verdictOf r (requestFrame q) ≡ Done → askable (subjectOf q (slotsOf (r .minutes))) ≡ true
+pub asked : (r : Record) (q : Request) → verdictOn r (requestFrame q) ≡ Done → askable (subjectOf q (slotsOf (r .minutes))) ≡ true
 unfolding verdictOf verdictBy
 asked r q h =
     let f = requestFrame q in
-    let v : readVerdict r f ≡ Done = sym (ap (λ (fn : Function). verdictBy fn r f) (request-read q)) ∙ h in
+    let v : readVerdict r f ≡ Done = sym (ap (λ (fn : Function). verdictBy fn (met r f) r f) (request-read q)) ∙ h in
     ap (λ (x : Request). askable (subjectOf x (slotsOf (r .minutes)))) (sym (request-again q)) ∙ read-accepted r f (ap isDone v) .fits
 
 -- the reply's bytes before its CRC
@@ -220,20 +223,21 @@ refusal-of q UnknownFunction f h e = refusal-decoded q 1 (lit≤ tt) refl f h
 refusal-of q UnknownParameter f h e = refusal-decoded q 2 (lit≤ tt) refl f h
 refusal-of q NotOpen f h e = refusal-decoded q 3 (lit≤ tt) refl f h
 refusal-of q WrongLength f h e = refusal-decoded q 3 (lit≤ tt) refl f h
+refusal-of q ByAddressZero f h e = refusal-decoded q 4 (lit≤ tt) refl f h
 refusal-of q NoAccess f h e = refusal-decoded q 4 (lit≤ tt) refl f h
 refusal-of q WrongArgument f h e = refusal-decoded q 3 (lit≤ tt) refl f h
 
 -- a refused command's answer, whole
-refused-whole : (r : Record) (s f out : List ℕ) → 64 ≤ length out → isSound r s ≡ true → heard r f ≡ true → isDone (verdictOf r f) ≡ false
-    → answerOf r s f out ≡ meter.refused (verdictOf r f) r s f out
+refused-whole : (r : Record) (s f out : List ℕ) → 64 ≤ length out → isSound r s ≡ true → heard r f ≡ true → isDone (verdictOn r f) ≡ false
+    → answerOf r s f out ≡ meter.refused (verdictOn r f) r s f out
 unfolding answerOf replied
 refused-whole r s f out room sound hear d = simp (le-ltb (length out) 64 room, sound, hear, d)
 
 pub refused : (r : Record) (s : List ℕ) (q : Request) (out : List ℕ) → FitsRequest q → askable (subjectOf q mostSlots) ≡ true
-    → 64 ≤ length out → isSound r s ≡ true → heard r (requestFrame q) ≡ true → isDone (verdictOf r (requestFrame q)) ≡ false
-    → decodedOf q (replyIn (answered r s q out)) ≡ decoded.MeterRefused (resultOf (verdictOf r (requestFrame q)))
+    → 64 ≤ length out → isSound r s ≡ true → heard r (requestFrame q) ≡ true → isDone (verdictOn r (requestFrame q)) ≡ false
+    → decodedOf q (replyIn (answered r s q out)) ≡ decoded.MeterRefused (resultOf (verdictOn r (requestFrame q)))
 refused r s q out f h room sound hear d =
-    let v = verdictOf r (requestFrame q) in
+    let v = verdictOn r (requestFrame q) in
     let frame = framed (headOf v (requestFrame q)) in
     let l : length frame ≡ 6 = length-framed (headOf v (requestFrame q)) ∙ ap (λ (n : ℕ). n + 2) (length-head v (requestFrame q)) in
     ap (decodedOf q)

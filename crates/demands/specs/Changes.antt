@@ -11,7 +11,8 @@ use Rattle.meter_record.specs.With.{withAddress, withProtection, withPasswords,
 use Rattle.meter_record.specs.declared.record.Passwords.{Passwords}
 use Rattle.meter_record.specs.declared.record.Record.{Record}
 use Rattle.meter_command.specs.Parts.{parameterIn, detailIn}
-use Rattle.meter.specs.Reply.{Outcome}
+use Rattle.meter_command.specs.declared.access.Met.the-variants.{Own}
+use Rattle.meter.specs.Reply.{Outcome, met}
 
 -- passwords of which the one that the detail names may be another: 0 main, 1 auxiliary (002, section 4.14)
 abbrev pub otherNamed : ℕ → Passwords → Passwords → Passwords
@@ -33,10 +34,11 @@ Alone parameter.ReactivePower detail r x = x ≡ r
 Alone parameter.SixSlices detail r x = x ≡ r
 Alone parameter.Unknown detail r x = x ≡ r
 
--- a change or zeroing that is done: it had its access, changed the named parameter alone, the 240 seconds of the level that was open start
--- again, and the store is as given
+-- a change or zeroing that is done: it had its access and came by the meter's own address (document 02, CR 6), changed the named parameter
+-- alone, the 240 seconds of the level that was open start again, and the store is as given
 pub record Permitted (access : Bool) (f : List ℕ) (r : Record) (store : List ℕ) (o : Outcome) : Type 0 where
   pub had : access ≡ true
+  pub by-own : met r f ≡ Own
   pub before-renewal : Record
   pub alone : Alone (parameterIn f) (detailIn f) r before-renewal
   pub renewal : o .answer .after ≡ withProtection before-renewal (opened (r .protection .level))

@@ -40,10 +40,10 @@ use Rattle.logger.specs.Run.{State, step}
 use Rattle.logger.specs.declared.held.OpenAsk.{OpenAsk}
 use Rattle.logger.specs.declared.held.OpenAsk.the-variants.{Closed}
 
--- the numbers of document 01's table; document 02, CR 2: "23 goes ..; in its place .. 50 .. 54"; CR 1: 40 and 41
+-- the numbers of document 01's table; document 02, CR 2: "23 goes ..; in its place .. 50 .. 54"; CR 1: 40 and 41; CR 6: 16
 unfoldable pub inTable : ℕ → Bool
 inTable n =
-    leb n 2 || (leb 10 n && leb n 15) || (leb 20 n && leb n 22) || (leb 24 n && leb n 28) || (leb 30 n && leb n 35) || (leb 40 n && leb n 41)
+    leb n 2 || (leb 10 n && leb n 16) || (leb 20 n && leb n 22) || (leb 24 n && leb n 28) || (leb 30 n && leb n 35) || (leb 40 n && leb n 41)
     || (leb 50 n && leb n 54)
 
 -- how a call ends: its number is the table's, and a refused one, any but 0, leaves all that it was lent to write in or held as it stood
@@ -61,7 +61,7 @@ closes n = eqb n 0 || eqb n 24 || eqb n 25
 
 -- where the table gives a refusal frame
 abbrev pub givesFrame : ℕ → Bool
-givesFrame n = leb 10 n && leb n 15
+givesFrame n = leb 10 n && leb n 16
 
 -- the number of the meter's answer
 abbrev pub answerNumber : meter.Outcome → ℕ

@@ -12,10 +12,9 @@ use Rattle.request.specs.Request.{requestFrame}
 use Rattle.request.specs.declared.request.Request.{Request}
 use Rattle.meter_record.specs.Widths.{FitsRecord}
 use Rattle.meter_record.specs.declared.record.Record.{Record}
-use Rattle.meter_command.specs.Judgement.{verdictOf}
 use Rattle.meter_command.specs.Verdict.{isDone}
 use Rattle.meter_reading.specs.Reading.{dataOf}
-use Rattle.meter.specs.Reply.{headOf}
+use Rattle.meter.specs.Reply.{verdictOn, headOf}
 use Rattle.meter_inquiry.specs.Inquiry.{numberOf, inquired}
 use Rattle.demands.specs.Demand2.{FitsRequest}
 
@@ -27,7 +26,7 @@ noReply n = eqb n 1 || eqb n 2 || eqb n 27 || eqb n 28
 -- the meter's reply to a frame that it hears: "A reply repeats the command's address, function and parameter, then a result byte, then the
 -- data. If the result isn't 0, the function's top bit is set and no data follow"
 abbrev pub replyTo : Record → List ℕ → List ℕ → List ℕ
-replyTo r s f = framed (cond (isDone (verdictOf r f)) (headOf (verdictOf r f) f ++ dataOf r s f) (headOf (verdictOf r f) f))
+replyTo r s f = framed (cond (isDone (verdictOn r f)) (headOf (verdictOn r f) f ++ dataOf r s f) (headOf (verdictOn r f) f))
 
 pub record Demand1Inquire : Type 0 where
   -- a read changes nothing, whatever the answer
@@ -38,4 +37,4 @@ pub record Demand1Inquire : Type 0 where
   -- so what a refused inquiry leaves in the output is the short refusal frame, with 24 "meter's result not 0", or nothing
   pub refused-output : (r : Record) (s : List ℕ) (q : Request) (out : List ℕ) → FitsRecord r → Bytes s → FitsRequest q
       → let o = inquired r s q out in let f = requestFrame q in (numberOf (o .answer) ≡ 0 → ⊥)
-      → o .out ≡ cond (eqb (numberOf (o .answer)) 24) (written out 0 (framed (headOf (verdictOf r f) f))) out
+      → o .out ≡ cond (eqb (numberOf (o .answer)) 24) (written out 0 (framed (headOf (verdictOn r f) f))) out

@@ -26,11 +26,10 @@ use Rattle.meter_record.specs.Widths.{FitsRecord}
 use Rattle.meter_record.specs.With.{withProtection}
 use Rattle.meter_record.specs.declared.record.Record.{Record}
 use Rattle.meter_command.specs.Access.{isMain, changeAllowed, passwordFor, levelFor}
-use Rattle.meter_command.specs.Judgement.{verdictOf}
 use Rattle.meter_command.specs.Parts.{functionIn, parameterIn, detailIn}
 use Rattle.meter_command.specs.Verdict.{resultOf, isDone}
 use Rattle.meter.specs.Effect.{isSlice}
-use Rattle.meter.specs.Reply.{Outcome, isSound, heard, answerOf}
+use Rattle.meter.specs.Reply.{Outcome, isSound, heard, verdictOn, answerOf}
 use Rattle.meter_inquiry.specs.Inquiry as inquiry
 use Rattle.meter_inquiry.specs.declared.Inquired.the-variants.{Told}
 use Rattle.demands.specs.Demand1.{answerNumber}
@@ -57,8 +56,8 @@ pub record Demand2 : Type 0 where
   pub six-slices : (r : Record) (s : List ℕ) (q : Request) (out : List ℕ) → Bytes s → parameterOf (q .parameter) ≡ parameter.SixSlices
       → answerNumber (answered r s q out) ≡ 0 → rows.sixOf (rows.replyData (replyIn (answered r s q out))) ≡ sixOf s (keyOf q)
   pub refused : (r : Record) (s : List ℕ) (q : Request) (out : List ℕ) → FitsRequest q → askable (subjectOf q mostSlots) ≡ true
-      → 64 ≤ length out → isSound r s ≡ true → heard r (requestFrame q) ≡ true → isDone (verdictOf r (requestFrame q)) ≡ false
-      → decodedOf q (replyIn (answered r s q out)) ≡ decoded.MeterRefused (resultOf (verdictOf r (requestFrame q)))
+      → 64 ≤ length out → isSound r s ≡ true → heard r (requestFrame q) ≡ true → isDone (verdictOn r (requestFrame q)) ≡ false
+      → decodedOf q (replyIn (answered r s q out)) ≡ decoded.MeterRefused (resultOf (verdictOn r (requestFrame q)))
   pub inquired : (r : Record) (s : List ℕ) (q : Request) (out : List ℕ) → FitsRecord r → Bytes s → FitsRequest q
       → let o = inquiry.inquired r s q out in inquiry.numberOf (o .answer) ≡ 0 → o .answer ≡ Told (ownFigures (parameterOf (q .parameter)) r s q)
   -- the rows that the console says after `inquire`: it hands all of the output to the reader's `six_slices`

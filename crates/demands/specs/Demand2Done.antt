@@ -22,7 +22,8 @@ use Rattle.meter_record.specs.declared.record.Record.{Record}
 use Rattle.meter_command.specs.Access.{isMain, changeAllowed, passwordFor}
 use Rattle.meter_command.specs.Judgement.{argumentFits}
 use Rattle.meter_command.specs.Parts.{functionIn, parameterIn, detailIn}
-use Rattle.meter.specs.Reply.{isSound, heard, answerOf}
+use Rattle.meter_command.specs.declared.access.Met.the-variants.{Own}
+use Rattle.meter.specs.Reply.{isSound, met, heard, answerOf}
 use Rattle.meter_inquiry.specs.Inquiry.{inquired}
 use Rattle.meter_inquiry.specs.declared.Inquired.the-variants.{Told}
 use Rattle.demands.specs.Demand1.{answerNumber}
@@ -58,11 +59,12 @@ pub record Demand2Done : Type 0 where
   -- the same as one call, `inquire` (that it leaves the store, `Demand1Inquire` says)
   pub inquired-done : (r : Record) (s : List ℕ) (q : Request) (out : List ℕ) → Ready r s (requestFrame q) out → FitsRecord r → Bytes s → FitsRequest q
       → askable (subjectOf q (slotsOf (r .minutes))) ≡ true → (inquired r s q out) .answer ≡ Told (ownFigures (parameterOf (q .parameter)) r s q)
-  -- a change and a zeroing of a parameter that can be changed or zeroed, of its length, with the access it needs and a right argument
-  pub change-done : (r : Record) (s f out : List ℕ) → Ready r s f out → functionIn f ≡ function.Change → let w = rowOf (parameterIn f) in
+  -- a change and a zeroing of a parameter that can be changed or zeroed, of its length, by the meter's own address, with the access it needs and a
+  -- right argument
+  pub change-done : (r : Record) (s f out : List ℕ) → Ready r s f out → met r f ≡ Own → functionIn f ≡ function.Change → let w = rowOf (parameterIn f) in
       w .changeable ≡ true → length f ≡ bareSize + w .«change_bytes» → changeAllowed (parameterIn f) (r .protection .level) ≡ true
       → argumentFits (parameterIn f) r f ≡ true → answerNumber (answerOf r s f out) ≡ 0
-  pub zeroing-done : (r : Record) (s f out : List ℕ) → Ready r s f out → functionIn f ≡ function.Zero
+  pub zeroing-done : (r : Record) (s f out : List ℕ) → Ready r s f out → met r f ≡ Own → functionIn f ≡ function.Zero
       → (rowOf (parameterIn f)) .zeroable ≡ true → length f ≡ bareSize → isMain (r .protection .level) ≡ true → detailIn f ≡ 0
       → answerNumber (answerOf r s f out) ≡ 0
   -- the right password of a level that there is opens it

@@ -25,6 +25,7 @@ use Rattle.meter_record.specs.declared.record.Record.{Record}
 use Rattle.meter_command.specs.Access.{isMain, isOpen}
 use Rattle.meter_command.specs.Judgement.{verdictOf}
 use Rattle.meter_command.specs.Verdict.{numberOf}
+use Rattle.meter_command.specs.declared.access.Met.the-variants.{Own}
 use Rattle.calendar.specs.Sunday.{lastSunday}
 
 -- two lists of bytes are the same
@@ -64,7 +65,7 @@ meterWith ke =
 
 change-gets : ℕ → ℕ → ℕ
 unfolding meterWith
-change-gets ke k = numberOf (verdictOf (meterWith ke) (framed (1 ∷ 16 ∷ 24 ∷ 0 ∷ telemetryBytes (record { k = k; ke = ke; reserve = 0 }))))
+change-gets ke k = numberOf (verdictOf Own (meterWith ke) (framed (1 ∷ 16 ∷ 24 ∷ 0 ∷ telemetryBytes (record { k = k; ke = ke; reserve = 0 }))))
 
 -- P10: the level after so many quiet seconds
 quiet : ℕ → Protection → Protection

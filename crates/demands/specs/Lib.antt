@@ -4,6 +4,7 @@ pub mod Changes
 pub mod Demand2
 pub mod Demand1Inquire
 pub mod Demand2Done
+pub mod Demand2ByZero
 pub mod Demand2Again
 pub mod Demand3
 pub mod Faults

@@ -29,10 +29,11 @@ use Rattle.meter_command.specs.Judgement.{verdictOf, verdictBy}
 use Rattle.meter_command.proofs.KeepLaws.{protection-within, change-within, change-level, zero-within, zero-level}
 use Rattle.meter_command.specs.Parts.{functionIn, parameterIn, detailIn}
 use Rattle.meter_command.specs.Verdict.{isDone}
+use Rattle.meter_command.specs.declared.access.Met.{Met}
 use Rattle.frame.specs.declared.code.Function.the-variants as function
 use Rattle.meter.specs.Bench.{slicePut}
 use Rattle.meter.specs.Effect.{renewed, afterOf, afterBy, clears, storeAfter}
-use Rattle.meter.specs.Reply.{isSound, heard, replied, answerOf}
+use Rattle.meter.specs.Reply.{isSound, met, heard, verdictOn, replied, answerOf}
 
 -- all the seconds of a level that is open
 renewed-within : (r : Record) → Within r → isOpen (r .protection .level) ≡ true → Within (renewed r)
@@ -50,20 +51,20 @@ shut-fits : isProtection shut ≡ true
 unfolding isProtection
 shut-fits = refl
 
-after-by : (fn : Function) (r : Record) (f : List ℕ) → Within r → isDone (verdictBy fn r f) ≡ true → Within (afterBy fn r f)
+after-by : (fn : Function) (m : Met) (r : Record) (f : List ℕ) → Within r → isDone (verdictBy fn m r f) ≡ true → Within (afterBy fn r f)
 unfolding verdictBy afterBy
-after-by function.Read r f w d = w
-after-by function.Change r f w d =
-    let a = change-accepted r f d in
+after-by function.Read m r f w d = w
+after-by function.Change m r f w d =
+    let a = change-accepted m r f d in
     renewed-within (changed (parameterIn f) r f) (change-within (parameterIn f) r f w (a .fits))
     (ap (λ (p : Protection). isOpen (p .level)) (change-level (parameterIn f) r f) ∙ allowed-open ((rowOf (parameterIn f)) .access) (r .protection .level) (a .allowed))
-after-by function.Zero r f w d =
-    let a = zero-accepted r f d in
+after-by function.Zero m r f w d =
+    let a = zero-accepted m r f d in
     renewed-within (zeroed (parameterIn f) r) (zero-within (parameterIn f) r w)
     (ap (λ (p : Protection). isOpen (p .level)) (zero-level (parameterIn f) r) ∙ main-open (r .protection .level) (a .allowed))
-after-by function.Unlock r f w d = protection-within r (opened (levelFor (detailIn f))) w (level-runs (detailIn f))
-after-by function.Lock r f w d = protection-within r shut w shut-fits
-after-by function.Unknown r f w d = w
+after-by function.Unlock m r f w d = protection-within r (opened (levelFor (detailIn f))) w (level-runs (detailIn f))
+after-by function.Lock m r f w d = protection-within r shut w shut-fits
+after-by function.Unknown m r f w d = w
 
 length-after : (s f : List ℕ) → length (storeAfter s f) ≡ length s
 unfolding storeAfter
@@ -73,21 +74,21 @@ length-after s f = go (clears f) refl
     go true e = simp e (length-cleared s)
     go false e = simp e
 
-done-sound : (r : Record) (s f : List ℕ) → isSound r s ≡ true → isDone (verdictOf r f) ≡ true → isSound (afterOf r f) (storeAfter s f) ≡ true
+done-sound : (r : Record) (s f : List ℕ) → isSound r s ≡ true → isDone (verdictOn r f) ≡ true → isSound (afterOf r f) (storeAfter s f) ≡ true
 unfolding isSound afterOf verdictOf
 done-sound r s f h d =
     let a = both (eqb (length s) storeBytes) (isWithin r) h in
     ap₂ _&&_
     (ap (λ (n : ℕ). eqb n storeBytes) (length-after s f) ∙ a .0)
-    (is-within (afterOf r f) (after-by (functionIn f) r f (within r (a .1)) d))
+    (is-within (afterOf r f) (after-by (functionIn f) (met r f) r f (within r (a .1)) d))
 
 -- whatever bytes came, and whatever was answered
 pub answer-sound : (r : Record) (s f out : List ℕ) → isSound r s ≡ true
     → isSound ((answerOf r s f out) .answer .after) ((answerOf r s f out) .store) ≡ true
 unfolding answerOf replied
-answer-sound r s f out h = go (ltb (length out) 64) refl (heard r f) refl (isDone (verdictOf r f)) refl
+answer-sound r s f out h = go (ltb (length out) 64) refl (heard r f) refl (isDone (verdictOn r f)) refl
   where
-    go : (a : Bool) → ltb (length out) 64 ≡ a → (b : Bool) → heard r f ≡ b → (c : Bool) → isDone (verdictOf r f) ≡ c
+    go : (a : Bool) → ltb (length out) 64 ≡ a → (b : Bool) → heard r f ≡ b → (c : Bool) → isDone (verdictOn r f) ≡ c
         → isSound ((answerOf r s f out) .answer .after) ((answerOf r s f out) .store) ≡ true
     go true e b g c k = simp e h
     go false e false g c k = simp (e, h, g)

@@ -25,12 +25,11 @@ use Rattle.request.specs.declared.request.Request.{Request}
 use Rattle.meter_store.specs.Store.{sixOf, rowBytes}
 use Rattle.meter_record.specs.declared.record.Record.{Record}
 use Rattle.meter_command.specs.Parts.{functionIn, parameterIn, requestIn}
-use Rattle.meter_command.specs.Judgement.{verdictOf}
 use Rattle.meter_command.specs.Verdict.{isDone}
 use Rattle.meter_command.specs.declared.verdict.Verdict.{Verdict}
 use Rattle.meter_reading.specs.Reading.{powerData, sixBytes, figuresOf, isRead, dataOf, dataSize}
 use Rattle.frame.specs.declared.code.Parameter.the-variants as parameter
-use Rattle.meter.specs.Reply.{outcome, isSound, heard, headOf, filled, done, refused, replied, answerOf}
+use Rattle.meter.specs.Reply.{outcome, isSound, heard, verdictOn, headOf, filled, done, refused, replied, answerOf}
 
 -- ---- the length of the data
 
@@ -128,9 +127,9 @@ replied-refused v w r s f out x e d p =
 -- a reply has at most 54 bytes
 pub answer-short : (r : Record) (s f out : List ℕ) → (answerOf r s f out) .answer .length ≤ 54
 unfolding answerOf replied
-answer-short r s f out = go (ltb (length out) 64) refl (isSound r s) refl (heard r f) refl (isDone (verdictOf r f)) refl
+answer-short r s f out = go (ltb (length out) 64) refl (isSound r s) refl (heard r f) refl (isDone (verdictOn r f)) refl
   where
-    go : (a : Bool) → ltb (length out) 64 ≡ a → (b : Bool) → isSound r s ≡ b → (c : Bool) → heard r f ≡ c → (d : Bool) → isDone (verdictOf r f) ≡ d
+    go : (a : Bool) → ltb (length out) 64 ≡ a → (b : Bool) → isSound r s ≡ b → (c : Bool) → heard r f ≡ c → (d : Bool) → isDone (verdictOn r f) ≡ d
         → (answerOf r s f out) .answer .length ≤ 54
     go true e b k c l d m = simp e (lit≤ tt)
     go false e false k c l d m = simp (e, k) (lit≤ tt)

@@ -1,6 +1,6 @@
 -- The answer to a frame. Source: document 01, "Frames": "A reply repeats the command's address, function and parameter, then a result byte,
 -- then the data. If the result isn't 0, the function's top bit is set and no data follow: 6 bytes (house)"; "Refusal numbers".
-use mathlib.Core.Bool.{Bool, cond, _&&_, _||_}
+use mathlib.Core.Bool.{Bool, true, false, cond, _&&_}
 use mathlib.Core.List.{List, [], _∷_, _++_}
 use Prim.Native.Nat.{ℕ, _+_}
 use lib.Dec.{eqb, leb, ltb}
@@ -18,6 +18,8 @@ use Rattle.meter_command.specs.Judgement.{verdictOf}
 use Rattle.meter_reading.specs.Reading.{dataOf, dataSize}
 use Rattle.meter_command.specs.Verdict.{isDone, resultOf}
 use Rattle.meter.specs.declared.reply.Answered.{Answered}
+use Rattle.meter_command.specs.declared.access.Met.{Met}
+use Rattle.meter_command.specs.declared.access.Met.the-variants.{Own, Zero, Neither}
 use Rattle.meter_command.specs.declared.verdict.Verdict.{Verdict}
 use Rattle.meter_command.specs.declared.verdict.Verdict.the-variants.{TooShort, Unsound, Silent}
 
@@ -34,12 +36,26 @@ outcome a s out = record { answer = a; store = s; out = out }
 unfoldable pub isSound : Record → List ℕ → Bool
 isSound r s = eqb (length s) storeBytes && isWithin r
 
+-- document 02, CR 6: "The frame check must now say whether its own address or 0 was met"; no frame with a wrong length or CRC meets either
+abbrev pub metAt : ℕ → List ℕ → Met
+metAt own f =
+    cond (isSealed f) (cond (eqb (byteAt f addressPlace) 0) Zero (cond (eqb (byteAt f addressPlace) own) Own Neither)) Neither
+
+unfoldable pub met : Record → List ℕ → Met
+met r f = metAt (r .address) f
+
 -- "A command with its own address or address 0 is answered"; 2 is for "length, CRC or address wrong"
-abbrev pub heardAt : ℕ → List ℕ → Bool
-heardAt own f = isSealed f && (eqb (byteAt f addressPlace) 0 || eqb (byteAt f addressPlace) own)
+abbrev pub isHeard : Met → Bool
+isHeard Own = true
+isHeard Zero = true
+isHeard Neither = false
 
 unfoldable pub heard : Record → List ℕ → Bool
-heard r f = heardAt (r .address) f
+heard r f = isHeard (met r f)
+
+-- the verdict on a frame, by the address that it met
+abbrev pub verdictOn : Record → List ℕ → Verdict
+verdictOn r f = verdictOf (met r f) r f
 
 -- "If the result isn't 0, the function's top bit is set"
 unfoldable pub functionFor : Verdict → ℕ → ℕ
@@ -83,5 +99,5 @@ unfolding replied
 answerOf r s f out =
     cond (ltb (length out) longest) (unheard TooShort r s out)
     (cond (isSound r s)
-    (cond (heard r f) (replied (verdictOf r f) r s f out) (unheard Silent r s out))
+    (cond (heard r f) (replied (verdictOn r f) r s f out) (unheard Silent r s out))
     (unheard Unsound r s out))

@@ -2,6 +2,7 @@
 use crate::effect;
 use frame::code;
 use frame::layout;
+use meter_command::Met;
 use meter_command::Verdict;
 use meter_record::Record;
 ghost use mathlib.Core.Path.{_≡_};
@@ -10,7 +11,7 @@ ghost use lib.ListN.{length};
 ghost use Rattle.words.specs.Place.{written};
 ghost use Rattle.frame.specs.Layout.{dataPlace, longest};
 ghost use Rattle.frame.specs.Sealing.{sealed};
-ghost use Rattle.meter.specs.Reply.{outcome, isSound, heardAt, functionFor, headOf, replied, filled, answerOf};
+ghost use Rattle.meter.specs.Reply.{outcome, isSound, metAt, isHeard, functionFor, headOf, replied, filled, answerOf};
 ghost use Rattle.meter_command.specs.Judgement.{verdictOf};
 ghost use Rattle.meter_reading.specs.Reading.{dataOf};
 
@@ -31,18 +32,31 @@ pub fn is_sound(r: Record, store: &[u8]) -> bool
     meter_record::is_within(r)
 }
 
-// Whether bytes are a frame for the meter with an address of its own: that one, or 0.
-fn is_heard(own: u8, frame: &[u8]) -> bool
-    ensures { λ a. ⌜ a ≡ heardAt own (now (frame .entry)) ⌝ }
+// Which address bytes met that may be a frame for the meter with an address of its own: that one, 0, or neither.
+fn address_met(own: u8, frame: &[u8]) -> Met
+    ensures { λ a. ⌜ a ≡ metAt own (now (frame .entry)) ⌝ }
 {
     let address = words::byte_at(frame, layout::ADDRESS);
     if frame::is_sealed(frame) {
         if address == 0 {
-            return true;
+            return Met::Zero;
         }
-        return address == own;
+        if address == own {
+            return Met::Own;
+        }
+        return Met::Neither;
     }
-    false
+    Met::Neither
+}
+
+fn is_heard(met: Met) -> bool
+    ensures { λ a. ⌜ a ≡ isHeard met ⌝ }
+{
+    match met {
+        Met::Own => true,
+        Met::Zero => true,
+        Met::Neither => false,
+    }
 }
 
 // The command's function, with its top bit set where the command is refused.
@@ -83,8 +97,9 @@ pub fn answer(r: Record, store: &mut [u8], frame: &[u8], out: &mut [u8]) -> Answ
         };
     }
     if is_sound(r, store) {
-        if is_heard(r.address, frame) {
-            return replied(r, store, frame, out);
+        let met = address_met(r.address, frame);
+        if is_heard(met) {
+            return replied(met, r, store, frame, out);
         }
         return Answered {
             verdict: Verdict::Silent,
@@ -99,12 +114,12 @@ pub fn answer(r: Record, store: &mut [u8], frame: &[u8], out: &mut [u8]) -> Answ
     }
 }
 
-fn replied(r: Record, store: &mut [u8], frame: &[u8], out: &mut [u8]) -> Answered
+fn replied(met: Met, r: Record, store: &mut [u8], frame: &[u8], out: &mut [u8]) -> Answered
     requires { ⌜ longest ≤ length (now out) ⌝ }
     ensures { λ a. ⌜ outcome a (now (store .exit)) (now (out .exit))
-        ≡ replied (verdictOf r (now (frame .entry))) r (now (store .entry)) (now (frame .entry)) (now (out .entry)) ⌝ }
+        ≡ replied (verdictOf met r (now (frame .entry))) r (now (store .entry)) (now (frame .entry)) (now (out .entry)) ⌝ }
 {
-    let v = meter_command::judge(r, frame);
+    let v = meter_command::judge(met, r, frame);
     put_head(out, v, frame);
     if meter_command::is_done(v) {
         return done(v, r, store, frame, out);

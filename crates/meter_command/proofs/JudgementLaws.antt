@@ -15,26 +15,30 @@ use Rattle.meter_clock.specs.Protection.{opened, isRunning, isProtection}
 use Rattle.meter_clock.specs.declared.protection.Level.{Level}
 use Rattle.meter_clock.specs.declared.protection.Level.the-variants.{Shut, Auxiliary, Main}
 use Rattle.frame.specs.declared.table.Access.the-variants as access
-use Rattle.meter_command.specs.Access.{isMain, isOpen, allows, changeAllowed}
+use Rattle.meter_command.specs.declared.access.Met.{Met}
+use Rattle.meter_command.specs.Access.{byOwn, isMain, isOpen, allows, changeAllowed}
 use Rattle.meter_command.specs.Judgement.{passed, checked, argumentFits, readVerdict, changeVerdict, zeroVerdict}
 use Rattle.meter_command.specs.Parts.{parameterIn, requestIn}
 use Rattle.meter_command.specs.Verdict.{isDone}
 
-pub record Accepted (k o l a f : Bool) : Type 0 where
+pub record Accepted (k o l w a f : Bool) : Type 0 where
   pub knows : k ≡ true
   pub opens : o ≡ true
   pub lengthFits : l ≡ true
+  pub own : w ≡ true
   pub allowed : a ≡ true
   pub fits : f ≡ true
 
-pub accepted : (k o l a f : Bool) → isDone (checked k o l a f) ≡ true → Accepted k o l a f
+pub accepted : (k o l w a f : Bool) → isDone (checked k o l w a f) ≡ true → Accepted k o l w a f
 unfolding checked passed
-accepted false o l a f h = absurd (false≢true h)
-accepted true false l a f h = absurd (false≢true h)
-accepted true true false a f h = absurd (false≢true h)
-accepted true true true false f h = absurd (false≢true h)
-accepted true true true true false h = absurd (false≢true h)
-accepted true true true true true h = record { knows = refl; opens = refl; lengthFits = refl; allowed = refl; fits = refl }
+accepted false o l w a f h = absurd (false≢true h)
+accepted true false l w a f h = absurd (false≢true h)
+accepted true true false w a f h = absurd (false≢true h)
+accepted true true true false true f h = absurd (false≢true h)
+accepted true true true false false f h = absurd (false≢true h)
+accepted true true true true false f h = absurd (false≢true h)
+accepted true true true true true false h = absurd (false≢true h)
+accepted true true true true true true h = record { knows = refl; opens = refl; lengthFits = refl; own = refl; allowed = refl; fits = refl }
 
 -- ---- access that a command needs is a level that is open
 
@@ -56,18 +60,19 @@ open-runs Main h = refl
 -- ---- what a read, a change and a zeroing that are done have passed
 
 pub read-accepted : (r : Record) (f : List ℕ) → isDone (readVerdict r f) ≡ true
-    → Accepted (known (rowOf (parameterIn f))) ((rowOf (parameterIn f)) .readable) (eqb (length f) 8) true
+    → Accepted (known (rowOf (parameterIn f))) ((rowOf (parameterIn f)) .readable) (eqb (length f) 8) true true
     (askable (subjectOf (requestIn f) (slotsOf (r .minutes))))
 unfolding readVerdict
-read-accepted r f h = accepted _ _ _ _ _ h
+read-accepted r f h = accepted _ _ _ _ _ _ h
 
-pub change-accepted : (r : Record) (f : List ℕ) → isDone (changeVerdict r f) ≡ true
+pub change-accepted : (met : Met) (r : Record) (f : List ℕ) → isDone (changeVerdict met r f) ≡ true
     → Accepted (known (rowOf (parameterIn f))) ((rowOf (parameterIn f)) .changeable) (eqb (length f) (6 + (rowOf (parameterIn f)) .«change_bytes»))
-    (changeAllowed (parameterIn f) (r .protection .level)) (argumentFits (parameterIn f) r f)
+    (byOwn met) (changeAllowed (parameterIn f) (r .protection .level)) (argumentFits (parameterIn f) r f)
 unfolding changeVerdict
-change-accepted r f h = accepted _ _ _ _ _ h
+change-accepted met r f h = accepted _ _ _ _ _ _ h
 
-pub zero-accepted : (r : Record) (f : List ℕ) → isDone (zeroVerdict r f) ≡ true
-    → Accepted (known (rowOf (parameterIn f))) ((rowOf (parameterIn f)) .zeroable) (eqb (length f) 6) (isMain (r .protection .level)) (eqb (byteAt f 3) 0)
+pub zero-accepted : (met : Met) (r : Record) (f : List ℕ) → isDone (zeroVerdict met r f) ≡ true
+    → Accepted (known (rowOf (parameterIn f))) ((rowOf (parameterIn f)) .zeroable) (eqb (length f) 6) (byOwn met) (isMain (r .protection .level))
+    (eqb (byteAt f 3) 0)
 unfolding zeroVerdict
-zero-accepted r f h = accepted _ _ _ _ _ h
+zero-accepted met r f h = accepted _ _ _ _ _ _ h

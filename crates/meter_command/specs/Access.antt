@@ -1,4 +1,4 @@
--- Protection. Source: document 01, "Protection"; 002, sections 5.1 and 5.2, figures 21 and 22 (page 20).
+-- Protection. Source: document 01, "Protection"; 002, sections 5.1 and 5.2, figures 21 and 22 (page 20); document 02, CR 6.
 use mathlib.Core.Bool.{Bool, true, false, cond}
 use mathlib.Core.List.{List}
 use Prim.Native.Nat.{ℕ}
@@ -13,8 +13,16 @@ use Rattle.frame.specs.declared.table.Access.the-variants as access
 use Rattle.meter_clock.specs.declared.protection.Level.{Level}
 use Rattle.meter_clock.specs.declared.protection.Level.the-variants.{Shut, Auxiliary, Main}
 use Rattle.meter_record.specs.declared.record.Passwords.{Passwords}
+use Rattle.meter_command.specs.declared.access.Met.{Met}
+use Rattle.meter_command.specs.declared.access.Met.the-variants.{Own, Zero, Neither}
 use Rattle.meter_command.specs.declared.verdict.Verdict.{Verdict}
 use Rattle.meter_command.specs.declared.verdict.Verdict.the-variants.{Done, WrongLength, NoAccess, WrongArgument}
+
+-- document 02, CR 6: "Changes, a new password too, and zeroing by 0 are refused": the access that they need includes the meter's own address
+abbrev pub byOwn : Met → Bool
+byOwn Own = true
+byOwn Zero = false
+byOwn Neither = false
 
 abbrev pub isMain : Level → Bool
 isMain Shut = false

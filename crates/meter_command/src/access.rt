@@ -1,4 +1,4 @@
-// Protection: which level a command needs, and the commands that open and shut a level.
+// Protection: which address and which level a command needs, and the commands that open and shut a level.
 use crate::verdict::Verdict;
 use frame::layout;
 use frame::table::Access;
@@ -6,10 +6,28 @@ use meter_clock::Level;
 use meter_record::Password;
 use meter_record::Passwords;
 ghost use mathlib.Core.Path.{_≡_};
-ghost use Rattle.meter_command.specs.Access.{isMain, isOpen, allows, passwordFor, levelFor, unlockVerdict, lockVerdict};
+ghost use Rattle.meter_command.specs.Access.{byOwn, isMain, isOpen, allows, passwordFor, levelFor, unlockVerdict, lockVerdict};
 
 // The levels as a command names them: main 0, auxiliary 1.
 const AUXILIARY: u8 = 1;
+
+// The address by which a frame met the meter: its own, 0, or neither.
+pub enum Met {
+    Own,
+    Zero,
+    Neither,
+}
+
+// Whether a frame may change the meter: by address 0 it would change every other on the line too.
+pub fn by_own(met: Met) -> bool
+    ensures { λ r. ⌜ r ≡ byOwn met ⌝ }
+{
+    match met {
+        Met::Own => true,
+        Met::Zero => false,
+        Met::Neither => false,
+    }
+}
 
 pub fn is_main(level: Level) -> bool
     ensures { λ r. ⌜ r ≡ isMain level ⌝ }

@@ -1,5 +1,6 @@
-// What becomes of a command, by the record and the frame alone.
+// What becomes of a command, by the address that it met, the record and the frame alone.
 use crate::access;
+use crate::access::Met;
 use crate::change;
 use crate::parts;
 use crate::verdict::Verdict;
@@ -13,23 +14,33 @@ ghost use mathlib.Core.Path.{_≡_};
 ghost use mathlib.Core.Bool.{Bool};
 ghost use Rattle.meter_command.specs.Judgement.{passed, checked, argumentFits, readVerdict, changeVerdict, zeroVerdict, verdictOf};
 
-// The table's order, 11 to 15.
-fn checked(known: bool, opens: bool, length_fits: bool, allowed: bool, fits: bool) -> Verdict
-    ensures { λ r. ⌜ r ≡ checked known opens «length_fits» allowed fits ⌝ }
+// The papers' order: 11, 12, 13, and then 16, 14, 15.
+fn checked(
+    known: bool,
+    opens: bool,
+    length_fits: bool,
+    own: bool,
+    allowed: bool,
+    fits: bool,
+) -> Verdict
+    ensures { λ r. ⌜ r ≡ checked known opens «length_fits» own allowed fits ⌝ }
 {
     if known {
         if opens {
-            return passed(length_fits, allowed, fits);
+            if length_fits {
+                return passed(own, allowed, fits);
+            }
+            return Verdict::WrongLength;
         }
         return Verdict::NotOpen;
     }
     Verdict::UnknownParameter
 }
 
-fn passed(length_fits: bool, allowed: bool, fits: bool) -> Verdict
-    ensures { λ r. ⌜ r ≡ passed «length_fits» allowed fits ⌝ }
+fn passed(own: bool, allowed: bool, fits: bool) -> Verdict
+    ensures { λ r. ⌜ r ≡ passed own allowed fits ⌝ }
 {
-    if length_fits {
+    if own {
         if allowed {
             if fits {
                 return Verdict::Done;
@@ -38,7 +49,7 @@ fn passed(length_fits: bool, allowed: bool, fits: bool) -> Verdict
         }
         return Verdict::NoAccess;
     }
-    Verdict::WrongLength
+    Verdict::ByAddressZero
 }
 
 fn read_verdict(r: Record, frame: &[u8]) -> Verdict
@@ -52,12 +63,13 @@ fn read_verdict(r: Record, frame: &[u8]) -> Verdict
         row.readable,
         frame.len() == layout::READ_BYTES,
         true,
+        true,
         request::is_askable(subject),
     )
 }
 
-fn change_verdict(r: Record, frame: &[u8]) -> Verdict
-    ensures { λ a. ⌜ a ≡ changeVerdict r (now (frame .entry)) ⌝ }
+fn change_verdict(met: Met, r: Record, frame: &[u8]) -> Verdict
+    ensures { λ a. ⌜ a ≡ changeVerdict met r (now (frame .entry)) ⌝ }
 {
     let p = parts::parameter_in(frame);
     let row = table::row_of(p);
@@ -68,6 +80,7 @@ fn change_verdict(r: Record, frame: &[u8]) -> Verdict
         row.code != code::UNKNOWN,
         row.changeable,
         frame.len() == layout::BARE_BYTES + row.change_bytes,
+        access::by_own(met),
         access::allows(access, level),
         argument_fits(p, r, frame),
     )
@@ -88,8 +101,8 @@ fn argument_fits(p: Parameter, r: Record, frame: &[u8]) -> bool
     false
 }
 
-fn zero_verdict(r: Record, frame: &[u8]) -> Verdict
-    ensures { λ a. ⌜ a ≡ zeroVerdict r (now (frame .entry)) ⌝ }
+fn zero_verdict(met: Met, r: Record, frame: &[u8]) -> Verdict
+    ensures { λ a. ⌜ a ≡ zeroVerdict met r (now (frame .entry)) ⌝ }
 {
     let row = table::row_of(parts::parameter_in(frame));
     let protection = r.protection;
@@ -98,19 +111,21 @@ fn zero_verdict(r: Record, frame: &[u8]) -> Verdict
         row.code != code::UNKNOWN,
         row.zeroable,
         frame.len() == layout::BARE_BYTES,
+        access::by_own(met),
         access::is_main(level),
         words::byte_at(frame, layout::DETAIL) == 0,
     )
 }
 
-pub fn judge(r: Record, frame: &[u8]) -> Verdict
-    ensures { λ a. ⌜ a ≡ verdictOf r (now (frame .entry)) ⌝ }
+// A frame that met neither address is not heard and does not come here; what it would change is refused as by address 0.
+pub fn judge(met: Met, r: Record, frame: &[u8]) -> Verdict
+    ensures { λ a. ⌜ a ≡ verdictOf met r (now (frame .entry)) ⌝ }
 {
     let passwords = r.passwords;
     match parts::function_in(frame) {
         Function::Read => read_verdict(r, frame),
-        Function::Change => change_verdict(r, frame),
-        Function::Zero => zero_verdict(r, frame),
+        Function::Change => change_verdict(met, r, frame),
+        Function::Zero => zero_verdict(met, r, frame),
         Function::Unlock => access::unlock_verdict(passwords, frame),
         Function::Lock => access::lock_verdict(frame),
         Function::Unknown => Verdict::UnknownFunction,

@@ -1,6 +1,6 @@
 // Commands to the bench meter: the parts of their frames, and what becomes of each.
 //
-// `judge` says it by the record and the frame alone, in document 01's order of checks. What a change or a zeroing that is done leaves
+// `judge` says it by the address met, the record and the frame, in the papers' order of checks. What a change or a zeroing that is done leaves
 // of the record is said here too; the meter puts its answer together from these.
 mod access;
 mod change;
@@ -9,6 +9,7 @@ mod parts;
 mod remade;
 mod verdict;
 
+pub use access::Met;
 pub use access::level_for;
 pub use change::changed;
 pub use change::zeroed;

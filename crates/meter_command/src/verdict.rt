@@ -13,6 +13,8 @@ pub enum Verdict {
     UnknownParameter,
     NotOpen,
     WrongLength,
+    // A change or a zeroing that came by address 0.
+    ByAddressZero,
     NoAccess,
     WrongArgument,
 }
@@ -31,6 +33,7 @@ impl Verdict {
             Verdict::UnknownParameter => refusal::UNKNOWN_PARAMETER,
             Verdict::NotOpen => refusal::NOT_OPEN,
             Verdict::WrongLength => refusal::WRONG_LENGTH,
+            Verdict::ByAddressZero => refusal::BY_ADDRESS_ZERO,
             Verdict::NoAccess => refusal::NO_ACCESS,
             Verdict::WrongArgument => refusal::WRONG_ARGUMENT,
         }
@@ -49,6 +52,7 @@ pub fn is_done(v: Verdict) -> bool
         Verdict::UnknownParameter => false,
         Verdict::NotOpen => false,
         Verdict::WrongLength => false,
+        Verdict::ByAddressZero => false,
         Verdict::NoAccess => false,
         Verdict::WrongArgument => false,
     }
@@ -67,6 +71,7 @@ pub fn result_of(v: Verdict) -> u8
         Verdict::UnknownParameter => code::UNKNOWN_PARAMETER,
         Verdict::NotOpen => code::WRONG_ARGUMENT,
         Verdict::WrongLength => code::WRONG_ARGUMENT,
+        Verdict::ByAddressZero => code::NO_ACCESS,
         Verdict::NoAccess => code::NO_ACCESS,
         Verdict::WrongArgument => code::WRONG_ARGUMENT,
     }

@@ -16,9 +16,8 @@ use Rattle.request.specs.Subject.{subjectOf, mostSlots, askable}
 use Rattle.request.specs.declared.request.Request.{Request}
 use Rattle.request.specs.declared.request.RequestAnswer.{RequestAnswer}
 use Rattle.meter_record.specs.declared.record.Record.{Record}
-use Rattle.meter_command.specs.Judgement.{verdictOf}
 use Rattle.meter_command.specs.Verdict.{isDone}
-use Rattle.meter.specs.Reply.{isSound, heard, replied, answerOf}
+use Rattle.meter.specs.Reply.{isSound, heard, verdictOn, replied, answerOf}
 use Rattle.meter.proofs.ReplyLaws.{answer-short}
 use Rattle.meter.specs.declared.reply.Answered.{Answered}
 use Rattle.reader.specs.Reply.{decodedOf}
@@ -51,9 +50,9 @@ frame-whole q a x s l h e =
 
 answer-room : (r : Record) (s f out : List ℕ) → length ((answerOf r s f out) .out) ≡ length out
 unfolding answerOf replied
-answer-room r s f out = go (ltb (length out) 64) refl (isSound r s) refl (heard r f) refl (isDone (verdictOf r f)) refl
+answer-room r s f out = go (ltb (length out) 64) refl (isSound r s) refl (heard r f) refl (isDone (verdictOn r f)) refl
   where
-    go : (a : Bool) → ltb (length out) 64 ≡ a → (b : Bool) → isSound r s ≡ b → (c : Bool) → heard r f ≡ c → (d : Bool) → isDone (verdictOf r f) ≡ d
+    go : (a : Bool) → ltb (length out) 64 ≡ a → (b : Bool) → isSound r s ≡ b → (c : Bool) → heard r f ≡ c → (d : Bool) → isDone (verdictOn r f) ≡ d
         → length ((answerOf r s f out) .out) ≡ length out
     go true e b k c l d m = simp e
     go false e false k c l d m = simp (e, k)

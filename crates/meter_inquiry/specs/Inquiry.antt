@@ -36,6 +36,7 @@ isSilent verdict.UnknownFunction = false
 isSilent verdict.UnknownParameter = false
 isSilent verdict.NotOpen = false
 isSilent verdict.WrongLength = false
+isSilent verdict.ByAddressZero = false
 isSilent verdict.NoAccess = false
 isSilent verdict.WrongArgument = false
 

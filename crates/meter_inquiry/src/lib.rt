@@ -89,6 +89,7 @@ fn is_silent(v: Verdict) -> bool
         Verdict::UnknownParameter => false,
         Verdict::NotOpen => false,
         Verdict::WrongLength => false,
+        Verdict::ByAddressZero => false,
         Verdict::NoAccess => false,
         Verdict::WrongArgument => false,
     }

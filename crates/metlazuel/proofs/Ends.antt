@@ -24,12 +24,11 @@ use Rattle.meter_record.specs.declared.record.RecordAnswer.the-variants as give
 use Rattle.meter_record_bytes.specs.Record.{recordOf, recordSize}
 use Rattle.meter_record_bytes.specs.declared.record.RecordRead.{RecordRead}
 use Rattle.meter_record_bytes.specs.declared.record.RecordRead.the-variants as of-record
-use Rattle.meter_command.specs.Judgement.{verdictOf}
 use Rattle.meter_command.specs.Verdict.{numberOf, isDone}
 use Rattle.meter_command.specs.declared.verdict.Verdict.{Verdict}
 use Rattle.meter_command.specs.declared.verdict.Verdict.the-variants as verdict
 use Rattle.meter.specs.Reply as reply
-use Rattle.meter.specs.Reply.{isSound, heard, replied, answerOf}
+use Rattle.meter.specs.Reply.{isSound, heard, verdictOn, replied, answerOf}
 use Rattle.slots.specs.declared.key.Key.{Key}
 use Rattle.log.specs.Header.{soundOf}
 use Rattle.log.specs.Interval.{intervalOf}
@@ -278,6 +277,7 @@ not-done verdict.UnknownFunction n = refl
 not-done verdict.UnknownParameter n = refl
 not-done verdict.NotOpen n = refl
 not-done verdict.WrongLength n = refl
+not-done verdict.ByAddressZero n = refl
 not-done verdict.NoAccess n = refl
 not-done verdict.WrongArgument n = refl
 
@@ -332,7 +332,7 @@ module _ (r : Record) (n : ℕ) (s f out : List ℕ) where
       either Stored (ltb (length out) longest) (λ e. absurd (omega arith))
       (either Stored (isSound r s)
       (either Stored (heard r f)
-      (either Stored (isDone (verdictOf r f)) (λ e. long-sent n _) (λ e. long-sent n 0))
+      (either Stored (isDone (verdictOn r f)) (λ e. long-sent n _) (λ e. long-sent n 0))
       (λ e. absurd (omega arith)))
       (λ e. absurd (omega arith)))
 

@@ -32,7 +32,6 @@ use Rattle.meter_record_bytes.specs.declared.time.SeasonRead.the-variants as se
 use Rattle.meter_record_bytes.proofs.RecordLaws.{read-size}
 use Rattle.meter_record_bytes.specs.declared.record.RecordRead.the-variants.{Read}
 use Rattle.meter_command.specs.Access.{changeAllowed}
-use Rattle.meter_command.specs.Judgement.{verdictOf}
 use Rattle.meter_command.specs.Parts.{functionIn, parameterIn}
 use Rattle.meter_command.specs.Verdict.{isDone}
 use Rattle.meter_command.specs.declared.verdict.Verdict.the-variants.{Silent, Unsound}
@@ -40,7 +39,7 @@ use Rattle.meter_reading.specs.Reading.{isRead}
 use Rattle.meter.specs.Bench.{slicePut}
 use Rattle.meter.specs.Effect.{afterBy, afterOf}
 use Rattle.meter.specs.Reply as reply
-use Rattle.meter.specs.Reply.{isSound, heard, replied, answerOf}
+use Rattle.meter.specs.Reply.{isSound, heard, verdictOn, replied, answerOf}
 use Rattle.meter.proofs.KeepLaws as keep
 use Rattle.demands.specs.Changes.{Permitted}
 use Rattle.demands.proofs.Claims as claims
@@ -134,24 +133,24 @@ module _ (bs : List ℕ) (r : Record) (s f out : List ℕ) (e : Reads bs r) (b :
   abbrev Left : reply.Outcome → Type 0
   Left o = (isSound r s ≡ true → isSound (o .answer .after) (o .store) ≡ true) → Reads (bytesLeft (o .answer) f bs) (o .answer .after)
 
-  done-reads : isSound r s ≡ true → isDone (verdictOf r f) ≡ true → Left (reply.done (verdictOf r f) r s f out)
+  done-reads : isSound r s ≡ true → isDone (verdictOn r f) ≡ true → Left (reply.done (verdictOn r f) r s f out)
   unfolding bytesLeft
   done-reads h d k = go (isRead (functionIn f)) refl
     where
       fits : FitsRecord (afterOf r f)
       fits = after-fits r f b (e .1)
 
-      go : (q : Bool) → isRead (functionIn f) ≡ q → Reads (bytesLeft (reply.done (verdictOf r f) r s f out .answer) f bs) (afterOf r f)
+      go : (q : Bool) → isRead (functionIn f) ≡ q → Reads (bytesLeft (reply.done (verdictOn r f) r s f out .answer) f bs) (afterOf r f)
       go true q =
           let same : afterOf r f ≡ r = unfold afterOf in read-leaves (functionIn f) r f q in
           (rw (d, q, same) (e .0), fits)
       go false q = (rw (d, q) (read-again bs r (afterOf r f) (e .0) fits (sound-within _ _ (k h))), fits)
 
-  heard-reads : isSound r s ≡ true → Left (replied (verdictOf r f) r s f out)
+  heard-reads : isSound r s ≡ true → Left (replied (verdictOn r f) r s f out)
   unfolding replied bytesLeft
-  heard-reads h = go (isDone (verdictOf r f)) refl
+  heard-reads h = go (isDone (verdictOn r f)) refl
     where
-      go : (q : Bool) → isDone (verdictOf r f) ≡ q → Left (cond q (reply.done (verdictOf r f) r s f out) (reply.refused (verdictOf r f) r s f out))
+      go : (q : Bool) → isDone (verdictOn r f) ≡ q → Left (cond q (reply.done (verdictOn r f) r s f out) (reply.refused (verdictOn r f) r s f out))
       go true q = done-reads h q
       go false q = λ k. rw q e
 
@@ -159,7 +158,7 @@ module _ (bs : List ℕ) (r : Record) (s f out : List ℕ) (e : Reads bs r) (b :
   unfolding answerOf bytesLeft
   answer-left = either Left (ltb (length out) longest) (λ k. e) (go (isSound r s) refl)
     where
-      go : (q : Bool) → isSound r s ≡ q → Left (cond q (cond (heard r f) (replied (verdictOf r f) r s f out) (reply.unheard Silent r s out)) (reply.unheard Unsound r s out))
+      go : (q : Bool) → isSound r s ≡ q → Left (cond q (cond (heard r f) (replied (verdictOn r f) r s f out) (reply.unheard Silent r s out)) (reply.unheard Unsound r s out))
       go true q = either Left (heard r f) (heard-reads q) (λ k. e)
       go false q = λ k. e
 

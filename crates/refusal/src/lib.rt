@@ -16,6 +16,8 @@ pub const WRONG_LENGTH: u8 = 13;
 pub const NO_ACCESS: u8 = 14;
 
 pub const WRONG_ARGUMENT: u8 = 15;
+// A change or a zeroing by address 0, which any meter on the line would have taken.
+pub const BY_ADDRESS_ZERO: u8 = 16;
 
 pub const NO_ASK_OPEN: u8 = 20;
 

@@ -1,5 +1,5 @@
 -- The refusal numbers in words. Source: document 01, "Refusal numbers": the column "When", cut to what a message needs; document 02,
--- request 2, for 50 to 54.
+-- request 2, for 50 to 54, and request 6 for 16.
 use Prim.Native.Nat.{ℕ}
 use Prim.Native.String.{String}
 use mathlib.Core.Bool.{cond}
@@ -29,6 +29,7 @@ meterRows =
     ∷ (13, "length wrong for it")
     ∷ (14, "level too low, or wrong password")
     ∷ (15, "wrong argument")
+    ∷ (16, "change or zeroing by address 0")
     ∷ []
 
 -- the log, the reader, and what a call is lent

@@ -22,6 +22,7 @@ pub fn put_words(number: u8, out: &mut [u8]) -> usize
         refusal::WRONG_LENGTH => put(out, b"length wrong for it"),
         refusal::NO_ACCESS => put(out, b"level too low, or wrong password"),
         refusal::WRONG_ARGUMENT => put(out, b"wrong argument"),
+        refusal::BY_ADDRESS_ZERO => put(out, b"change or zeroing by address 0"),
         _ => put_log_words(number, out),
     }
 }

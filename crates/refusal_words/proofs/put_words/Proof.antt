@@ -60,6 +60,12 @@ slice-aggregate-put-9 c = search needs
 put-requires-9 : tie.Need-put-requires-9
 put-requires-9 c κs = search needs
 
+slice-aggregate-put-10 : tie.Need-slice-aggregate-put-10
+slice-aggregate-put-10 c = search needs
+
+put-requires-10 : tie.Need-put-requires-10
+put-requires-10 c κs = search needs
+
 put-log-words-requires : tie.Need-put-log-words-requires
 put-log-words-requires c κs = search needs
 
@@ -148,8 +154,17 @@ same-length-10 : tie.Need-same-length-10
 same-length-10 c = search needs
 
 returns-10 : tie.Need-returns-10
-unfolding wordsOf
+unfolding ascii wordsIn wordsOf
 returns-10 c =
+    let taken = c .before .before .before .before .before .match in
+    rw (taken .keys10) (c .before .before .put10 .ensures)
+
+same-length-11 : tie.Need-same-length-11
+same-length-11 c = search needs
+
+returns-11 : tie.Need-returns-11
+unfolding wordsOf
+returns-11 c =
     let args = c .before .before .before .before .before .before .args in
     let taken = c .before .before .before .before .match in
     rw (other (Unit {0}) meterRows (args .number) _ (taken .rest)) (c .before .before .put-log-words .ensures)
@@ -176,6 +191,8 @@ put-words-spec =
     put-requires-8
     slice-aggregate-put-9
     put-requires-9
+    slice-aggregate-put-10
+    put-requires-10
     put-log-words-requires
     same-length
     returns
@@ -196,4 +213,6 @@ put-words-spec =
     same-length-9
     returns-9
     same-length-10
-    returns-10)
+    returns-10
+    same-length-11
+    returns-11)

@@ -18,6 +18,8 @@ pub enum Refusal {
     NoAccess,
     /// 15
     WrongArgument,
+    /// 16: a change or a zeroing by address 0
+    ByAddressZero,
     /// 20: no ask open
     NoAsk,
     /// 21: ask already open
@@ -70,6 +72,7 @@ impl Refusal {
             WrongLength => 13,
             NoAccess => 14,
             WrongArgument => 15,
+            ByAddressZero => 16,
             NoAsk => 20,
             AskOpen => 21,
             NotInLog => 22,
@@ -95,13 +98,13 @@ impl Refusal {
     }
 
     /// The result byte of a refusal frame: Appendix B's code for that fault, else 3
-    /// (01, after the table; design, "Decided" 4). Silent refusals have none.
+    /// (01, after the table; design, "Decided" 4); 16 has that of 14 (02, CR 6). Silent refusals have none.
     pub fn result(self) -> Option<u8> {
         use Refusal::*;
         match self {
             UnknownFunction => Some(1),
             UnknownParameter => Some(2),
-            NoAccess => Some(4),
+            NoAccess | ByAddressZero => Some(4),
             NotOpen | WrongLength | WrongArgument => Some(3),
             _ => None,
         }

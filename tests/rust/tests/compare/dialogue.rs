@@ -44,7 +44,7 @@ fn dialogues() {
             step(&mut group, case, random, &mut twin, keys);
         }
     }
-    group.end(&[0, 1, 2, 10, 11, 12, 13, 14, 15, 27, 28]);
+    group.end(&[0, 1, 2, 10, 11, 12, 13, 14, 15, 16, 27, 28]);
 }
 
 /// More slices than there are places, so that the oldest go, and reads between them.

@@ -30,12 +30,12 @@ pub fn command(random: &mut Random, record: &Record, keys: Keys) -> Vec<u8> {
     }
 }
 
-/// The frame of a command, mostly with the record's own address or 0.
+/// The frame of a command, by address 0 as often as by the record's own, and now and then by another.
 pub fn addressed(random: &mut Random, record: &Record, command: &[u8]) -> Vec<u8> {
-    let address = match random.below(16) {
-        0..=3 => 0,
-        4 => random.byte(),
-        _ => record.address,
+    let address = match random.below(33) {
+        0..=15 => 0,
+        16..=31 => record.address,
+        _ => random.byte(),
     };
     sealed([&[address], command].concat())
 }

@@ -1,5 +1,5 @@
-//! Frames one after another rather than at random: every function with every parameter, every length,
-//! and right frames with each byte changed to each other value.
+//! Frames one after another rather than at random, by the meter's own address and by address 0: every function with every parameter,
+//! every length, and right frames with each byte changed to each other value.
 
 use crate::dialogue::{call, new_twin};
 use crate::frames::{CHANGED, PARAMETERS};
@@ -43,6 +43,11 @@ fn ask_each(group: &mut Group, level: u64, meter: &Twin, frames: impl Iterator<I
     }
 }
 
+/// The meter's own address and address 0.
+fn addresses(meter: &Twin) -> [u8; 2] {
+    [meter.record.as_ref().expect("a record").address, 0]
+}
+
 fn all_bytes() -> impl Iterator<Item = u8> + Clone {
     0..=255
 }
@@ -52,9 +57,11 @@ fn every_function_and_parameter() {
     let mut group = Group::new("every function and parameter");
     for level in 0..LEVELS {
         let meter = meter(&mut group, level);
-        let pairs = all_bytes().flat_map(|function| all_bytes().map(move |parameter| (function, parameter)));
-        let frames = pairs.map(|(function, parameter)| sealed(vec![0, function, parameter, 0, 0, 0]));
-        ask_each(&mut group, level, &meter, frames);
+        for address in addresses(&meter) {
+            let pairs = all_bytes().flat_map(|function| all_bytes().map(move |parameter| (function, parameter)));
+            let frames = pairs.map(|(function, parameter)| sealed(vec![address, function, parameter, 0, 0, 0]));
+            ask_each(&mut group, level, &meter, frames);
+        }
     }
     group.end(&[0, 10, 11, 12, 13, 15]);
 }
@@ -64,13 +71,15 @@ fn every_length() {
     let mut group = Group::new("every length");
     for level in 0..LEVELS {
         let meter = meter(&mut group, level);
-        let pairs = FUNCTIONS.iter().flat_map(|function| all_bytes().map(move |parameter| (*function, parameter)));
-        let frames = pairs.flat_map(|(function, parameter)| {
-            (0..LONGEST_MESSAGE).map(move |length| sealed(front(&[0, function, parameter], 2 + length)))
-        });
-        ask_each(&mut group, level, &meter, frames);
+        for address in addresses(&meter) {
+            let pairs = FUNCTIONS.iter().flat_map(|function| all_bytes().map(move |parameter| (*function, parameter)));
+            let frames = pairs.flat_map(|(function, parameter)| {
+                (0..LONGEST_MESSAGE).map(move |length| sealed(front(&[address, function, parameter], 2 + length)))
+            });
+            ask_each(&mut group, level, &meter, frames);
+        }
     }
-    group.end(&[0, 2, 11, 12, 13, 14, 15]);
+    group.end(&[0, 2, 11, 12, 13, 14, 15, 16]);
 }
 
 /// The first bytes, with zeros behind them where there are fewer.
@@ -90,10 +99,10 @@ fn every_byte_of_right_frames() {
             ask_each(&mut group, level, &meter, length_changes(&frame));
         }
     }
-    group.end(&[0, 2, 10, 11, 12, 13, 14, 15]);
+    group.end(&[0, 2, 10, 11, 12, 13, 14, 15, 16]);
 }
 
-/// A right frame of each kind, for the meter's own address.
+/// A right frame of each kind, by the meter's own address and by address 0.
 fn right_frames(meter: &Twin) -> Vec<Vec<u8>> {
     let record = meter.record.as_ref().expect("a record");
     let password = FACTORY_PASSWORD;
@@ -102,7 +111,8 @@ fn right_frames(meter: &Twin) -> Vec<Vec<u8>> {
     commands.extend([27, 28, 36].map(|parameter| vec![30, parameter, 0]));
     commands.extend(PARAMETERS.map(read));
     commands.extend(CHANGED.map(|parameter| change(parameter, record.telemetry.ke)));
-    commands.into_iter().map(|command| sealed([&[record.address], &command[..]].concat())).collect()
+    let by = |address: u8| commands.iter().map(move |command| sealed([&[address], &command[..]].concat()));
+    addresses(meter).into_iter().flat_map(by).collect()
 }
 
 fn read(parameter: u8) -> Vec<u8> {

@@ -1,5 +1,5 @@
--- `answer` meets its contract: room, soundness and `is_heard` are tested in `answerOf`'s order; only a frame that is heard goes to `replied`.
-use Rattle.meter.specs.Reply.{answerOf, heard}
+-- `answer` meets its contract: room, soundness and the address met are tested in `answerOf`'s order; only a frame that is heard goes to `replied`.
+use Rattle.meter.specs.Reply.{answerOf, heard, met}
 use borrow.Author.Tests.{lt-ltb, le-ltb}
 use mathlib.Core.Path.{sym, _∙_}
 use borrow.Author.Needs.{needs}
@@ -12,6 +12,9 @@ returns c = simp (lt-ltb _ _ (c .if1 .taken))
 
 is-sound-requires : tie.Need-is-sound-requires
 is-sound-requires c κs = search needs
+
+address-met-requires : tie.Need-address-met-requires
+address-met-requires c κs = search needs
 
 is-heard-requires : tie.Need-is-heard-requires
 is-heard-requires c κs = search needs
@@ -26,26 +29,25 @@ same-length-2 : tie.Need-same-length-2
 same-length-2 c = search needs
 
 returns-2 : tie.Need-returns-2
-unfolding answerOf heard
+unfolding answerOf heard met
 returns-2 c =
     let back = c .before .before .before .before .before .before .before in
-    let if1 = back .before .before .before .before .before .if1 in
-    let is-sound = back .before .before .before .is-sound in
-    let if2 = back .before .before .if2 in
-    let is-heard = back .before .is-heard in
-    let if3 = back .if3 in
+    let start = back .before .before .before in
+    let met = sym (back .before .before .address-met .ensures) in
+    let heard = sym (back .before .is-heard .ensures) ∙ back .if3 .taken in
     let replied = c .before .before .before .before .replied in
-    simp (le-ltb _ _ (if1 .left), sym (is-sound .ensures) ∙ if2 .taken, sym (is-heard .ensures) ∙ if3 .taken) (replied .ensures)
+    simp (le-ltb _ _ (start .before .before .before .if1 .left), sym (start .before .is-sound .ensures) ∙ start .if2 .taken, met, heard) (replied .ensures)
 
 same-length-3 : tie.Need-same-length-3
 same-length-3 c = search needs
 
 returns-3 : tie.Need-returns-3
-unfolding answerOf heard
+unfolding answerOf heard met
 returns-3 c =
-    let if1 = c .before .before .before .before .before .if1 in
-    let is-sound = c .before .before .before .is-sound in
-    simp (le-ltb _ _ (if1 .left), sym (is-sound .ensures) ∙ c .before .before .if2 .taken, sym (c .before .is-heard .ensures) ∙ c .if3 .left)
+    let start = c .before .before .before in
+    let met = sym (c .before .before .address-met .ensures) in
+    let heard = sym (c .before .is-heard .ensures) ∙ c .if3 .left in
+    simp (le-ltb _ _ (start .before .before .before .if1 .left), sym (start .before .is-sound .ensures) ∙ start .if2 .taken, met, heard)
 
 same-length-4 : tie.Need-same-length-4
 same-length-4 c = search needs
@@ -62,6 +64,7 @@ answer-spec =
     (tie.spec
     returns
     is-sound-requires
+    address-met-requires
     is-heard-requires
     replied-requires
     same-length

@@ -20,6 +20,9 @@ add-checked c =
     let row-of = c .before .before .before .row-of in
     fits-le (add-le-add {d = 8} (le-refl 6) (rw (row-of .ensures) (change-small (parameter-in .result)))) (fits-lit tt)
 
+by-own-requires : tie.Need-by-own-requires
+by-own-requires c κs = search needs
+
 allows-requires : tie.Need-allows-requires
 allows-requires c κs = search needs
 
@@ -31,9 +34,11 @@ checked-requires c κs = search needs
 
 returns : tie.Need-returns
 unfolding changeVerdict
-returns c = let at = c .before .before .before .before .before .before in
+returns c =
+    let own = c .before .before .before in
+    let at = own .before .before .before .before in
     c .checked .ensures
-    ∙ rw (c .before .before .allows .ensures, c .before .argument-fits .ensures, at .row-of .ensures, at .before .parameter-in .ensures)
+    ∙ rw (own .by-own .ensures, c .before .before .allows .ensures, c .before .argument-fits .ensures, at .row-of .ensures, at .before .parameter-in .ensures)
 
 pub change-verdict-spec : {M : Type 1} → statement M
 change-verdict-spec =
@@ -42,6 +47,7 @@ change-verdict-spec =
     parameter-in-requires
     row-of-requires
     add-checked
+    by-own-requires
     allows-requires
     argument-fits-requires
     checked-requires

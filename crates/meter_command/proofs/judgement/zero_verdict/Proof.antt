@@ -11,6 +11,9 @@ parameter-in-requires c κs = search needs
 row-of-requires : tie.Need-row-of-requires
 row-of-requires c κs = search needs
 
+by-own-requires : tie.Need-by-own-requires
+by-own-requires c κs = search needs
+
 is-main-requires : tie.Need-is-main-requires
 is-main-requires c κs = search needs
 
@@ -22,9 +25,11 @@ checked-requires c κs = search needs
 
 returns : tie.Need-returns
 unfolding zeroVerdict
-returns c = let at = c .before .before .before .before .before in
+returns c =
+    let own = c .before .before .before in
+    let at = own .before .before .before in
     c .checked .ensures
-    ∙ rw (at .row-of .ensures, at .before .parameter-in .ensures, c .before .before .is-main .ensures, c .before .byte-at .ensures)
+    ∙ rw (own .by-own .ensures, at .row-of .ensures, at .before .parameter-in .ensures, c .before .before .is-main .ensures, c .before .byte-at .ensures)
 
 pub zero-verdict-spec : {M : Type 1} → statement M
 zero-verdict-spec =
@@ -32,6 +37,7 @@ zero-verdict-spec =
     (tie.spec
     parameter-in-requires
     row-of-requires
+    by-own-requires
     is-main-requires
     byte-at-requires
     checked-requires

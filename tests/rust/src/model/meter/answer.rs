@@ -1,4 +1,4 @@
-//! A frame on the wire and the meter's answer to it (01, "Frames", "Refusal numbers").
+//! A frame on the wire and the meter's answer to it (01, "Frames", "Refusal numbers"; 02, CR 6).
 
 use super::protection::Level;
 use super::{season, store, Phases, Protection, Record, Telemetry, STORE_BYTES};
@@ -19,7 +19,7 @@ const OUTPUT_LENGTH: usize = 64;
 /// The top bit of the function in a refusal frame.
 const REFUSED: u8 = 0x80;
 
-/// Checks 1, 28, 2, then 10 to 15. Gives what happened and the length of the reply at the
+/// Checks 1, 28, 2, then 10 to 13, 16, 14, 15. Gives what happened and the length of the reply at the
 /// front of `out`; the output past it is unchanged.
 pub fn answer(record: &mut Record, store: &mut [u8], frame: &[u8], out: &mut [u8]) -> (Result<(), Refusal>, usize) {
     if out.len() < OUTPUT_LENGTH {
@@ -28,10 +28,10 @@ pub fn answer(record: &mut Record, store: &mut [u8], frame: &[u8], out: &mut [u8
     if !record.sound() || store.len() != STORE_BYTES {
         return (Err(Unsound), 0);
     }
-    if !heard(record.address, frame) {
+    let Some(met) = heard(record.address, frame) else {
         return (Err(NotHeard), 0);
-    }
-    match obey(record, store, frame[1], &frame[2..frame.len() - 2]) {
+    };
+    match obey(record, store, met, frame[1], &frame[2..frame.len() - 2]) {
         Ok(data) => (Ok(()), reply(frame, 0, &data, out)),
         Err(refusal) => match refusal.result() {
             Some(result) => (Err(refusal), reply(frame, result, &[], out)),
@@ -40,9 +40,23 @@ pub fn answer(record: &mut Record, store: &mut [u8], frame: &[u8], out: &mut [u8
     }
 }
 
-/// A command of the right length and CRC, with the meter's own address or address 0.
-fn heard(address: u8, frame: &[u8]) -> bool {
-    FRAME_LENGTHS.contains(&frame.len()) && checks(frame) && (frame[0] == 0 || frame[0] == address)
+/// The address by which a command met the meter.
+#[derive(Clone, Copy, Debug, PartialEq, Eq)]
+enum Met {
+    OwnAddress,
+    AddressZero,
+}
+
+/// A command of the right length and CRC, with the meter's own address or address 0: which of them.
+fn heard(address: u8, frame: &[u8]) -> Option<Met> {
+    if !FRAME_LENGTHS.contains(&frame.len()) || !checks(frame) {
+        return None;
+    }
+    match frame[0] {
+        0 => Some(Met::AddressZero),
+        own if own == address => Some(Met::OwnAddress),
+        _ => None,
+    }
 }
 
 /// The command's address and function (its top bit set where refused), the parameter, the result,
@@ -73,11 +87,11 @@ fn parameter(message: &[u8]) -> u8 {
 }
 
 /// The message is what stands between function and CRC. Gives the reply's data.
-fn obey(record: &mut Record, store: &mut [u8], function: u8, message: &[u8]) -> Result<Vec<u8>, Refusal> {
+fn obey(record: &mut Record, store: &mut [u8], met: Met, function: u8, message: &[u8]) -> Result<Vec<u8>, Refusal> {
     match function {
         READ => read(record, store, message),
-        CHANGE => change(record, message).map(|()| vec![]),
-        ZERO => zero(record, store, message).map(|()| vec![]),
+        CHANGE => change(record, met, message).map(|()| vec![]),
+        ZERO => zero(record, store, met, message).map(|()| vec![]),
         UNLOCK => unlock(record, message).map(|()| vec![]),
         LOCK => lock(record, message).map(|()| vec![]),
         _ => Err(UnknownFunction),
@@ -178,10 +192,11 @@ fn telemetry_bytes(telemetry: Telemetry) -> Vec<u8> {
 
 // Function 16: parameter, detail, data (002, figure 5; design, "Decided" 2).
 
-fn change(record: &mut Record, message: &[u8]) -> Result<(), Refusal> {
+fn change(record: &mut Record, met: Met, message: &[u8]) -> Result<(), Refusal> {
     let parameter = parameter(message);
     check_parameter(CHANGE, parameter)?;
     require(message.len() == 2 + data_length(parameter), WrongLength)?;
+    require(met == Met::OwnAddress, ByAddressZero)?;
     require(record.protection.level >= level_to_change(parameter), NoAccess)?;
     let (detail, data) = (message[1], &message[2..]);
     match parameter {
@@ -265,10 +280,11 @@ fn change_password(record: &mut Record, detail: u8, data: &[u8]) -> Result<(), R
 
 // Function 30: parameter, 0 (002, figures 7 and 19).
 
-fn zero(record: &mut Record, store: &mut [u8], message: &[u8]) -> Result<(), Refusal> {
+fn zero(record: &mut Record, store: &mut [u8], met: Met, message: &[u8]) -> Result<(), Refusal> {
     let parameter = parameter(message);
     check_parameter(ZERO, parameter)?;
     require(message.len() == 2, WrongLength)?;
+    require(met == Met::OwnAddress, ByAddressZero)?;
     require(record.protection.level == Level::Main, NoAccess)?;
     require(message[1] == 0, WrongArgument)?;
     match parameter {
@@ -357,6 +373,93 @@ mod tests {
         assert_eq!(say(&mut record, &[1, 30, 27, 0]), 0, "239 quiet seconds keep the level");
         (0..240).for_each(|_| record.second());
         assert_eq!(say(&mut record, &[1, 30, 27, 0]), 14, "the 240th ends it");
+    }
+
+    /// The number and the reply that the bytes, sealed, get from the meter.
+    fn said(record: &mut Record, store: &mut [u8], bytes: &[u8]) -> (u8, Vec<u8>) {
+        let mut out = [0; 64];
+        let (outcome, length) = answer(record, store, &sealed(bytes.to_vec()), &mut out);
+        (outcome.map_or_else(Refusal::number, |()| 0), out[..length].to_vec())
+    }
+
+    #[test]
+    fn zeroing_by_address_0() {
+        assert_eq!(sealed(vec![0, 0x1E, 0x24, 0])[4..], [0x7B, 0x22]);
+        let (mut record, mut store) = (meter(400, 100), empty_store());
+        open_main(&mut record);
+        record.put_slice(&mut store, 5, 17, 0, [12, 0, 3, 0]).expect("a legal key");
+        let before = (record.clone(), store.clone());
+        let answer = said(&mut record, &mut store, &[0, 0x1E, 0x24, 0]);
+        assert_eq!(answer, (16, vec![0x00, 0x9E, 0x24, 0x04, 0x7B, 0x09]));
+        assert!((record, store) == before, "nothing is changed");
+    }
+
+    #[test]
+    fn a_change_by_address_0_is_16_after_13_and_before_14() {
+        let mut record = meter(400, 100);
+        let numbers = |record: &mut Record| {
+            let unknown = say(record, &[0, 16, 23, 0, 1]);
+            let closed = say(record, &[0, 16, 36, 0, 1]);
+            let short = say(record, &[0, 16, 21, 0]);
+            let right = say(record, &[0, 16, 21, 0, 9]);
+            let wrong = say(record, &[0, 16, 21, 1, 0]);
+            let password = say(record, &[&[0, 16, 37, 0][..], &[1; 8]].concat());
+            [unknown, closed, short, right, wrong, password]
+        };
+        assert_eq!(numbers(&mut record), [11, 12, 13, 16, 16, 16], "shut");
+        open_main(&mut record);
+        let before = record.clone();
+        assert_eq!(numbers(&mut record), [11, 12, 13, 16, 16, 16], "open");
+        assert_eq!(record, before);
+        assert_eq!(say(&mut record, &[1, 16, 21, 0, 9]), 0, "by its own address it is done");
+    }
+
+    #[test]
+    fn reads_and_protection_commands_by_address_0_go_on() {
+        let mut record = meter(400, 100);
+        assert_eq!(say(&mut record, &[&[0, 31, 0, 0][..], &FACTORY_PASSWORD].concat()), 0);
+        assert_eq!(record.protection.level, Level::Main);
+        assert_eq!(say(&mut record, &[0, 3, 21, 0, 0, 0]), 0);
+        assert_eq!(say(&mut record, &[0, 32, 0, 0]), 0);
+        assert_eq!(record.protection, Protection::SHUT);
+        assert_eq!(say(&mut record, &[&[0, 31, 0, 0][..], &[1; 8]].concat()), 14);
+    }
+
+    /// Every function and parameter, with messages of every length up to that of a password: where its own address gets 0, 14 or 15
+    /// for a change or a zeroing, address 0 gets 16 and nothing changes; all else is the same, but for the address in the reply.
+    #[test]
+    fn nothing_else_depends_on_the_address() {
+        let mut open = meter(400, 100);
+        open_main(&mut open);
+        for record in [meter(400, 100), open] {
+            for (function, parameter) in (0..=255).flat_map(|f| (0..=255).map(move |p| (f, p))) {
+                (0..=10).for_each(|length| by_both_addresses(&record, function, parameter, length));
+            }
+        }
+    }
+
+    fn by_both_addresses(record: &Record, function: u8, parameter: u8, length: usize) {
+        let mut message = vec![parameter];
+        message.resize(10, 0);
+        let command = [&[function][..], &message[..length]].concat();
+        let (mut ours, mut zeros) = (record.clone(), record.clone());
+        let mut store = [0; 0];
+        let (own, own_reply) = obeyed(&mut ours, &mut store, Met::OwnAddress, &command);
+        let (zero, zero_reply) = obeyed(&mut zeros, &mut store, Met::AddressZero, &command);
+        if [CHANGE, ZERO].contains(&function) && [0, 14, 15].contains(&own) {
+            assert_eq!((zero, zero_reply), (16, vec![]), "{command:?}");
+            assert_eq!(zeros, *record, "{command:?}");
+        } else {
+            assert_eq!((zero, zero_reply, zeros), (own, own_reply, ours), "{command:?}");
+        }
+    }
+
+    /// The number and the data that a command gets, met by an address.
+    fn obeyed(record: &mut Record, store: &mut [u8], met: Met, command: &[u8]) -> (u8, Vec<u8>) {
+        match obey(record, store, met, command[0], &command[1..]) {
+            Ok(data) => (0, data),
+            Err(refusal) => (refusal.number(), vec![]),
+        }
     }
 
     #[test]
