@@ -29,6 +29,7 @@ struct meter {
     float active[3], reactive[3];
     uint8_t minutes;
     uint16_t next;
+    uint32_t ki, ku;
 };
 
 struct place {

@@ -150,7 +150,7 @@ static void compare_meter(void)
         for (unsigned month = 0; month < 14; month++)
             for (unsigned day = 0; day < 33; day++)
                 for (unsigned d = 0; d < sizeof details; d++) {
-                    uint8_t g[8] = {(uint8_t)((day + d) % 3), 3, parameters[p], (uint8_t)month, (uint8_t)day, details[d]};
+                    uint8_t g[8] = {(uint8_t)((day + d) % 3), (uint8_t)(3 + month % 2), parameters[p], (uint8_t)month, (uint8_t)day, details[d]};
                     seal_frame(g, 8);
                     same_answer(g, 8, 63 + (day + month) % 3);
                 }
@@ -205,9 +205,12 @@ static void compare_bench(void)
     expect(metlazuel_meter_powers(r, sizeof r, 9, bits[2], bits[0], bits[1]) == 0 && c_load(&m, r) && m.reactive[1] == figures[0]);
     expect(metlazuel_meter_second(r, sizeof r) == 0 && metlazuel_meter_second(r, sizeof r) == 0 && c_load(&m, r));
     expect(memcmp(&m.clock, &later, sizeof later) == 0);
+    expect(metlazuel_meter_ratios(r, sizeof r, 80, 60) == 0 && c_load(&m, r) && m.ki == 80 && m.ku == 60 && meter_right(&m));
     memcpy(before, r, sizeof r);
     expect(metlazuel_meter_powers(r, sizeof r, 8, no_number, 0, 0) == 27 && metlazuel_meter_powers(r, sizeof r, 9, 0, infinity, 0) == 27);
     expect(metlazuel_meter_powers(r, sizeof r, 7, 0, 0, 0) == 27 && metlazuel_meter_powers(r, sizeof r, 8, 0, 0, bits[2] + 1) == 27);
+    expect(metlazuel_meter_ratios(r, sizeof r, 0, 1) == 27 && metlazuel_meter_ratios(r, sizeof r, 1001, 1000) == 27);
+    expect(metlazuel_meter_ratios(r, sizeof r - 1, 1, 1) == 28 && memcmp(r, before, sizeof r) == 0);
     expect(metlazuel_meter_slice(r, sizeof r, store, sizeof store, 5, 1, 48, 1, 2, 3, 4) == 27);
     expect(metlazuel_meter_slice(r, sizeof r, store, sizeof store - 1, 5, 1, 47, 1, 2, 3, 4) == 28);
     expect(metlazuel_meter_second(r, sizeof r - 1) == 28 && memcmp(r, before, sizeof r) == 0);
@@ -380,6 +383,7 @@ static void ours_report(void) { sink += metlazuel_day_report(file, IMAGE, 30, ro
 static void plain_report(void) { sink += c_day_report(file, IMAGE, 30, row, 7); }
 
 static uint8_t clock_frame[8] = {1, 3, 32, 0, 0, 0}, last_frame[8] = {1, 3, 36, 5, 31, 95}, absent_frame[8] = {1, 3, 36, 6, 31, 95};
+static uint8_t displayed_frame[8] = {1, 4, 36, 0, 0, 0};
 static uint8_t reply[64];
 
 static void ours_answer(const uint8_t *f)
@@ -392,6 +396,8 @@ static void ours_clock(void) { ours_answer(clock_frame); }
 static void plain_clock(void) { plain_answer(clock_frame); }
 static void ours_last(void) { ours_answer(last_frame); }
 static void plain_last(void) { plain_answer(last_frame); }
+static void ours_displayed(void) { ours_answer(displayed_frame); }
+static void plain_displayed(void) { plain_answer(displayed_frame); }
 static void ours_absent(void) { ours_answer(absent_frame); }
 static void plain_absent(void) { plain_answer(absent_frame); }
 
@@ -438,6 +444,7 @@ static const struct row rows[] = {
     ROW("reply to an ask taken into the log", ours_take, plain_take, 5000),
     ROW("meter: the clock read", ours_clock, plain_clock, 5000),
     ROW("meter: a slice in the last of 2,976 places", ours_last, plain_last, 200),
+    ROW("meter: a slice as displayed, in the first place", ours_displayed, plain_displayed, 5000),
     ROW("meter: a slice absent from a full store", ours_absent, plain_absent, 200),
 };
 
@@ -533,6 +540,8 @@ int main(int words, char **word)
     seal_frame(clock_frame, 8);
     seal_frame(last_frame, 8);
     seal_frame(absent_frame, 8);
+    memcpy(displayed_frame + 3, store, 3);
+    seal_frame(displayed_frame, 8);
     if (words == 2 && strcmp(word[1], "count") == 0) {
         count();
         return 0;

@@ -12,8 +12,8 @@
 #include <stddef.h>
 #include <stdint.h>
 
-// What is declared here, as major * 10000 + minor * 100 + patch: 2.0.0. What is there today stays as it is while the major number does.
-#define METLAZUEL_VERSION 20000
+// What is declared here, as major * 10000 + minor * 100 + patch: 3.0.0. What is there today stays as it is while the major number does.
+#define METLAZUEL_VERSION 30000
 
 #ifdef __cplusplus
 extern "C" {
@@ -36,7 +36,7 @@ enum metlazuel_answer {
     METLAZUEL_NOT_IN_LOG = 22,        // an interval or a day that the log does not have
     METLAZUEL_METER_REFUSED = 24,     // a well-formed reply whose result is not 0
     METLAZUEL_OTHER_COUNTS = 25,      // a reply with other counts than those measured
-    METLAZUEL_NOT_FINITE = 26,        // a power reply with an infinity or no number
+    METLAZUEL_NOT_FINITE = 26,        // a reply of floats with an infinity or no number
     METLAZUEL_OUT_OF_RANGE = 27,      // a bench setting, a new log's header, or a request
     METLAZUEL_UNSOUND = 28,           // lent bytes that are no log, no cell of one, no ask or no meter's record
     METLAZUEL_FILE_MARK = 30,         // a file that is no log's, or of fewer than 5 bytes
@@ -57,7 +57,7 @@ enum metlazuel_answer {
 // Lengths. The first three are exact; an output may be longer than what goes into it.
 enum {
     METLAZUEL_ASK_BYTES = 4,       // the open ask
-    METLAZUEL_RECORD_BYTES = 81,   // a bench meter's record
+    METLAZUEL_RECORD_BYTES = 89,   // a bench meter's record
     METLAZUEL_STORE_BYTES = 32736, // its store of slices
     METLAZUEL_REQUEST_BYTES = 8,   // a read request
     METLAZUEL_FRAME_BYTES = 64,    // the longest frame; a reply's output has at least so many
@@ -90,7 +90,8 @@ enum metlazuel_parameter {
 
 // The functions of a frame, its second byte. Every request of this library reads; a bench meter answers the others too.
 enum metlazuel_function {
-    METLAZUEL_FUNCTION_READ = 3,
+    METLAZUEL_FUNCTION_READ = 3,      // figures as the meter keeps them
+    METLAZUEL_FUNCTION_READ4 = 4,     // figures as its display shows them
     METLAZUEL_FUNCTION_CHANGE = 16,
     METLAZUEL_FUNCTION_ZERO = 30,
     METLAZUEL_FUNCTION_UNLOCK = 31,   // opens the level whose password it has
@@ -191,6 +192,11 @@ uint8_t metlazuel_read_file(const uint8_t *file, size_t n, uint8_t *out, size_t 
 uint8_t metlazuel_request(uint8_t address, uint8_t parameter, uint8_t offset, uint8_t tariff, uint8_t detail, uint8_t *out,
                           size_t room);
 
+// The same with function 4, which newer meters answer with figures as their display shows them. It reads METLAZUEL_PARAMETER_SLICE alone:
+// any other parameter is OUT_OF_RANGE.
+uint8_t metlazuel_request4(uint8_t address, uint8_t parameter, uint8_t offset, uint8_t tariff, uint8_t detail, uint8_t *out,
+                           size_t room);
+
 // Decodes the reply to a read request. Its figures go to the front of a row of 32-bit numbers, and how many they are to *count:
 //   address               1
 //   telemetry             3   K, Ke, reserve
@@ -205,6 +211,11 @@ uint8_t metlazuel_request(uint8_t address, uint8_t parameter, uint8_t offset, ui
 // meter's result is stored through result, which every other answer leaves), NOT_FINITE, else DONE. A refusal leaves figures and *count.
 uint8_t metlazuel_decode(uint8_t address, uint8_t parameter, uint8_t offset, uint8_t tariff, uint8_t detail, const uint8_t *reply,
                          size_t bytes, uint32_t *figures, size_t room, size_t *count, uint8_t *result, size_t *length);
+
+// The same of a reply to a request with function 4. Its figures:
+//   slice                 4   E+, E-, R+, R- in kilowatt-hours, each as the bits of its 32-bit float
+uint8_t metlazuel_decode4(uint8_t address, uint8_t parameter, uint8_t offset, uint8_t tariff, uint8_t detail, const uint8_t *reply,
+                          size_t bytes, uint32_t *figures, size_t room, size_t *count, uint8_t *result, size_t *length);
 
 // ---- the bench meter
 //
@@ -231,6 +242,10 @@ uint8_t metlazuel_meter_slice(uint8_t *meter, size_t n, uint8_t *store, size_t s
 // Sets the powers that METLAZUEL_PARAMETER_ACTIVE_POWER or METLAZUEL_PARAMETER_REACTIVE_POWER reads, those of A, B and C, each as the bits
 // of a 32-bit float. UNSOUND, OUT_OF_RANGE, else DONE.
 uint8_t metlazuel_meter_powers(uint8_t *meter, size_t n, uint8_t parameter, uint32_t a, uint32_t b, uint32_t c);
+
+// Sets the ratios of the current and voltage transformers before the meter, at first 1 each: from 1 on, their product at most 1,000,000. What
+// function 4 reads has both in it. UNSOUND, OUT_OF_RANGE, else DONE.
+uint8_t metlazuel_meter_ratios(uint8_t *meter, size_t n, uint32_t ki, uint32_t ku);
 
 // ---- the Mercury 206
 //

@@ -55,6 +55,7 @@ static void make_meter(void)
            metlazuel_meter_powers(record, sizeof record, METLAZUEL_PARAMETER_ACTIVE_POWER, bits_of(230.5f), bits_of(-1.25f),
                                   bits_of(0.0f)),
            METLAZUEL_DONE);
+    expect("meter_ratios", metlazuel_meter_ratios(record, sizeof record, 80, 60), METLAZUEL_DONE);
 }
 
 // Asks for the first three slots of the day; the reply to the third is lost.
@@ -146,6 +147,21 @@ static void show_powers(void)
            power_of(f[3]));
 }
 
+// The first slice as the meter's display shows it, in kilowatt-hours and with the transformers' ratios.
+static void show_displayed(void)
+{
+    uint8_t frame[METLAZUEL_REQUEST_BYTES], reply[METLAZUEL_FRAME_BYTES], result;
+    uint32_t f[METLAZUEL_FIGURES];
+    size_t count = 0, received;
+    expect("request4", metlazuel_request4(METER, METLAZUEL_PARAMETER_SLICE, 5, 17, 0, frame, sizeof frame), METLAZUEL_DONE);
+    size_t length = exchange(frame, reply);
+    expect("decode4",
+           metlazuel_decode4(METER, METLAZUEL_PARAMETER_SLICE, 5, 17, 0, reply, length, f, METLAZUEL_FIGURES, &count, &result, &received),
+           METLAZUEL_DONE);
+    printf("displayed, %u figures: E+ %g, E- %g, R+ %g, R- %g\n", (unsigned)count, power_of(f[0]), power_of(f[1]), power_of(f[2]),
+           power_of(f[3]));
+}
+
 // A Mercury 206 beside it: a command sent to the bench and its reply decoded; another meter's request gets no answer.
 static size_t read_mercury(uint8_t command, uint32_t *figures)
 {
@@ -194,6 +210,7 @@ int main(void)
     save(n);
     show_clock();
     show_powers();
+    show_displayed();
     show_mercury();
     return 0;
 }

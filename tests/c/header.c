@@ -176,6 +176,31 @@ static void read_one(size_t i)
                              && count == reads[i].figures && row[reads[i].place] == reads[i].figure);
 }
 
+// The same slice as it is displayed, with ratios of 1,000 and 1,000: counts times Ke 100 and the ratios are 100 kWh a count.
+static void displayed(void)
+{
+    uint8_t frame[METLAZUEL_REQUEST_BYTES], reply[METLAZUEL_FRAME_BYTES], result;
+    uint32_t row[4] = {0};
+    size_t length, count = 0, received = 0;
+    check("ratios too large", metlazuel_meter_ratios(record, sizeof record, 1001, 1000) == METLAZUEL_OUT_OF_RANGE);
+    check("ratios", metlazuel_meter_ratios(record, sizeof record, 1000, 1000) == METLAZUEL_DONE);
+    check("another parameter displayed",
+          metlazuel_request4(METER, METLAZUEL_PARAMETER_CLOCK, 0, 0, 0, frame, sizeof frame) == METLAZUEL_OUT_OF_RANGE);
+    check("a slice displayed", metlazuel_request4(METER, METLAZUEL_PARAMETER_SLICE, 5, 17, 3, frame, sizeof frame) == METLAZUEL_DONE
+                                   && frame[1] == METLAZUEL_FUNCTION_READ4);
+    check("a slice displayed", exchange(frame, sizeof frame - 2, reply, &length) == METLAZUEL_DONE);
+    check("a row for fewer", metlazuel_decode4(METER, METLAZUEL_PARAMETER_SLICE, 5, 17, 3, reply, length, row, 3, &count, &result, &received)
+                                 == METLAZUEL_TOO_SHORT);
+    // 0x0504 counts: 128,400 kWh
+    check("a slice displayed", metlazuel_decode4(METER, METLAZUEL_PARAMETER_SLICE, 5, 17, 3, reply, length, row, 4, &count, &result, &received)
+                                       == METLAZUEL_DONE
+                                   && count == 4 && row[3] == 0x47FAC800);
+    check("a reply to the other function",
+          metlazuel_decode(METER, METLAZUEL_PARAMETER_SLICE, 5, 17, 3, reply, length, row, 4, &count, &result, &received)
+                  == METLAZUEL_REPLY_LENGTH
+              && received == length);
+}
+
 static void parameters(void)
 {
     check("active powers set",
@@ -184,6 +209,7 @@ static void parameters(void)
           metlazuel_meter_powers(record, sizeof record, METLAZUEL_PARAMETER_REACTIVE_POWER, 0x40000000, 0, 0) == METLAZUEL_DONE);
     for (size_t i = 0; i < sizeof reads / sizeof reads[0]; i++)
         read_one(i);
+    displayed();
 }
 
 // A command other than a read: what is answered, and the function of the reply.
@@ -215,7 +241,8 @@ static void meter_answers(void)
     uint8_t frame[METLAZUEL_FRAME_BYTES] = {METER + 1, METLAZUEL_FUNCTION_READ, METLAZUEL_PARAMETER_CLOCK}, reply[METLAZUEL_FRAME_BYTES];
     size_t length;
     check("another meter's frame", exchange(frame, METLAZUEL_REQUEST_BYTES - 2, reply, &length) == METLAZUEL_SILENT);
-    command("function 4", 4, METLAZUEL_PARAMETER_CLOCK, zeros, 2, METLAZUEL_UNKNOWN_FUNCTION);
+    command("function 5", 5, METLAZUEL_PARAMETER_CLOCK, zeros, 2, METLAZUEL_UNKNOWN_FUNCTION);
+    command("the clock by function 4", METLAZUEL_FUNCTION_READ4, METLAZUEL_PARAMETER_CLOCK, zeros, 2, METLAZUEL_NOT_OPEN);
     command("parameter 1", METLAZUEL_FUNCTION_READ, 1, zeros, 2, METLAZUEL_UNKNOWN_PARAMETER);
     command("a password read", METLAZUEL_FUNCTION_READ, METLAZUEL_PARAMETER_PASSWORD, zeros, 2, METLAZUEL_NOT_OPEN);
     command("a byte too few", METLAZUEL_FUNCTION_READ, METLAZUEL_PARAMETER_CLOCK, zeros, 1, METLAZUEL_WRONG_LENGTH);

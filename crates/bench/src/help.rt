@@ -44,6 +44,7 @@ fn reader_lines() {
     put(
         b"    decode ADDRESS PARAMETER OFFSET TARIFF DETAIL BYTES: 0 and the figures; 24 RESULT; 50 LENGTH\n",
     );
+    put(b"    request4, decode4: the same with function 4, as the display shows it\n");
 }
 
 fn meter_lines() {
@@ -51,6 +52,7 @@ fn meter_lines() {
     put(b"    meter ADDRESS MINUTES K KE RESERVE YEAR MONTH DAY HOUR MINUTE SECOND SEASON: 0\n");
     put(b"    power PARAMETER A B C: 0\n");
     put(b"    slice MONTH DAY NUMBER E+ E- R+ R-: 0\n");
+    put(b"    ratio KI KU: 0\n");
     put(b"    second N: 0\n");
 }
 
@@ -58,9 +60,12 @@ fn meter_reads() {
     put(
         b"    frame BYTES: the number and the reply, of a refusal too; silence: the number alone\n",
     );
-    put(b"    record: 0 ADDRESS LEVEL SECONDS YEAR MONTH DAY HOUR MINUTE SECOND SEASON NEXT\n");
+    put(
+        b"    record: 0 ADDRESS LEVEL SECONDS YEAR MONTH DAY HOUR MINUTE SECOND SEASON NEXT KI KU\n",
+    );
     put(b"    shown: 0 and six bytes\n");
     put(b"    inquire ADDRESS PARAMETER OFFSET TARIFF DETAIL: as decode; 2 for silence\n");
+    put(b"    inquire4: the same with function 4\n");
 }
 
 fn mercury_lines() {

@@ -6,6 +6,7 @@ mod verb;
 
 use console_io::Rest;
 use console_log::Kept;
+use frame::code::Reading;
 use logger::OpenAsk;
 use mercury_bench::Meter;
 use meter_record::Record;
@@ -83,8 +84,10 @@ fn read(verb: usize, line: &[u8], image: &[u8], held: OpenAsk) {
         verb::OPEN => console_log::open_ask(line, held),
         verb::CELL => console_log::cell(line, image),
         verb::REPORT => console_log::report(line, image),
-        verb::REQUEST => console_log::request(line),
-        verb::DECODE => console_log::decode(line),
+        verb::REQUEST => console_log::request(Reading::Stored, line),
+        verb::DECODE => console_log::decode(Reading::Stored, line),
+        verb::REQUEST_DISPLAYED => console_log::request(Reading::Displayed, line),
+        verb::DECODE_DISPLAYED => console_log::decode(Reading::Displayed, line),
         verb::HELP => help::asked(line),
         _ => {}
     }

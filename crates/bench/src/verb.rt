@@ -21,13 +21,17 @@ pub const REQUEST: usize = 9;
 
 pub const DECODE: usize = 10;
 
-pub const HELP: usize = 11;
+pub const REQUEST_DISPLAYED: usize = 11;
+
+pub const DECODE_DISPLAYED: usize = 12;
+
+pub const HELP: usize = 13;
 
 // A line that is passed over.
-pub const NOTHING: usize = 12;
+pub const NOTHING: usize = 14;
 
 // One about the Mercury 206. What has none of the names is left to the meter.
-pub const MERCURY: usize = 13;
+pub const MERCURY: usize = 15;
 
 pub fn verb_of(line: &[u8]) -> usize {
     if console::is_passed_over(line) {
@@ -38,6 +42,6 @@ pub fn verb_of(line: &[u8]) -> usize {
     }
     console::place_of(
         console::word(line, 0),
-        b"log load ask lapse reply save open cell report request decode help",
+        b"log load ask lapse reply save open cell report request decode request4 decode4 help",
     )
 }

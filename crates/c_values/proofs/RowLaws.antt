@@ -7,10 +7,16 @@ use native.Mathlib.Omega.{arith}
 use lib.Dec.{eqb}
 use lib.ListN.{length}
 use Rattle.words.specs.Place.{byteAt}
+use Rattle.figures.specs.Displayed.{energiesOf}
 use Rattle.figures.specs.Power.{powerOf, powersOf}
+use Rattle.figures.specs.declared.displayed.EnergiesAnswer.{EnergiesAnswer}
+use Rattle.figures.specs.declared.displayed.EnergiesAnswer.the-variants as energies
 use Rattle.figures.specs.declared.power.Power.{Power}
 use Rattle.figures.specs.declared.power.PowersAnswer.{PowersAnswer}
+use Rattle.frame.specs.Code.{readingCode}
 use Rattle.frame.specs.Table.{figureCount}
+use Rattle.frame.specs.declared.code.Reading.{Reading}
+use Rattle.frame.specs.declared.code.Reading.the-variants.{Stored, Displayed}
 use Rattle.frame.specs.declared.code.Parameter.{Parameter}
 use Rattle.request.specs.Subject.{subjectOf, mostSlots, askable, dataBytes}
 use Rattle.request.specs.declared.request.Request.{Request}
@@ -18,7 +24,7 @@ use Rattle.request.specs.declared.subject.Subject.{Subject}
 use Rattle.reader.specs.Form.{formOf}
 use Rattle.reader.proofs.FormLaws.{fault-above}
 use Rattle.reader.specs.Rows.{replyData}
-use Rattle.reader.specs.Reply.{powersFigure, powerFigure, phaseFigures, readFigures, figuresOf, repliedOf, decodedOf, numberOf}
+use Rattle.reader.specs.Reply.{powersFigure, powerFigure, energiesFigure, phaseFigures, readFigures, readAs, figuresOf, repliedOf, decodedOf, numberOf}
 use Rattle.reader.specs.declared.form.Form.{Form}
 use Rattle.reader.specs.declared.form.Form.the-variants.{WellFormed, Faulty}
 use Rattle.reader.specs.declared.reply.Decoded.{Decoded}
@@ -27,7 +33,7 @@ use Rattle.figures.specs.declared.power.PowersAnswer.the-variants as powers
 use Rattle.frame.specs.declared.code.Parameter.the-variants as parameter
 use Rattle.request.specs.declared.subject.Subject.the-variants as subject
 use Rattle.reader.specs.declared.reply.Decoded.the-variants as decoded
-use Rattle.c_values.specs.Row.{figuresFor, figureRow, timeRow, powersRow, sliceRow, sixRow, countsRow}
+use Rattle.c_values.specs.Row.{figuresFor, figureRow, timeRow, powersRow, sliceRow, sixRow, countsRow, energiesRow}
 
 -- done, and then with the figures that are foretold
 abbrev pub Foretold : Subject → List ℕ → Decoded → Type 0
@@ -54,7 +60,7 @@ phase-foretold detail y bs = go (eqb detail 0)
     go true e = powers-foretold y (powersOf bs) e
     go false e = power-foretold y (powerOf bs 0) e
 
-data-foretold : (p : Parameter) (detail : ℕ) (y bs : List ℕ) → Foretold (subject.Figures p detail) y (readFigures p detail bs)
+data-foretold : (p : Parameter) (detail : ℕ) (y bs : List ℕ) → Foretold (subject.Figures Stored p detail) y (readFigures p detail bs)
 unfolding figureCount readFigures figureRow timeRow sliceRow sixRow countsRow
 data-foretold parameter.ActivePower detail y bs e = phase-foretold detail y bs e
 data-foretold parameter.ReactivePower detail y bs e = phase-foretold detail y bs e
@@ -69,8 +75,18 @@ data-foretold parameter.SixSlices detail y bs e = refl
 data-foretold parameter.Password detail y bs e = absurd (omega arith)
 data-foretold parameter.Unknown detail y bs e = absurd (omega arith)
 
+energies-foretold : (y : List ℕ) (e : EnergiesAnswer) → numberOf (energiesFigure e) ≡ 0 → length (figureRow (energiesFigure e) y) ≡ 4
+unfolding figureRow energiesRow
+energies-foretold y (energies.Finite e) h = refl
+energies-foretold y energies.NotFinite h = absurd (omega arith)
+
+as-foretold : (x : Reading) (p : Parameter) (detail : ℕ) (y bs : List ℕ) → Foretold (subject.Figures x p detail) y (readAs x p detail bs)
+unfolding readAs figureCount
+as-foretold Stored p detail y bs e = data-foretold p detail y bs e
+as-foretold Displayed p detail y bs e = energies-foretold y (energiesOf bs) e
+
 subject-foretold : (s : Subject) (y bs : List ℕ) → Foretold s y (figuresOf s bs)
-subject-foretold (subject.Figures p detail) y bs e = data-foretold p detail y bs e
+subject-foretold (subject.Figures x p detail) y bs e = as-foretold x p detail y bs e
 subject-foretold subject.Nothing y bs e = absurd (omega arith)
 
 replied-foretold : (s : Subject) (y : List ℕ) → Foretold s y (repliedOf s y)
@@ -85,7 +101,7 @@ module _ (q : Request) (y : List ℕ) where
   abbrev asked : Subject
   asked = subjectOf q mostSlots
 
-  formed-foretold : (f : Form) → askable asked ≡ true → formOf (q .address) 3 (q .parameter) (6 + dataBytes asked) y ≡ f → Foretold asked y (decodedOf q y)
+  formed-foretold : (f : Form) → askable asked ≡ true → formOf (q .address) (readingCode (q .reading)) (q .parameter) (6 + dataBytes asked) y ≡ f → Foretold asked y (decodedOf q y)
   unfolding decodedOf
   formed-foretold WellFormed a e = rw (a, e) (replied-foretold asked y)
   formed-foretold (Faulty fault) a e = rw (a, e) (λ n. absurd (omega (arith, fault-above fault)))
@@ -96,5 +112,5 @@ module _ (q : Request) (y : List ℕ) where
   decoded-foretold = go (askable asked) refl
     where
       go : (b : Bool) → askable asked ≡ b → Foretold asked y (decodedOf q y)
-      go true a = formed-foretold (formOf (q .address) 3 (q .parameter) (6 + dataBytes asked) y) a refl
+      go true a = formed-foretold (formOf (q .address) (readingCode (q .reading)) (q .parameter) (6 + dataBytes asked) y) a refl
       go false a = rw a (λ n. absurd (omega arith))

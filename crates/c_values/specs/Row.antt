@@ -5,6 +5,7 @@ use Prim.Native.Nat.{ℕ}
 use lib.ListN.{getD}
 use Rattle.calendar.specs.declared.time.DateTime.{DateTime}
 use Rattle.figures.specs.Power.{bitsOf}
+use Rattle.figures.specs.declared.displayed.Energies.{Energies}
 use Rattle.figures.specs.declared.mask.DisplayMask.{DisplayMask}
 use Rattle.figures.specs.declared.power.Powers.{Powers}
 use Rattle.figures.specs.declared.telemetry.Telemetry.{Telemetry}
@@ -18,7 +19,7 @@ use Rattle.reader.specs.declared.reply.Slice.{Slice}
 
 -- how many figures a reply has that is done; a request that asks for nothing has none
 abbrev pub figuresFor : Subject → ℕ
-figuresFor (Figures p detail) = figureCount p detail
+figuresFor (Figures reading p detail) = figureCount reading p detail
 figuresFor Nothing = 0
 
 -- "pulses K (4 bytes), Ke (2), reserve (2, kept as written)"
@@ -40,6 +41,10 @@ powersRow p = bitsOf (p .total) ∷ bitsOf (p .phases .a) ∷ bitsOf (p .phases 
 -- "E+, E-, R+, R-"
 unfoldable pub sliceRow : Slice → List ℕ
 sliceRow s = s .«e_plus» .0 ∷ s .«e_minus» .0 ∷ s .«r_plus» .0 ∷ s .«r_minus» .0 ∷ []
+
+-- "four 32-bit floats in kilowatt-hours" (document 02, request 3): each as the bits of its float
+unfoldable pub energiesRow : Energies → List ℕ
+energiesRow e = e .«e_plus» .0 ∷ e .«e_minus» .0 ∷ e .«r_plus» .0 ∷ e .«r_minus» .0 ∷ []
 
 unfoldable pub countsRow : List ℕ → List ℕ
 countsRow counts = getD counts 0 0 ∷ getD counts 1 0 ∷ getD counts 2 0 ∷ getD counts 3 0 ∷ []
@@ -66,3 +71,4 @@ figureRow (decoded.Powers p) y = powersRow p
 figureRow (decoded.OnePower p) y = bitsOf p ∷ []
 figureRow (decoded.Slice s) y = sliceRow s
 figureRow decoded.SixSlices y = sixRow (sixOf (replyData y))
+figureRow (decoded.Displayed e) y = energiesRow e

@@ -2,6 +2,7 @@
 //
 // `figures_for` says how long the row has to be before there is a reply; `put_figures` fills it. A reply that was refused has no figures.
 use calendar::DateTime;
+use figures::Energies;
 use figures::Powers;
 use frame::table;
 use reader::Decoded;
@@ -9,14 +10,14 @@ use reader::Slice;
 use request::Subject;
 ghost use mathlib.Core.Path.{_≡_};
 ghost use Rattle.words.specs.Place.{written};
-ghost use Rattle.c_values.specs.Row.{figuresFor, timeRow, powersRow, sliceRow, sixRow, countsRow, figureRow};
+ghost use Rattle.c_values.specs.Row.{figuresFor, timeRow, powersRow, sliceRow, sixRow, countsRow, energiesRow, figureRow};
 
 // How many figures a reply has that is done.
 pub fn figures_for(subject: Subject) -> usize
     ensures { λ r. ⌜ r ≡ figuresFor subject ⌝ }
 {
     match subject {
-        Subject::Figures(p, detail) => table::figure_count(p, detail),
+        Subject::Figures(reading, p, detail) => table::figure_count(reading, p, detail),
         Subject::Nothing => 0,
     }
 }
@@ -44,6 +45,7 @@ pub fn put_figures(row: &mut [u32], d: Decoded, reply: &[u8])
         Decoded::OnePower(p) => put_run(row, 0, &[figures::bits_of(p)]),
         Decoded::Slice(s) => put_slice(row, s),
         Decoded::SixSlices => put_six(row, reader::six_slices(reply)),
+        Decoded::Displayed(e) => put_energies(row, e),
     }
 }
 
@@ -88,6 +90,17 @@ fn put_slice(row: &mut [u32], s: Slice)
     let e_minus = s.e_minus;
     let r_plus = s.r_plus;
     let r_minus = s.r_minus;
+    put_run(row, 0, &[e_plus.0, e_minus.0, r_plus.0, r_minus.0]);
+}
+
+// Each as the bits of its float.
+fn put_energies(row: &mut [u32], e: Energies)
+    ensures { λ _. ⌜ now (row .exit) ≡ written (now (row .entry)) 0 (energiesRow e) ⌝ }
+{
+    let e_plus = e.e_plus;
+    let e_minus = e.e_minus;
+    let r_plus = e.r_plus;
+    let r_minus = e.r_minus;
     put_run(row, 0, &[e_plus.0, e_minus.0, r_plus.0, r_minus.0]);
 }
 

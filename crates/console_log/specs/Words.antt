@@ -5,6 +5,7 @@ use mathlib.Core.List.{List}
 use lib.Dec.{eqb}
 use Rattle.refusal.specs.Outcome.{Outcome, outcome}
 use Rattle.console.specs.declared.value.BytesAnswer.{BytesAnswer}
+use Rattle.frame.specs.declared.code.Reading.{Reading}
 use Rattle.request.specs.declared.request.Request.{Request}
 use Rattle.console.specs.Line.{spacesIn, wordAt}
 use Rattle.console.specs.Value.{bytesRead}
@@ -18,8 +19,9 @@ replyRead line before out =
     (cond (eqb before (spacesIn line + 1)) (outcome (Bytes 0) out) (outcome Unread out))
 
 -- ADDRESS PARAMETER OFFSET TARIFF DETAIL
-abbrev pub requestIn : List ℕ → Request
-requestIn line = record {
+abbrev pub requestIn : Reading → List ℕ → Request
+requestIn reading line = record {
+  reading = reading;
   address = byteIn line 1;
   parameter = byteIn line 2;
   offset = byteIn line 3;

@@ -3,6 +3,8 @@ use console::BYTE;
 use console::BytesAnswer;
 use console::byte;
 use console_io::say;
+use figures::Energies;
+use frame::code::Reading;
 use reader::Decoded;
 use reader::Fault;
 use request::Request;
@@ -28,10 +30,11 @@ pub fn reply_bytes(line: &[u8], before: usize, bytes: &mut [u8]) -> BytesAnswer
 }
 
 // ADDRESS PARAMETER OFFSET TARIFF DETAIL
-pub fn request_in(line: &[u8]) -> Request
-    ensures { λ r. ⌜ r ≡ requestIn (now (line .entry)) ⌝ }
+pub fn request_in(reading: Reading, line: &[u8]) -> Request
+    ensures { λ r. ⌜ r ≡ requestIn reading (now (line .entry)) ⌝ }
 {
     Request {
+        reading: reading,
         address: byte(line, 1),
         parameter: byte(line, 2),
         offset: byte(line, 3),
@@ -40,9 +43,9 @@ pub fn request_in(line: &[u8]) -> Request
     }
 }
 
-pub fn request(line: &[u8]) {
+pub fn request(reading: Reading, line: &[u8]) {
     if console::is_form(line, &[BYTE, BYTE, BYTE, BYTE, BYTE]) {
-        request_of(request_in(line));
+        request_of(request_in(reading, line));
     } else {
         say::unread();
     }
@@ -62,17 +65,17 @@ fn request_of(q: Request) {
 }
 
 // A request's five numbers, and BYTES, or none.
-pub fn decode(line: &[u8]) {
+pub fn decode(reading: Reading, line: &[u8]) {
     let mut bytes = [0u8; 2048];
     match reply_bytes(line, 6, &mut bytes) {
-        BytesAnswer::Bytes(n) => decode_from(line, console::part(&bytes, n)),
+        BytesAnswer::Bytes(n) => decode_from(reading, line, console::part(&bytes, n)),
         BytesAnswer::Unread => say::unread(),
     }
 }
 
-fn decode_from(line: &[u8], reply: &[u8]) {
+fn decode_from(reading: Reading, line: &[u8], reply: &[u8]) {
     if console::are_numbers(line, &[BYTE, BYTE, BYTE, BYTE, BYTE]) {
-        decode_of(request_in(line), reply);
+        decode_of(request_in(reading, line), reply);
     } else {
         say::unread();
     }
@@ -123,7 +126,19 @@ pub fn say_figures(decoded: Decoded, reply: &[u8]) {
             say::number(c.r_minus.0 as u64);
         }
         Decoded::SixSlices => say_rows(reader::six_slices(reply)),
+        Decoded::Displayed(e) => say_energies(e),
     }
+}
+
+fn say_energies(e: Energies) {
+    let e_plus = e.e_plus;
+    let e_minus = e.e_minus;
+    let r_plus = e.r_plus;
+    let r_minus = e.r_minus;
+    say::float_bits(e_plus.0);
+    say::float_bits(e_minus.0);
+    say::float_bits(r_plus.0);
+    say::float_bits(r_minus.0);
 }
 
 // The length received, which a 50 comes with.

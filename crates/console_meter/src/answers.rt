@@ -4,6 +4,7 @@ use meter_clock::Level;
 use meter_clock::Protection;
 use meter_clock::Season;
 use meter_clock::Time;
+use meter_record::Ratios;
 use meter_record::Record;
 
 const FIRST_YEAR: u16 = 2000;
@@ -27,7 +28,13 @@ pub fn record(line: &[u8], r: Record) {
     protection(r.protection);
     time(r.time);
     say::short(r.next);
+    ratios(r.ratios);
     say::end();
+}
+
+fn ratios(k: Ratios) {
+    say::number(k.ki as u64);
+    say::number(k.ku as u64);
 }
 
 fn protection(p: Protection) {

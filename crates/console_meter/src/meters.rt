@@ -4,6 +4,7 @@ use console::BYTE;
 use console::BytesAnswer;
 use console_io::say;
 use console_setup::LineAnswer;
+use frame::code::Reading;
 use frame::layout::LONGEST;
 use meter_inquiry::Inquired;
 use meter_record::Record;
@@ -17,8 +18,13 @@ const SHOWN: usize = 2;
 
 const INQUIRE: usize = 3;
 
+const INQUIRE_DISPLAYED: usize = 4;
+
 pub fn called(line: &[u8], store: &mut [u8], r: Record) -> Record {
-    let verb = console::place_of(console::word(line, 0), b"frame record shown inquire");
+    let verb = console::place_of(
+        console::word(line, 0),
+        b"frame record shown inquire inquire4",
+    );
     match verb {
         FRAME => frame(line, store, r),
         RECORD => {
@@ -30,7 +36,11 @@ pub fn called(line: &[u8], store: &mut [u8], r: Record) -> Record {
             r
         }
         INQUIRE => {
-            inquire(line, store, r);
+            inquire(Reading::Stored, line, store, r);
+            r
+        }
+        INQUIRE_DISPLAYED => {
+            inquire(Reading::Displayed, line, store, r);
             r
         }
         _ => set(line, store, r),
@@ -74,9 +84,9 @@ fn frame_of(bytes: &[u8], store: &mut [u8], r: Record) -> Record {
 }
 
 // A read request sent to the console's own meter.
-fn inquire(line: &[u8], store: &mut [u8], r: Record) {
+fn inquire(reading: Reading, line: &[u8], store: &mut [u8], r: Record) {
     if console::is_form(line, &[BYTE, BYTE, BYTE, BYTE, BYTE]) {
-        inquired(console_log::request_in(line), store, r);
+        inquired(console_log::request_in(reading, line), store, r);
     } else {
         say::unread();
     }

@@ -13,7 +13,8 @@ use Rattle.figures.specs.declared.telemetry.Telemetry.{Telemetry}
 use Rattle.figures.specs.declared.power.Power.{Power}
 use Rattle.meter_clock.specs.declared.season.Season.{Season}
 use Rattle.meter_clock.specs.declared.season.Season.the-variants.{Winter, Summer}
-use Rattle.meter_record.specs.Record.{made, setPowers, secondOf}
+use Rattle.meter_record.specs.Record.{made, setPowers, setRatios, secondOf}
+use Rattle.meter_record.specs.declared.record.Ratios.{Ratios}
 use Rattle.meter_record.specs.declared.record.Record.{Record}
 use Rattle.meter_record.specs.declared.record.RecordAnswer.{RecordAnswer}
 use Rattle.meter_record.specs.declared.record.RecordAnswer.the-variants.{Done, OutOfRange, Unsound}
@@ -165,10 +166,18 @@ secondLine r line = cond (isForm line (100000000 ∷ [])) (Answered (Done (later
 unfoldable pub secondsBetween : ℕ → ℕ → ℕ
 secondsBetween last now = cond (ltb (now - last) 2592000) (now - last) 2592000
 
--- ---- the four by their names
+-- ---- ratio KI KU
+
+abbrev pub ratiosIn : List ℕ → Ratios
+ratiosIn line = record { ki = longIn line 1; ku = longIn line 2 }
+
+unfoldable pub ratioLine : Record → List ℕ → LineAnswer
+ratioLine r line = cond (isForm line (long ∷ long ∷ [])) (Answered (setRatios r (ratiosIn line))) Unread
+
+-- ---- the five by their names
 
 abbrev pub setNames : List ℕ
-setNames = ascii "meter power slice second"
+setNames = ascii "meter power slice second ratio"
 
 -- by the first word's place among the names
 unfoldable pub setBy : ℕ → Record → List ℕ → List ℕ → Outcome LineAnswer (List ℕ)
@@ -176,7 +185,8 @@ setBy place r line s =
     cond (eqb place 0) (meterLine line s)
     (cond (eqb place 1) (outcome (powerLine r line) s)
     (cond (eqb place 2) (sliceLine r line s)
-    (cond (eqb place 3) (outcome (secondLine r line) s) (outcome Unread s))))
+    (cond (eqb place 3) (outcome (secondLine r line) s)
+    (cond (eqb place 4) (outcome (ratioLine r line) s) (outcome Unread s)))))
 
 unfoldable pub setLine : Record → List ℕ → List ℕ → Outcome LineAnswer (List ℕ)
 unfolding setBy

@@ -1,9 +1,10 @@
-// The console's lines that set the bench meter: `meter`, `power`, `slice` and `second`. Each gives the answer and with it the record
+// The console's lines that set the bench meter: `meter`, `power`, `slice`, `second` and `ratio`. Each gives the answer and with it the record
 // that stands after the line; a line that is refused or not read changes nothing.
 mod answer;
 mod lines;
 mod making;
 mod power;
+mod ratio;
 mod seconds;
 mod slice;
 

@@ -47,7 +47,7 @@ use Rattle.demands.specs.Demand1.{answerNumber}
 use Rattle.demands.specs.Demand2.{answered, replyIn}
 use Rattle.demands.specs.Demand2Done.{BytesRequest}
 use Rattle.demands.specs.Demand2Again.{readOf, sliceRead, readBack, Next}
-use Rattle.demands.specs.Figures.{ownPower, fourCounts, ownFigures}
+use Rattle.demands.specs.Figures.{ownPower, fourCounts, ownFigures, ownAs}
 use Rattle.demands.proofs.Changes.{after-done, store-done, verdict-done}
 use Rattle.demands.proofs.Done.{read-done}
 use Rattle.demands.proofs.Fits.{cleared-bytes, change-fits, zeroing-fits}
@@ -68,7 +68,7 @@ own-done r s q out k room sound e h =
 
 pub own : (r : Record) (s : List ℕ) (q : Request) (out : List ℕ) → FitsRecord r → Bytes s → BytesRequest q → 64 ≤ length out
     → isSound r s ≡ true → q .address ≡ r .address → askable (subjectOf q (slotsOf (r .minutes))) ≡ true
-    → readBack r s q out ≡ ownFigures (parameterOf (q .parameter)) r s q
+    → readBack r s q out ≡ ownAs (q .reading) (parameterOf (q .parameter)) r s q
 own r s q out f b k room sound e h = replies.read r s q out f b (k .repeated) (own-done r s q out k room sound e h)
 
 -- ---- what the reads ask for
@@ -101,7 +101,7 @@ bounds k slots most h =
       number = omega (arith, ltb-true (k .number) slots (a .1), most);
     }
 
-slice-bytes : (r : Record) (n : ℕ) (k : Key) (slots : ℕ) → FitsRecord r → n < 256 → slots ≤ 96 → isLegal k slots ≡ true → BytesRequest (sliceRead r n k)
+pub slice-bytes : (r : Record) (n : ℕ) (k : Key) (slots : ℕ) → FitsRecord r → n < 256 → slots ≤ 96 → isLegal k slots ≡ true → BytesRequest (sliceRead r n k)
 slice-bytes r n k slots f small most h =
     let b = bounds k slots most h in
     record { repeated = record { address = f .address; parameter = small }; offset = b .month; tariff = b .day; detail = b .number }
@@ -155,7 +155,7 @@ bytes-zeroed r s f out room e n =
 
 zeroed-own : (r : Record) (s f out room : List ℕ) → functionIn f ≡ function.Zero → let o = answerOf r s f out in Next r s o room → (q : Request)
     → BytesRequest q → q .address ≡ (o .answer .after) .address → askable (subjectOf q (slotsOf ((o .answer .after) .minutes))) ≡ true
-    → readBack (o .answer .after) (o .store) q room ≡ ownFigures (parameterOf (q .parameter)) (o .answer .after) (o .store) q
+    → readBack (o .answer .after) (o .store) q room ≡ ownAs (q .reading) (parameterOf (q .parameter)) (o .answer .after) (o .store) q
 zeroed-own r s f out room e n q k a h =
     own _ _ q room (fits-zeroed r s f out room e n) (bytes-zeroed r s f out room e n) k (n .room) (after-sound r s f out room n) a h
 
@@ -311,12 +311,12 @@ unfolding slicePut
 put-done r s k row sound h = simp (sound, h)
 
 -- the record that a bench call hands over, or another
-abbrev handed : RecordAnswer → Record → Record
+abbrev pub handed : RecordAnswer → Record → Record
 handed (Done r) z = r
 handed OutOfRange z = z
 handed Unsound z = z
 
-abbrev isHanded : RecordAnswer → Bool
+abbrev pub isHanded : RecordAnswer → Bool
 isHanded (Done r) = true
 isHanded OutOfRange = false
 isHanded Unsound = false

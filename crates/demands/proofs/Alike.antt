@@ -17,11 +17,13 @@ use Rattle.crc16.specs.Crc.{crcOf}
 use Rattle.frame.specs.Code.{functionOf}
 use Rattle.frame.specs.Sealing.{framed, isSealed}
 use Rattle.frame.proofs.SealingLaws.{length-framed, crcFits-framed}
-use Rattle.frame.specs.Table.{rowOf, parameterOf, known}
+use Rattle.frame.specs.Table.{rowOf, opensTo, parameterOf, known}
 use Rattle.frame.specs.declared.code.Function.{Function}
 use Rattle.frame.specs.declared.code.Function.the-variants as function
 use Rattle.frame.specs.declared.code.Parameter.{Parameter}
 use Rattle.frame.specs.declared.code.Parameter.the-variants as parameter
+use Rattle.frame.specs.declared.code.Reading.{Reading}
+use Rattle.frame.specs.declared.code.Reading.the-variants.{Stored, Displayed}
 use Rattle.frame.specs.declared.table.Fields.{Fields}
 use Rattle.frame.specs.declared.table.Fields.the-variants.{Unused, Phase, Slot, SixSlots}
 use Rattle.slots.specs.Day.{slotsOf}
@@ -38,13 +40,13 @@ use Rattle.meter_record.specs.declared.record.Record.{Record}
 use Rattle.meter_command.specs.Access.{passwordFor, levelFor, unlockVerdict, lockVerdict}
 use Rattle.meter_command.specs.Judgement.{passed, checked, readVerdict, verdictBy, verdictOf}
 use Rattle.meter_command.proofs.JudgementLaws.{read-accepted}
-use Rattle.meter_command.specs.Parts.{functionIn, named, parameterByte, parameterIn, requestIn}
+use Rattle.meter_command.specs.Parts.{functionIn, named, parameterByte, parameterIn, readingOf, requestIn}
 use Rattle.meter_command.specs.Verdict.{resultOf, isDone}
 use Rattle.meter_command.specs.declared.access.Met.{Met}
 use Rattle.meter_command.specs.declared.access.Met.the-variants.{Own, Zero, Neither}
 use Rattle.meter_command.specs.declared.verdict.Verdict.{Verdict}
 use Rattle.meter_command.specs.declared.verdict.Verdict.the-variants.{Done, WrongLength, NoAccess, WrongArgument}
-use Rattle.meter_reading.specs.Reading.{figuresOf, isRead, dataOf}
+use Rattle.meter_reading.specs.Reading.{figuresOf, figuresAs, isRead, dataOf}
 use Rattle.meter.specs.Effect.{afterBy, afterOf, clearsBy, clears, storeAfter}
 use Rattle.meter.specs.Reply as reply
 use Rattle.meter.specs.Reply.{isSound, met, isHeard, heard, functionFor, headOf, replied, answerOf}
@@ -82,33 +84,37 @@ same-parameter a b fn (p ∷ m) = ap (λ (n : ℕ). cond (leb n 4) 0 (cond (name
 
 -- ---- a read asks for the same, whatever its address
 
-abbrev asking : ℕ → ℕ → ℕ → ℕ → ℕ → Request
-asking a p o t d = record { address = a; parameter = p; offset = o; tariff = t; detail = d }
+-- the reading of a function
+abbrev reads : ℕ → Reading
+reads fn = readingOf (functionOf fn)
 
-abbrev asks : ℕ → List ℕ → Request
-asks a m = asking a (byteAt m 0) (byteAt m 1) (byteAt m 2) (byteAt m 3)
+abbrev asking : Reading → ℕ → ℕ → ℕ → ℕ → ℕ → Request
+asking x a p o t d = record { reading = x; address = a; parameter = p; offset = o; tariff = t; detail = d }
 
-request-by : (a fn : ℕ) (m : List ℕ) → length m ≡ 4 → requestIn (frameBy a fn m) ≡ asks a m
+abbrev asks : Reading → ℕ → List ℕ → Request
+asks x a m = asking x a (byteAt m 0) (byteAt m 1) (byteAt m 2) (byteAt m 3)
+
+request-by : (a fn : ℕ) (m : List ℕ) → length m ≡ 4 → requestIn (frameBy a fn m) ≡ asks (reads fn) a m
 unfolding requestIn framed
 request-by a fn m h =
     let f = frameBy a fn m in
-    ap₂ (λ (p o : ℕ). asking a p o (byteAt f 4) (byteAt f 5)) (byte-by a fn m 0 (omega (arith, h))) (byte-by a fn m 1 (omega (arith, h)))
-    ∙ ap₂ (λ (t d : ℕ). asking a (byteAt m 0) (byteAt m 1) t d) (byte-by a fn m 2 (omega (arith, h))) (byte-by a fn m 3 (omega (arith, h)))
+    ap₂ (λ (p o : ℕ). asking (reads fn) a p o (byteAt f 4) (byteAt f 5)) (byte-by a fn m 0 (omega (arith, h))) (byte-by a fn m 1 (omega (arith, h)))
+    ∙ ap₂ (λ (t d : ℕ). asking (reads fn) a (byteAt m 0) (byteAt m 1) t d) (byte-by a fn m 2 (omega (arith, h))) (byte-by a fn m 3 (omega (arith, h)))
 
-fields-free : (k : Fields) (a b : ℕ) (m : List ℕ) (slots : ℕ) → fieldsFit k (asks a m) slots ≡ fieldsFit k (asks b m) slots
+fields-free : (k : Fields) (x : Reading) (a b : ℕ) (m : List ℕ) (slots : ℕ) → fieldsFit k (asks x a m) slots ≡ fieldsFit k (asks x b m) slots
 unfolding unused isPhase
-fields-free Unused a b m slots = refl
-fields-free Phase a b m slots = refl
-fields-free Slot a b m slots = refl
-fields-free SixSlots a b m slots = refl
+fields-free Unused x a b m slots = refl
+fields-free Phase x a b m slots = refl
+fields-free Slot x a b m slots = refl
+fields-free SixSlots x a b m slots = refl
 
-ask-free : (a b : ℕ) (m : List ℕ) (slots : ℕ) → askable (subjectOf (asks a m) slots) ≡ askable (subjectOf (asks b m) slots)
+ask-free : (x : Reading) (a b : ℕ) (m : List ℕ) (slots : ℕ) → askable (subjectOf (asks x a m) slots) ≡ askable (subjectOf (asks x b m) slots)
 unfolding subjectOf subjectFor
-ask-free a b m slots =
+ask-free x a b m slots =
     let p = parameterOf (byteAt m 0) in
-    ap (λ (x : Bool). askable (cond ((rowOf p) .readable && x) (Figures p (byteAt m 3)) Nothing)) (fields-free ((rowOf p) .fields) a b m slots)
+    ap (λ (fit : Bool). askable (cond (opensTo x (rowOf p) && fit) (Figures x p (byteAt m 3)) Nothing)) (fields-free ((rowOf p) .fields) x a b m slots)
 
-figures-free : (p : Parameter) (r : Record) (s : List ℕ) (a b : ℕ) (m : List ℕ) → figuresOf p r s (asks a m) ≡ figuresOf p r s (asks b m)
+figures-free : (p : Parameter) (r : Record) (s : List ℕ) (a b : ℕ) (m : List ℕ) → figuresOf p r s (asks Stored a m) ≡ figuresOf p r s (asks Stored b m)
 figures-free parameter.ActivePower r s a b m = refl
 figures-free parameter.ReactivePower r s a b m = refl
 figures-free parameter.Address r s a b m = refl
@@ -121,6 +127,10 @@ figures-free parameter.Slice r s a b m = refl
 figures-free parameter.SixSlices r s a b m = refl
 figures-free parameter.Password r s a b m = refl
 figures-free parameter.Unknown r s a b m = refl
+
+figures-as : (x : Reading) (p : Parameter) (r : Record) (s : List ℕ) (a b : ℕ) (m : List ℕ) → figuresAs x p r s (asks x a m) ≡ figuresAs x p r s (asks x b m)
+figures-as Stored p r s a b m = figures-free p r s a b m
+figures-as Displayed p r s a b m = refl
 
 -- ---- the verdicts
 
@@ -137,16 +147,16 @@ where-long true x y z h = h refl
 where-long false x y z h = refl
 
 read-same : (r : Record) (a b fn : ℕ) (m : List ℕ) → readVerdict r (frameBy a fn m) ≡ readVerdict r (frameBy b fn m)
-unfolding readVerdict
+unfolding readVerdict requestIn framed
 read-same r a b fn m =
     let slots = slotsOf (r .minutes) in
     let f = frameBy a fn m in
     let g = frameBy b fn m in
     let asked : Request → Bool = λ q. askable (subjectOf q slots) in
-    ap₂ (λ (p n : ℕ). checked (known (rowOf (parameterOf p))) ((rowOf (parameterOf p)) .readable) (eqb n 8) true true (asked (requestIn f)))
+    ap₂ (λ (p n : ℕ). checked (known (rowOf (parameterOf p))) (opensTo (reads fn) (rowOf (parameterOf p))) (eqb n 8) true true (asked (requestIn f)))
     (same-parameter a b fn m) (same-length a b fn m)
-    ∙ cut (known (rowOf (parameterIn g))) ((rowOf (parameterIn g)) .readable) (eqb (length g) 8) (asked (requestIn f)) (asked (requestIn g))
-    (λ e. ap asked (request-by a fn m (long b fn m 4 e)) ∙ ask-free a b m slots ∙ sym (ap asked (request-by b fn m (long b fn m 4 e))))
+    ∙ cut (known (rowOf (parameterIn g))) (opensTo (reads fn) (rowOf (parameterIn g))) (eqb (length g) 8) (asked (requestIn f)) (asked (requestIn g))
+    (λ e. ap asked (request-by a fn m (long b fn m 4 e)) ∙ ask-free (reads fn) a b m slots ∙ sym (ap asked (request-by b fn m (long b fn m 4 e))))
 
 abbrev unlocked : Passwords → ℕ → ℕ → ℕ → Verdict
 unlocked p level n z = cond (leb level 1) (cond (eqb n (passwordFor p level)) (cond (eqb z 0) Done WrongArgument) NoAccess) WrongArgument
@@ -186,7 +196,7 @@ lock-same a b fn m =
 verdict-same : (g : Function) → changes g ≡ false → (r : Record) (a b fn : ℕ) (m : List ℕ)
     → verdictBy g Zero r (frameBy a fn m) ≡ verdictBy g Own r (frameBy b fn m)
 unfolding verdictBy
-verdict-same function.Read c r a b fn m = read-same r a b fn m
+verdict-same (function.Read reading) c r a b fn m = read-same r a b fn m
 verdict-same function.Unlock c r a b fn m = unlock-same (r .passwords) a b fn m
 verdict-same function.Lock c r a b fn m = lock-same a b fn m
 verdict-same function.Unknown c r a b fn m = refl
@@ -196,14 +206,14 @@ verdict-same function.Zero c r a b fn m = absurd (false≢true (sym c))
 -- ---- what one that is done reads and leaves
 
 data-same : (g : Function) (r : Record) (s : List ℕ) (a b fn : ℕ) (m : List ℕ) → isDone (verdictBy g Own r (frameBy b fn m)) ≡ true
-    → let part : ℕ → List ℕ = λ x. cond (isRead g) (figuresOf (parameterIn (frameBy x fn m)) r s (requestIn (frameBy x fn m))) [] in part a ≡ part b
+    → let part : ℕ → List ℕ = λ x. cond (isRead g) (figuresAs (reads fn) (parameterIn (frameBy x fn m)) r s (requestIn (frameBy x fn m))) [] in part a ≡ part b
 unfolding verdictBy
-data-same function.Read r s a b fn m d =
+data-same (function.Read reading) r s a b fn m d =
     let h = long b fn m 4 (read-accepted r (frameBy b fn m) d .lengthFits) in
     let p = parameterIn (frameBy b fn m) in
-    ap₂ (λ (n : ℕ) (q : Request). figuresOf (parameterOf n) r s q) (same-parameter a b fn m) (request-by a fn m h)
-    ∙ figures-free p r s a b m
-    ∙ sym (ap (λ (q : Request). figuresOf p r s q) (request-by b fn m h))
+    ap₂ (λ (n : ℕ) (q : Request). figuresAs (reads fn) (parameterOf n) r s q) (same-parameter a b fn m) (request-by a fn m h)
+    ∙ figures-as (reads fn) p r s a b m
+    ∙ sym (ap (λ (q : Request). figuresAs (reads fn) p r s q) (request-by b fn m h))
 data-same function.Unlock r s a b fn m d = refl
 data-same function.Lock r s a b fn m d = refl
 data-same function.Unknown r s a b fn m d = refl
@@ -217,7 +227,7 @@ unlock-long false v h = absurd (false≢true h)
 after-same : (g : Function) → changes g ≡ false → (r : Record) (a b fn : ℕ) (m : List ℕ) → isDone (verdictBy g Own r (frameBy b fn m)) ≡ true
     → afterBy g r (frameBy a fn m) ≡ afterBy g r (frameBy b fn m)
 unfolding verdictBy afterBy unlockVerdict
-after-same function.Read c r a b fn m d = refl
+after-same (function.Read reading) c r a b fn m d = refl
 after-same function.Unlock c r a b fn m d =
     let f = frameBy b fn m in
     let h = long b fn m 10 (unlock-long (eqb (length f) 14) (unlocked (r .passwords) (byteAt f 3) (numberAt f 4 8) (byteAt f 2)) d) in
@@ -229,7 +239,7 @@ after-same function.Zero c r a b fn m d = absurd (false≢true (sym c))
 
 clears-none : (g : Function) → changes g ≡ false → (p : Parameter) → clearsBy g p ≡ false
 unfolding clearsBy
-clears-none function.Read c p = refl
+clears-none (function.Read reading) c p = refl
 clears-none function.Unlock c p = refl
 clears-none function.Lock c p = refl
 clears-none function.Unknown c p = refl
@@ -273,7 +283,7 @@ answered-by r s f out x room sound e h = simp (le-ltb (length out) 64 room, soun
 module _ (r : Record) (s : List ℕ) (fn : ℕ) (m out : List ℕ) (c : changes (functionOf fn) ≡ false) (v : Verdict) where
   done-alike : isDone (verdictBy (functionOf fn) Own r (frameBy (r .address) fn m)) ≡ true
       → Alike (r .address) out (reply.done v r s (frameBy 0 fn m) out) (reply.done v r s (frameBy (r .address) fn m) out)
-  unfolding headOf framed dataOf afterOf
+  unfolding headOf framed dataOf requestIn afterOf
   done-alike d =
       let own = r .address in
       let parts : dataOf r s (frameBy 0 fn m) ≡ dataOf r s (frameBy own fn m) = data-same (functionOf fn) r s 0 own fn m d in

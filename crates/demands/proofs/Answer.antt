@@ -10,7 +10,7 @@ use Rattle.case_laws.proofs.Test.{either}
 use Rattle.words.specs.Place.{byteAt, numberAt, written}
 use Rattle.words.proofs.PlaceLaws.{drop-written}
 use Rattle.frame.specs.Layout.{longest, bareSize}
-use Rattle.frame.specs.Table.{rowOf, known}
+use Rattle.frame.specs.Table.{rowOf, opensTo, known}
 use Rattle.frame.specs.Sealing.{framed}
 use Rattle.frame.proofs.SealingLaws.{length-framed}
 use Rattle.frame.specs.declared.code.Function.{Function}
@@ -46,8 +46,8 @@ module _ (r : Record) (f : List ℕ) where
 
   judged-by : (fn : Function) (m : Met) → Judged (verdictBy fn m r f)
   unfolding Judged p verdictBy readVerdict changeVerdict zeroVerdict unlockVerdict lockVerdict
-  judged-by function.Read m =
-      checked-judged (known (rowOf p)) ((rowOf p) .readable) (eqb (length f) 8) true true (askable (subjectOf (requestIn f) (slotsOf (r .minutes))))
+  judged-by (function.Read reading) m =
+      checked-judged (known (rowOf p)) (opensTo ((requestIn f) .reading) (rowOf p)) (eqb (length f) 8) true true (askable (subjectOf (requestIn f) (slotsOf (r .minutes))))
   judged-by function.Change m =
       checked-judged (known (rowOf p)) ((rowOf p) .changeable) (eqb (length f) (6 + (rowOf p) .«change_bytes»)) (byOwn m) (changeAllowed p (r .protection .level))
       (argumentFits p r f)

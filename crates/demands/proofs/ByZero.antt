@@ -49,7 +49,7 @@ came-by-own r s f out c h = met-own r f (go (functionIn f) refl c)
     go : (fn : Function) → functionIn f ≡ fn → changes fn ≡ true → met r f ≡ Own
     go function.Change e k = change r s f out e h .by-own
     go function.Zero e k = zeroing r s f out e h .by-own
-    go function.Read e k = absurd (false≢true k)
+    go (function.Read reading) e k = absurd (false≢true k)
     go function.Unlock e k = absurd (false≢true k)
     go function.Lock e k = absurd (false≢true k)
     go function.Unknown e k = absurd (false≢true k)
@@ -75,7 +75,7 @@ zero-verdict function.Zero r f c h =
     let w = both ((rowOf (parameterIn f)) .zeroable) (eqb (length f) 6) h in
     refused-by-zero (isMain (r .protection .level)) (eqb (byteAt f 3) 0)
     (known-by (λ (x : Row). x .zeroable) refl (parameterIn f) (w .0)) (w .0) (w .1)
-zero-verdict function.Read r f c h = absurd (false≢true c)
+zero-verdict (function.Read reading) r f c h = absurd (false≢true c)
 zero-verdict function.Unlock r f c h = absurd (false≢true c)
 zero-verdict function.Lock r f c h = absurd (false≢true c)
 zero-verdict function.Unknown r f c h = absurd (false≢true c)

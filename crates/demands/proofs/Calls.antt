@@ -108,6 +108,7 @@ decode (decoded.Powers p) = refl
 decode (decoded.OnePower p) = refl
 decode (decoded.Slice c) = refl
 decode decoded.SixSlices = refl
+decode (decoded.Displayed e) = refl
 
 -- ---- the bench
 

@@ -10,6 +10,7 @@ use Rattle.case_laws.proofs.Test.{either}
 use Rattle.words.specs.Place.{byteAt, numberAt}
 use Rattle.frame.specs.declared.code.Function.{Function}
 use Rattle.frame.specs.declared.code.Function.the-variants as function
+use Rattle.frame.specs.declared.code.Reading.{Reading}
 use Rattle.frame.specs.declared.code.Parameter.{Parameter}
 use Rattle.frame.specs.declared.code.Parameter.the-variants as parameter
 use Rattle.meter_clock.specs.Protection.{shut, opened}
@@ -128,10 +129,11 @@ zeroing r s f out e h = record {
   slices = store-done r s f out function.Zero e h;
 }
 
-pub read-changes-nothing : (r : Record) (s f out : List ℕ) → functionIn f ≡ function.Read → let o = answerOf r s f out in answerNumber o ≡ 0
-    → Leaves r s o
+pub read-changes-nothing : (reading : Reading) (r : Record) (s f out : List ℕ) → functionIn f ≡ function.Read reading
+    → let o = answerOf r s f out in answerNumber o ≡ 0 → Leaves r s o
 unfolding afterBy clearsBy
-read-changes-nothing r s f out e h = record { after = after-done r s f out function.Read e h; slices = store-done r s f out function.Read e h }
+read-changes-nothing reading r s f out e h =
+    record { after = after-done r s f out (function.Read reading) e h; slices = store-done r s f out (function.Read reading) e h }
 
 -- ---- what is refused leaves all as it was
 

@@ -7,6 +7,7 @@ use Rattle.demands.specs.Demand2ByZero.{Demand2ByZero}
 use Rattle.demands.specs.Demand2Done.{Demand2Done}
 use Rattle.demands.specs.Demand3.{Demand3}
 use Rattle.demands.specs.Faults.{ReplyFaults}
+use Rattle.demands.specs.Function4.{Function4}
 use Rattle.demands.specs.Examples.{Marked}
 use Rattle.demands.proofs.Again as again
 use Rattle.demands.proofs.Alike as alike
@@ -14,9 +15,11 @@ use Rattle.demands.proofs.Answer as answer
 use Rattle.demands.proofs.ByZero as by-zero
 use Rattle.demands.proofs.Calls as calls
 use Rattle.demands.proofs.Changes as changes
+use Rattle.demands.proofs.Displayed as displayed
 use Rattle.demands.proofs.Done as done
 use Rattle.demands.proofs.Examples as examples
 use Rattle.demands.proofs.Faults as faults
+use Rattle.demands.proofs.Function4 as four
 use Rattle.demands.proofs.History as history
 use Rattle.demands.proofs.Inquiry as inquiry
 use Rattle.demands.proofs.Left as left
@@ -120,6 +123,18 @@ demand-3 = record {
 
 pub reply-faults : ReplyFaults
 reply-faults = record { gone = faults.gone; decode-length = faults.decode-length; take-length = faults.take-length }
+
+pub function-4 : Function4
+function-4 = record {
+  nearest = displayed.nearest;
+  zero = displayed.zero;
+  slices-alone = four.slices-alone;
+  not-open = four.not-open;
+  unknown = four.unknown;
+  bare = four.bare;
+  ratios-done = four.ratios-done;
+  ratios-read = four.ratios-read;
+}
 
 pub marked : Marked
 marked = record { together = examples.together }

@@ -7,9 +7,8 @@ use lib.ListN.{length}
 use borrow.Author.Tests.{le-ltb, le-leb, eq-eqb}
 use Rattle.words.specs.Number.{bytesOf}
 use Rattle.words.specs.Place.{byteAt, numberAt}
-use Rattle.frame.specs.Code.{functionOf}
 use Rattle.frame.specs.Sealing.{framed}
-use Rattle.frame.specs.Table.{rowOf, parameterOf, known}
+use Rattle.frame.specs.Table.{rowOf, opensTo, parameterOf, known}
 use Rattle.frame.specs.declared.code.Function.{Function}
 use Rattle.frame.specs.declared.code.Function.the-variants as function
 use Rattle.frame.specs.declared.code.Parameter.{Parameter}
@@ -23,13 +22,15 @@ use Rattle.request.specs.declared.request.Request.{Request}
 use Rattle.meter_record.specs.declared.record.Record.{Record}
 use Rattle.meter_command.specs.Access.{byOwn, isMain, changeAllowed, passwordFor, unlockVerdict, lockVerdict}
 use Rattle.meter_command.specs.Judgement.{passed, checked, argumentFits, readVerdict, changeVerdict, zeroVerdict, verdictBy, verdictOf}
-use Rattle.meter_command.specs.Parts.{functionIn, parameterIn, parameterByte, requestIn, detailIn}
+use Rattle.meter_command.specs.Parts.{functionIn, parameterIn, detailIn}
 use Rattle.meter_command.specs.declared.access.Met.the-variants.{Own}
 use Rattle.meter_command.specs.declared.verdict.Verdict.the-variants.{Done}
 use Rattle.meter.specs.Reply.{met, verdictOn, replied, answerOf}
 use Rattle.demands.specs.Demand1.{answerNumber}
 use Rattle.demands.specs.Demand2.{answered}
 use Rattle.demands.specs.Demand2Done.{Ready}
+use Rattle.demands.proofs.Reading.{unknown-shut}
+use Rattle.demands.proofs.Replies.{request-read, request-parameter, request-again}
 
 -- ---- a command that passes every check is answered 0
 
@@ -64,20 +65,27 @@ known-by column n parameter.Unknown h = absurd (false≢true (sym n ∙ h))
 
 -- ---- a read
 
+request-size : (q : Request) → length (requestFrame q) ≡ 8
+unfolding requestFrame framed bytesOf
+request-size q = refl
+
 read-by : (r : Record) (q : Request)
     → verdictOn r (requestFrame q)
-    ≡ checked (known (rowOf (parameterOf (q .parameter)))) ((rowOf (parameterOf (q .parameter))) .readable) true true true
+    ≡ checked (known (rowOf (parameterOf (q .parameter)))) (opensTo (q .reading) (rowOf (parameterOf (q .parameter)))) true true true
     (askable (subjectOf q (slotsOf (r .minutes))))
-unfolding verdictOf verdictBy readVerdict requestFrame framed functionOf parameterByte bytesOf requestIn
-read-by r q = refl
+unfolding verdictOf verdictBy readVerdict
+read-by r q =
+    ap (λ (fn : Function). verdictBy fn (met r (requestFrame q)) r (requestFrame q)) (request-read q)
+    ∙ simp (request-parameter q, request-again q, request-size q)
 
 pub read-done : (r : Record) (s : List ℕ) (q : Request) (out : List ℕ) → Ready r s (requestFrame q) out
     → askable (subjectOf q (slotsOf (r .minutes))) ≡ true → answerNumber (answered r s q out) ≡ 0
 unfolding subjectOf
 read-done r s q out y h =
     let p = parameterOf (q .parameter) in
-    let readable = request.asked p q (slotsOf (r .minutes)) h .readable in
-    answered-zero r s (requestFrame q) out y (read-by r q ∙ all-passed (known-by (λ (w : Row). w .readable) refl p readable) readable refl refl refl h)
+    let opened = request.asked p q (slotsOf (r .minutes)) h .open-to in
+    answered-zero r s (requestFrame q) out y
+    (read-by r q ∙ all-passed (known-by (opensTo (q .reading)) (unknown-shut (q .reading)) p opened) opened refl refl refl h)
 
 -- ---- a change, a zeroing
 

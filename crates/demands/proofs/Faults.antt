@@ -9,6 +9,12 @@ use Rattle.case_laws.proofs.Test.{either}
 use Rattle.words.specs.Place.{byteAt}
 use Rattle.frame.specs.declared.code.Parameter.{Parameter}
 use Rattle.frame.specs.declared.code.Parameter.the-variants as parameter
+use Rattle.frame.specs.declared.code.Reading.{Reading}
+use Rattle.frame.specs.declared.code.Reading.the-variants.{Stored, Displayed}
+use Rattle.frame.specs.Code.{readingCode}
+use Rattle.figures.specs.Displayed.{energiesOf}
+use Rattle.figures.specs.declared.displayed.EnergiesAnswer.{EnergiesAnswer}
+use Rattle.figures.specs.declared.displayed.EnergiesAnswer.the-variants as energies
 use Rattle.figures.specs.Power.{powerOf, powersOf}
 use Rattle.figures.specs.declared.power.Power.{Power}
 use Rattle.figures.specs.declared.power.Power.the-variants as power
@@ -20,7 +26,7 @@ use Rattle.request.specs.declared.subject.Subject.{Subject}
 use Rattle.request.specs.declared.subject.Subject.the-variants as subject
 use Rattle.reader.specs.Form.{formOf}
 use Rattle.reader.specs.Rows.{replyData}
-use Rattle.reader.specs.Reply.{powersFigure, powerFigure, phaseFigures, readFigures, figuresOf, repliedOf, decodedOf}
+use Rattle.reader.specs.Reply.{powersFigure, powerFigure, energiesFigure, phaseFigures, readFigures, readAs, figuresOf, repliedOf, decodedOf}
 use Rattle.reader.specs.declared.form.Fault.{Fault}
 use Rattle.reader.specs.declared.form.Fault.the-variants as fault
 use Rattle.reader.specs.declared.form.Form.{Form}
@@ -76,6 +82,7 @@ toldDecoded other (decoded.Powers p) = other
 toldDecoded other (decoded.OnePower p) = other
 toldDecoded other (decoded.Slice c) = other
 toldDecoded other decoded.SixSlices = other
+toldDecoded other (decoded.Displayed e) = other
 
 abbrev Silent : ℕ → Decoded → Type 0
 Silent other d = toldDecoded other d ≡ other
@@ -109,9 +116,19 @@ figures-silent other parameter.SixSlices detail bs = refl
 figures-silent other parameter.Password detail bs = refl
 figures-silent other parameter.Unknown detail bs = refl
 
+energies-silent : (other : ℕ) (e : EnergiesAnswer) → Silent other (energiesFigure e)
+unfolding toldDecoded
+energies-silent other (energies.Finite e) = refl
+energies-silent other energies.NotFinite = refl
+
+as-silent : (other : ℕ) (x : Reading) (p : Parameter) (detail : ℕ) (bs : List ℕ) → Silent other (readAs x p detail bs)
+unfolding readAs
+as-silent other Stored p detail bs = figures-silent other p detail bs
+as-silent other Displayed p detail bs = energies-silent other (energiesOf bs)
+
 subject-silent : (other : ℕ) (s : Subject) (bs : List ℕ) → Silent other (figuresOf s bs)
 unfolding toldDecoded
-subject-silent other (subject.Figures p detail) bs = figures-silent other p detail bs
+subject-silent other (subject.Figures x p detail) bs = as-silent other x p detail bs
 subject-silent other subject.Nothing bs = refl
 
 replied-silent : (other : ℕ) (s : Subject) (y : List ℕ) → Silent other (repliedOf s y)
@@ -121,16 +138,16 @@ replied-silent other s y = either (Silent other) (eqb (byteAt y 3) 0) (subject-s
 module _ (q : Request) (y : List ℕ) where
   decoded-told : toldDecoded (length y) (decodedOf q y) ≡ length y
   unfolding decodedOf toldDecoded
-  decoded-told = go (askable s) refl (formOf (q .address) 3 (q .parameter) (6 + dataBytes s) y) refl
+  decoded-told = go (askable s) refl (formOf (q .address) (readingCode (q .reading)) (q .parameter) (6 + dataBytes s) y) refl
     where
       s : Subject
       s = subjectOf q mostSlots
 
-      go : (b : Bool) → askable s ≡ b → (f : Form) → formOf (q .address) 3 (q .parameter) (6 + dataBytes s) y ≡ f
+      go : (b : Bool) → askable s ≡ b → (f : Form) → formOf (q .address) (readingCode (q .reading)) (q .parameter) (6 + dataBytes s) y ≡ f
           → toldDecoded (length y) (decodedOf q y) ≡ length y
       go false a f e = rw a refl
       go true a WellFormed e = rw (a, e) (replied-silent (length y) s y)
-      go true a (Faulty f) e = rw (a, e) (form-told (q .address) 3 (q .parameter) (6 + dataBytes s) y f e)
+      go true a (Faulty f) e = rw (a, e) (form-told (q .address) (readingCode (q .reading)) (q .parameter) (6 + dataBytes s) y f e)
 
   pub decode-length : (n : ℕ) → decodedOf q y ≡ decoded.Malformed (fault.Length n) → n ≡ length y
   unfolding toldDecoded told

@@ -17,6 +17,8 @@ use Rattle.figures.specs.declared.power.Phases.{Phases}
 use Rattle.frame.specs.Table.{replyBytes}
 use Rattle.frame.specs.declared.code.Parameter.{Parameter}
 use Rattle.frame.specs.declared.code.Parameter.the-variants as parameter
+use Rattle.frame.specs.declared.code.Reading.{Reading}
+use Rattle.frame.specs.declared.code.Reading.the-variants.{Stored, Displayed}
 use Rattle.request.proofs.RequestLaws.{asked}
 use Rattle.request.specs.Subject.{keyOf, subjectFor, askable, dataBytes}
 use Rattle.request.specs.declared.request.Request.{Request}
@@ -28,15 +30,16 @@ use Rattle.meter_record.proofs.PowerLaws.{BoundsPhases, powers-bounds, bounds-f
 use Rattle.meter_record.proofs.RangeLaws.{Within}
 use Rattle.meter_record.specs.Widths.{FitsRecord}
 use Rattle.meter_record.specs.declared.record.Record.{Record}
-use Rattle.meter_reading.specs.Reading.{phase, powerData, summerShown, winterShown, figuresOf}
-use Rattle.reader.specs.Reply.{countsOf, powersFigure, powerFigure, phaseFigures, readFigures, figuresOf as figuresIn}
+use Rattle.meter_reading.specs.Reading.{phase, powerData, summerShown, winterShown, figuresOf, figuresAs}
+use Rattle.reader.specs.Reply.{countsOf, powersFigure, powerFigure, phaseFigures, readFigures, readAs, figuresOf as figuresIn}
 use Rattle.reader.specs.declared.reply.Decoded.{Decoded}
 use Rattle.reader.specs.declared.reply.Decoded.the-variants as decoded
-use Rattle.demands.specs.Figures.{ownPower, fourCounts, ownFigures}
+use Rattle.demands.specs.Figures.{ownPower, fourCounts, ownFigures, ownAs}
+use Rattle.demands.proofs.Displayed.{displayed-again}
 
 -- the data that the reader waits for are as many as the meter sends
 pub same-size : (p : Parameter) (q : Request) (slots : ℕ) → askable (subjectFor p q slots) ≡ true
-    → dataBytes (subjectFor p q slots) ≡ replyBytes p (q .detail)
+    → dataBytes (subjectFor p q slots) ≡ replyBytes (q .reading) p (q .detail)
 same-size p q slots h = ap dataBytes (asked p q slots h .subject)
 
 -- ---- the figures again
@@ -86,9 +89,10 @@ power-again p detail rest f h = go (eqb detail 0) (eqb detail 1) (eqb detail 2)
 -- what the reader finds in the meter's data, whatever stands behind them
 pub found-again : (p : Parameter) (r : Record) (s : List ℕ) (q : Request) (slots : ℕ) (rest : List ℕ) → Within r → FitsRecord r
     → RowFits (sliceOf s (keyOf q)) → askable (subjectFor p q slots) ≡ true
-    → figuresIn (subjectFor p q slots) (figuresOf p r s q ++ rest) ≡ ownFigures p r s q
-unfolding readFigures
-found-again p r s q slots rest w f k h = ap (λ (x : Subject). figuresIn x (figuresOf p r s q ++ rest)) (asked p q slots h .subject) ∙ go p
+    → figuresIn (subjectFor p q slots) (figuresAs (q .reading) p r s q ++ rest) ≡ ownAs (q .reading) p r s q
+unfolding readAs readFigures
+found-again p r s q slots rest w f k h =
+    ap (λ (x : Subject). figuresIn x (figuresAs (q .reading) p r s q ++ rest)) (asked p q slots h .subject) ∙ found (q .reading)
   where
     go : (p : Parameter) → readFigures p (q .detail) (figuresOf p r s q ++ rest) ≡ ownFigures p r s q
     go parameter.ActivePower = power-again (r .active) (q .detail) rest (f .active) (w .active)
@@ -103,3 +107,7 @@ found-again p r s q slots rest w f k h = ap (λ (x : Subject). figuresIn x (figu
     go parameter.SixSlices = refl
     go parameter.Password = refl
     go parameter.Unknown = refl
+
+    found : (x : Reading) → readAs x p (q .detail) (figuresAs x p r s q ++ rest) ≡ ownAs x p r s q
+    found Stored = go p
+    found Displayed = displayed-again r w f (sliceOf s (keyOf q)) rest k

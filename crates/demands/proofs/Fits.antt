@@ -74,6 +74,8 @@ remade-fits r a g p t y m n f address passwords telemetry mask next = record {
   active = f .active;
   reactive = f .reactive;
   next = next;
+  ki = f .ki;
+  ku = f .ku;
 }
 
 module _ (r : Record) (f : FitsRecord r) where

@@ -31,7 +31,7 @@ use Rattle.meter_inquiry.specs.Inquiry as inquiry
 use Rattle.meter_inquiry.specs.Inquiry.{isSilent, toldOf, asked}
 use Rattle.meter_inquiry.specs.declared.Inquired.the-variants.{TooShort, Unsound, Silent, Told}
 use Rattle.demands.specs.Demand1.{inTable}
-use Rattle.demands.specs.Figures.{ownFigures}
+use Rattle.demands.specs.Figures.{ownAs}
 use Rattle.demands.specs.Demand2.{answered, replyIn, FitsRequest}
 use Rattle.demands.specs.Demand2Done.{Ready}
 use Rattle.demands.proofs.Calls.{decode}
@@ -101,7 +101,7 @@ own-done r s q out k h = go (heard r (requestFrame q)) refl (isDone (verdictOn r
     go true e true g = done-verdict r s q out (t .room) (t .sound) e g ∙ done-only _ g
 
 pub inquired : (r : Record) (s : List ℕ) (q : Request) (out : List ℕ) → FitsRecord r → Bytes s → FitsRequest q
-    → let o = inquiry.inquired r s q out in inquiry.numberOf (o .answer) ≡ 0 → o .answer ≡ Told (ownFigures (parameterOf (q .parameter)) r s q)
+    → let o = inquiry.inquired r s q out in inquiry.numberOf (o .answer) ≡ 0 → o .answer ≡ Told (ownAs (q .reading) (parameterOf (q .parameter)) r s q)
 inquired r s q out f b k h =
     let v = own-done r s q out k h in
     ap (λ (o : inquiry.Outcome). o .answer) (sent r s q out h .whole)
@@ -123,7 +123,7 @@ inquired-six r s q out b k e h =
 -- ---- what asks for figures that the meter has is told them
 
 pub inquired-done : (r : Record) (s : List ℕ) (q : Request) (out : List ℕ) → Ready r s (requestFrame q) out → FitsRecord r → Bytes s → FitsRequest q
-    → askable (subjectOf q (slotsOf (r .minutes))) ≡ true → (inquiry.inquired r s q out) .answer ≡ Told (ownFigures (parameterOf (q .parameter)) r s q)
+    → askable (subjectOf q (slotsOf (r .minutes))) ≡ true → (inquiry.inquired r s q out) .answer ≡ Told (ownAs (q .reading) (parameterOf (q .parameter)) r s q)
 unfolding inquiry.inquired asked
 inquired-done r s q out y f b k h =
     let z = read-done r s q out y h in

@@ -9,11 +9,12 @@ use borrow.Author.Tests.{ltb-false}
 use Rattle.case_laws.proofs.Test.{either}
 use Rattle.words.specs.Number.{Bytes}
 use Rattle.words.specs.Place.{written}
-use Rattle.frame.specs.Code.{functionOf}
 use Rattle.frame.specs.Sealing.{framed}
 use Rattle.frame.specs.Table.{parameterOf}
 use Rattle.frame.specs.declared.code.Parameter.{Parameter}
 use Rattle.frame.specs.declared.code.Parameter.the-variants as parameter
+use Rattle.frame.specs.declared.code.Reading.{Reading}
+use Rattle.frame.specs.declared.code.Reading.the-variants.{Stored, Displayed}
 use Rattle.request.specs.Request.{requestFrame}
 use Rattle.request.specs.Subject.{subjectOf, mostSlots, askable}
 use Rattle.request.specs.declared.request.Request.{Request}
@@ -37,17 +38,18 @@ use Rattle.meter_inquiry.specs.Inquiry as inquiry
 use Rattle.meter_inquiry.specs.Inquiry.{isSilent, toldOf, asked, inquired}
 use Rattle.demands.specs.Demand1Inquire.{noReply, replyTo}
 use Rattle.demands.specs.Demand2.{answered, replyIn, FitsRequest}
-use Rattle.demands.specs.Figures.{ownPower, ownFigures}
+use Rattle.demands.specs.Figures.{ownPower, ownFigures, ownAs}
 use Rattle.demands.proofs.Answer.{Judged, judged}
 use Rattle.demands.proofs.Range.{decoded-no-27}
+use Rattle.demands.proofs.Reading.{reading-back}
 use Rattle.demands.proofs.Replies.{done-only, read, refused}
 
 -- ---- the store
 
 -- a read clears nothing
 read-clears-nothing : (s : List ℕ) (q : Request) → storeAfter s (requestFrame q) ≡ s
-unfolding storeAfter clears clearsBy requestFrame framed functionOf
-read-clears-nothing s q = refl
+unfolding storeAfter clears clearsBy requestFrame framed
+read-clears-nothing s q = rw (reading-back (q .reading)) refl
 
 module _ (r : Record) (s : List ℕ) (q : Request) (out : List ℕ) where
   answered-store : (answered r s q out) .store ≡ s
@@ -97,6 +99,7 @@ no-reply-27 (decoded.Powers p) n = refl
 no-reply-27 (decoded.OnePower p) n = refl
 no-reply-27 (decoded.Slice c) n = refl
 no-reply-27 decoded.SixSlices n = refl
+no-reply-27 (decoded.Displayed e) n = refl
 
 second : (b : Bool) (x y : List ℕ) → b ≡ false → y ≡ cond b x y
 second b x y e = sym (ap (λ (c : Bool). cond c x y) e)
@@ -161,6 +164,11 @@ own-number parameter.SixSlices r s q n = refl
 own-number parameter.Password r s q n = absurd (n refl)
 own-number parameter.Unknown r s q n = absurd (n refl)
 
+own-as-number : (x : Reading) (p : Parameter) (r : Record) (s : List ℕ) (q : Request) → (reader.numberOf (ownAs x p r s q) ≡ 27 → ⊥)
+    → reader.numberOf (ownAs x p r s q) ≡ 0
+own-as-number Stored p r s q n = own-number p r s q n
+own-as-number Displayed p r s q n = refl
+
 not-silent : (v : Verdict) → Judged v → isSilent v ≡ false
 unfolding Judged
 not-silent verdict.Silent j = absurd (false≢true j)
@@ -205,7 +213,7 @@ done-number : (r : Record) (s : List ℕ) (q : Request) (out : List ℕ) → Fit
 done-number r s q out w b k e n l m g =
     let v = heard-verdict r s (requestFrame q) out e n m ∙ done-only _ g in
     let own = ap reader.numberOf (read r s q out w b k (ap numberOf v)) in
-    own ∙ own-number (parameterOf (q .parameter)) r s q (λ h. decoded-no-27 q (replyIn (answered r s q out)) l (own ∙ h))
+    own ∙ own-as-number (q .reading) (parameterOf (q .parameter)) r s q (λ h. decoded-no-27 q (replyIn (answered r s q out)) l (own ∙ h))
 
 pub refused-output : (r : Record) (s : List ℕ) (q : Request) (out : List ℕ) → FitsRecord r → Bytes s → FitsRequest q
     → let o = inquired r s q out in let f = requestFrame q in (inquiry.numberOf (o .answer) ≡ 0 → ⊥)

@@ -1,5 +1,7 @@
 pub mod Calls
 pub mod Answer
+pub mod Reading
+pub mod Displayed
 pub mod Wire
 pub mod Figures
 pub mod Six
@@ -13,6 +15,7 @@ pub mod Alike
 pub mod Range
 pub mod Left
 pub mod Again
+pub mod Function4
 pub mod History
 pub mod Faults
 pub mod Examples

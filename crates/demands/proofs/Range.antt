@@ -17,13 +17,19 @@ use Rattle.figures.specs.declared.power.Power.{Power}
 use Rattle.figures.specs.declared.power.Power.the-variants as power
 use Rattle.figures.specs.declared.power.PowersAnswer.{PowersAnswer}
 use Rattle.figures.specs.declared.power.PowersAnswer.the-variants as powers
+use Rattle.figures.specs.Displayed.{energiesOf}
+use Rattle.figures.specs.declared.displayed.EnergiesAnswer.{EnergiesAnswer}
+use Rattle.figures.specs.declared.displayed.EnergiesAnswer.the-variants as energies
 use Rattle.figures.specs.Power.{powerOf, powersOf}
 use Rattle.figures.specs.declared.telemetry.Telemetry.{Telemetry}
 use Rattle.frame.specs.Sealing.{framed, isSealed}
 use Rattle.frame.proofs.SealingLaws.{length-framed, crcFits-framed}
-use Rattle.frame.specs.Table.{rowOf, parameterOf}
+use Rattle.frame.specs.Code.{readingCode}
+use Rattle.frame.specs.Table.{rowOf, opensTo, parameterOf}
 use Rattle.frame.specs.declared.code.Parameter.{Parameter}
 use Rattle.frame.specs.declared.code.Parameter.the-variants as parameter
+use Rattle.frame.specs.declared.code.Reading.{Reading}
+use Rattle.frame.specs.declared.code.Reading.the-variants.{Stored, Displayed}
 use Rattle.slots.specs.Day.{isMinutes, slotsOf}
 use Rattle.slots.proofs.DayLaws.{slots-at-most}
 use Rattle.request.proofs.RequestLaws as request
@@ -36,7 +42,7 @@ use Rattle.request.specs.declared.subject.Subject.{Subject}
 use Rattle.reader.specs.Form.{formOf}
 use Rattle.reader.proofs.FormLaws.{fault-above}
 use Rattle.reader.specs.Reply as decoding
-use Rattle.reader.specs.Reply.{decodedOf, repliedOf, readFigures, phaseFigures, powersFigure, powerFigure, figuresOf}
+use Rattle.reader.specs.Reply.{decodedOf, repliedOf, readFigures, readAs, phaseFigures, powersFigure, powerFigure, energiesFigure, figuresOf}
 use Rattle.reader.specs.Rows.{replyData}
 use Rattle.reader.specs.declared.form.Form.{Form}
 use Rattle.reader.specs.declared.form.Form.the-variants.{WellFormed, Faulty}
@@ -47,6 +53,7 @@ use Rattle.meter_clock.specs.declared.season.Season.the-variants.{Winter}
 use Rattle.meter_store.specs.Store.{storeBytes}
 use Rattle.meter_record.proofs.RangeLaws.{Within, is-within}
 use Rattle.meter_record.specs.Power.{inBounds, arePowers}
+use Rattle.meter_record.specs.Ratios.{areRatios}
 use Rattle.meter_record.specs.Ranges.{isTelemetry}
 use Rattle.meter_record.specs.Record.{fresh}
 use Rattle.meter_record.specs.Widths.{FitsRecord}
@@ -58,6 +65,7 @@ use Rattle.demands.specs.Demand2.{answered}
 use Rattle.demands.specs.Demand2Done.{BytesRequest, Answerable}
 use Rattle.demands.proofs.Done.{read-done}
 use Rattle.demands.proofs.Fits.{zero-bytes}
+use Rattle.demands.proofs.Reading.{code-byte}
 use Rattle.demands.proofs.Replies as replies
 use Rattle.demands.proofs.Wire.{OfBytes, nil, bytes-cons}
 
@@ -100,9 +108,19 @@ figures-no-27 parameter.SixSlices detail bs e h = omega (arith, h)
 figures-no-27 parameter.Password detail bs e h = false≢true e
 figures-no-27 parameter.Unknown detail bs e h = false≢true e
 
+energies-no-27 : (e : EnergiesAnswer) → No27 (energiesFigure e)
+unfolding No27
+energies-no-27 (energies.Finite e) h = omega (arith, h)
+energies-no-27 energies.NotFinite h = omega (arith, h)
+
+as-no-27 : (x : Reading) (p : Parameter) (detail : ℕ) (bs : List ℕ) → opensTo x (rowOf p) ≡ true → No27 (readAs x p detail bs)
+unfolding readAs
+as-no-27 Stored p detail bs e = figures-no-27 p detail bs e
+as-no-27 Displayed p detail bs e = energies-no-27 (energiesOf bs)
+
 pub decoded-no-27 : (q : Request) (y : List ℕ) → askable (subjectOf q mostSlots) ≡ true → decoding.numberOf (decodedOf q y) ≡ 27 → ⊥
 unfolding No27 decodedOf repliedOf subjectOf
-decoded-no-27 q y a h = go (formOf (q .address) 3 (q .parameter) (6 + dataBytes (subjectFor p q mostSlots)) y) refl (eqb (byteAt y 3) 0) refl
+decoded-no-27 q y a h = go (formOf (q .address) (readingCode (q .reading)) (q .parameter) (6 + dataBytes (subjectFor p q mostSlots)) y) refl (eqb (byteAt y 3) 0) refl
   where
     p : Parameter
     p = parameterOf (q .parameter)
@@ -110,12 +128,13 @@ decoded-no-27 q y a h = go (formOf (q .address) 3 (q .parameter) (6 + dataBytes 
     k : request.Asked p q mostSlots
     k = request.asked p q mostSlots a
 
-    go : (f : Form) → formOf (q .address) 3 (q .parameter) (6 + dataBytes (subjectFor p q mostSlots)) y ≡ f → (b : Bool) → eqb (byteAt y 3) 0 ≡ b → ⊥
+    go : (f : Form) → formOf (q .address) (readingCode (q .reading)) (q .parameter) (6 + dataBytes (subjectFor p q mostSlots)) y ≡ f → (b : Bool) → eqb (byteAt y 3) 0 ≡ b → ⊥
     go (Faulty fault) e b c = omega (arith, simp (a, e) at h, fault-above fault)
     go WellFormed e false c = omega (arith, simp (a, e, c) at h)
     go WellFormed e true c =
         let n : decoding.numberOf (figuresOf (subjectFor p q mostSlots) (replyData y)) ≡ 27 = simp (a, e, c) at h in
-        figures-no-27 p (q .detail) (replyData y) (k .readable) (ap (λ (s : Subject). decoding.numberOf (figuresOf s (replyData y))) (sym (k .subject)) ∙ n)
+        as-no-27 (q .reading) p (q .detail) (replyData y) (k .open-to)
+        (ap (λ (s : Subject). decoding.numberOf (figuresOf s (replyData y))) (sym (k .subject)) ∙ n)
 
 pub out-of-range : (q : Request) (y : List ℕ) → decoding.numberOf (decodedOf q y) ≡ 27
     → (r : Record) (s out : List ℕ) → answerNumber (answered r s q out) ≡ 0 → ⊥
@@ -132,10 +151,10 @@ not-askable q y e = simp e
 request-sealed : (q : Request) → BytesRequest q → isSealed (requestFrame q) ≡ true
 unfolding isSealed requestFrame
 request-sealed q k =
-    let body = q .address ∷ 3 ∷ q .parameter ∷ q .offset ∷ q .tariff ∷ q .detail ∷ [] in
+    let body = q .address ∷ readingCode (q .reading) ∷ q .parameter ∷ q .offset ∷ q .tariff ∷ q .detail ∷ [] in
     let l : length (framed body) ≡ 8 = length-framed body in
     let b : OfBytes body =
-    bytes-cons (q .address) (k .repeated .address) (bytes-cons 3 (lit≤ tt) (bytes-cons (q .parameter) (k .repeated .parameter)
+    bytes-cons (q .address) (k .repeated .address) (bytes-cons (readingCode (q .reading)) (code-byte (q .reading)) (bytes-cons (q .parameter) (k .repeated .parameter)
     (bytes-cons (q .offset) (k .offset) (bytes-cons (q .tariff) (k .tariff) (bytes-cons (q .detail) (k .detail) nil))))) in
     ap₂ _&&_ (ap₂ _&&_ (le-leb 4 (length (framed body)) (omega (arith, l))) (le-leb (length (framed body)) 64 (omega (arith, l)))) (crcFits-framed body (b .each))
 
@@ -168,7 +187,7 @@ abbrev meterAt : ℕ → Record
 meterAt address = fresh address 15 telemetry clock Winter
 
 meter-within : (a : ℕ) → leb 1 a ≡ true → Within (meterAt a)
-unfolding fresh telemetry clock isProtection isFitting isTime isDate daysInMonth isTelemetry isMinutes arePowers inBounds monthLengths le ofBits
+unfolding fresh telemetry clock isProtection isFitting isTime isDate daysInMonth isTelemetry isMinutes arePowers inBounds areRatios monthLengths le ofBits
 meter-within a h = record {
   address = h;
   protection = refl;
@@ -178,6 +197,7 @@ meter-within a h = record {
   next = refl;
   active = refl;
   reactive = refl;
+  ratios = refl;
 }
 
 meter-fits : (a : ℕ) → a < 256 → FitsRecord (meterAt a)
@@ -193,6 +213,8 @@ meter-fits a h = record {
   active = record { a = tt; b = tt; c = tt };
   reactive = record { a = tt; b = tt; c = tt };
   next = lit≤ tt;
+  ki = lit≤ tt;
+  ku = lit≤ tt;
 }
 
 zeros-sound : (r : Record) (n : ℕ) → n ≡ storeBytes → Within r → isSound r (replicate n 0) ≡ true

@@ -11,8 +11,10 @@ use Rattle.case_laws.proofs.Test.{both}
 use Rattle.words.specs.Number.{Bytes, bytesOf}
 use Rattle.words.specs.Place.{written}
 use Rattle.words.proofs.PlaceLaws.{written-fits}
-use Rattle.frame.specs.Code.{functionOf}
-use Rattle.frame.specs.Table.{parameterOf}
+use Rattle.frame.specs.Code.{readingCode}
+use Rattle.frame.specs.declared.code.Reading.{Reading}
+use Rattle.frame.specs.declared.code.Reading.the-variants.{Stored, Displayed}
+use Rattle.frame.specs.Table.{rowOf, opensTo, parameterOf}
 use Rattle.frame.proofs.TableLaws.{reply-small}
 use Rattle.frame.specs.Sealing.{framed}
 use Rattle.frame.proofs.SealingLaws.{length-framed, crcFits-framed}
@@ -24,6 +26,7 @@ use Rattle.frame.specs.declared.code.Parameter.the-variants as parameter
 use Rattle.slots.specs.Day.{slotsOf}
 use Rattle.slots.proofs.DayLaws.{slots-at-most}
 use Rattle.request.specs.Request.{requestFrame}
+use Rattle.request.proofs.RequestLaws as request
 use Rattle.request.proofs.RequestLaws.{subject-wider}
 use Rattle.request.specs.Subject.{keyOf, subjectOf, subjectFor, mostSlots, askable, dataBytes}
 use Rattle.request.specs.declared.request.Request.{Request}
@@ -39,21 +42,22 @@ use Rattle.meter_command.specs.Verdict.{resultOf, isDone}
 use Rattle.meter_command.specs.declared.verdict.Verdict.{Verdict}
 use Rattle.meter_command.specs.declared.verdict.Verdict.the-variants.{Done, TooShort, Unsound, Silent, UnknownFunction, UnknownParameter}
 use Rattle.meter_command.specs.declared.verdict.Verdict.the-variants.{NotOpen, WrongLength, ByAddressZero, NoAccess, WrongArgument}
-use Rattle.meter_reading.specs.Reading.{figuresOf, sixBytes, dataOf}
+use Rattle.meter_reading.specs.Reading.{figuresAs, sixBytes, dataOf}
 use Rattle.meter.specs.Reply as meter
 use Rattle.meter.specs.Reply.{isSound, met, heard, verdictOn, functionFor, headOf, done, replied, answerOf}
-use Rattle.meter.proofs.ReplyLaws.{length-figures, length-head}
+use Rattle.meter.proofs.ReplyLaws.{length-as, length-head}
 use Rattle.reader.specs.Form as form
 use Rattle.reader.specs.Form.{lengthFor, formOf}
 use Rattle.reader.specs.Rows.{replyData, sixOf as sixIn}
 use Rattle.reader.specs.Reply.{decodedOf, repliedOf}
 use Rattle.reader.specs.declared.reply.Decoded.the-variants as decoded
 use Rattle.demands.specs.Demand1.{answerNumber}
-use Rattle.demands.specs.Figures.{ownFigures}
+use Rattle.demands.specs.Figures.{ownAs}
 use Rattle.demands.specs.Demand2.{answered, replyIn, FitsRequest}
 use Rattle.demands.proofs.Figures.{same-size, found-again}
+use Rattle.demands.proofs.Reading.{reading-back, code-byte, refused-byte, code-below, refused-top}
 use Rattle.demands.proofs.Six.{six-again}
-use Rattle.demands.proofs.Wire.{OfBytes, nil, bytes-cons, slice-fits, figures-bytes, replyBody, reply-formed, front-again}
+use Rattle.demands.proofs.Wire.{OfBytes, nil, bytes-cons, slice-fits, as-bytes, replyBody, reply-formed, front-again}
 
 -- ---- what an answer with 0 has passed
 
@@ -99,17 +103,17 @@ passed r s f out h = go (ltb (length out) 64) refl (isSound r s) refl (heard r f
 
 -- ---- the request's frame, as the meter takes it apart
 
-pub request-read : (q : Request) → functionIn (requestFrame q) ≡ function.Read
-unfolding requestFrame framed functionOf
-request-read q = refl
+pub request-read : (q : Request) → functionIn (requestFrame q) ≡ function.Read (q .reading)
+unfolding requestFrame framed
+request-read q = reading-back (q .reading)
 
-request-parameter : (q : Request) → parameterByte (requestFrame q) ≡ q .parameter
-unfolding requestFrame framed functionOf parameterByte bytesOf
-request-parameter q = refl
+pub request-parameter : (q : Request) → parameterByte (requestFrame q) ≡ q .parameter
+unfolding requestFrame framed parameterByte bytesOf
+request-parameter q = rw (reading-back (q .reading)) refl
 
-request-again : (q : Request) → requestIn (requestFrame q) ≡ q
+pub request-again : (q : Request) → requestIn (requestFrame q) ≡ q
 unfolding requestFrame framed requestIn
-request-again q = refl
+request-again q = rw (reading-back (q .reading)) refl
 
 -- a request that is answered with 0 asks for something
 pub asked : (r : Record) (q : Request) → verdictOn r (requestFrame q) ≡ Done → askable (subjectOf q (slotsOf (r .minutes))) ≡ true
@@ -121,24 +125,24 @@ asked r q h =
 
 -- the reply's bytes before its CRC
 body : (r : Record) (s : List ℕ) (q : Request)
-    → headOf Done (requestFrame q) ++ dataOf r s (requestFrame q) ≡ replyBody q (figuresOf (parameterOf (q .parameter)) r s q)
-unfolding headOf functionFor dataOf requestFrame framed functionOf requestIn parameterByte bytesOf
-body r s q = refl
+    → headOf Done (requestFrame q) ++ dataOf r s (requestFrame q) ≡ replyBody q (figuresAs (q .reading) (parameterOf (q .parameter)) r s q)
+unfolding headOf functionFor dataOf requestFrame framed requestIn parameterByte bytesOf
+body r s q = rw (reading-back (q .reading)) refl
 
 length-of-data : (r : Record) (s : List ℕ) (q : Request)
-    → length (dataOf r s (requestFrame q)) ≡ length (figuresOf (parameterOf (q .parameter)) r s q)
-unfolding dataOf requestFrame framed functionOf requestIn parameterByte bytesOf
-length-of-data r s q = refl
+    → length (dataOf r s (requestFrame q)) ≡ length (figuresAs (q .reading) (parameterOf (q .parameter)) r s q)
+unfolding dataOf requestFrame framed requestIn parameterByte bytesOf
+length-of-data r s q = rw (reading-back (q .reading)) refl
 
-figures-small : (p : Parameter) (r : Record) (s : List ℕ) (q : Request) → length (figuresOf p r s q) ≤ 48
-figures-small p r s q = rw length-figures (reply-small p (q .detail))
+figures-small : (p : Parameter) (r : Record) (s : List ℕ) (q : Request) → length (figuresAs (q .reading) p r s q) ≤ 48
+figures-small p r s q = rw (length-as (q .reading) p r s q) (reply-small (q .reading) p (q .detail))
 
 -- the reply, taken from the lent output
 reply-is : (r : Record) (s : List ℕ) (q : Request) (out : List ℕ) → Passed r s (requestFrame q) out
-    → replyIn (answered r s q out) ≡ framed (replyBody q (figuresOf (parameterOf (q .parameter)) r s q))
+    → replyIn (answered r s q out) ≡ framed (replyBody q (figuresAs (q .reading) (parameterOf (q .parameter)) r s q))
 reply-is r s q out p =
     let f = requestFrame q in
-    let figures = figuresOf (parameterOf (q .parameter)) r s q in
+    let figures = figuresAs (q .reading) (parameterOf (q .parameter)) r s q in
     let d : length (dataOf r s f) ≡ length figures = length-of-data r s q in
     let small : length figures ≤ 48 = figures-small (parameterOf (q .parameter)) r s q in
     let l : length (framed (replyBody q figures)) ≡ 6 + length (dataOf r s f) = length-framed (replyBody q figures) ∙ omega (arith, d) in
@@ -149,27 +153,44 @@ reply-is r s q out p =
 -- the reader's answer to it
 decoded-is : (r : Record) (s : List ℕ) (q : Request) → Within r → FitsRecord r → Bytes s → FitsRequest q
     → askable (subjectOf q (slotsOf (r .minutes))) ≡ true
-    → decodedOf q (framed (replyBody q (figuresOf (parameterOf (q .parameter)) r s q))) ≡ ownFigures (parameterOf (q .parameter)) r s q
+    → decodedOf q (framed (replyBody q (figuresAs (q .reading) (parameterOf (q .parameter)) r s q)))
+    ≡ ownAs (q .reading) (parameterOf (q .parameter)) r s q
 unfolding decodedOf repliedOf framed subjectOf
 decoded-is r s q w f b k h =
     let p = parameterOf (q .parameter) in
     let slots = slotsOf (r .minutes) in
-    let figures = figuresOf p r s q in
+    let figures = figuresAs (q .reading) p r s q in
     let y = framed (replyBody q figures) in
-    let size : length figures ≡ dataBytes (subjectFor p q slots) = length-figures p r s q ∙ sym (same-size p q slots h) in
+    let size : length figures ≡ dataBytes (subjectFor p q slots) = length-as (q .reading) p r s q ∙ sym (same-size p q slots h) in
     let bytes : OfBytes (replyBody q figures) =
-    bytes-cons (q .address) (k .address) (bytes-cons 3 (lit≤ tt) (bytes-cons (q .parameter) (k .parameter) (bytes-cons 0 (lit≤ tt) (figures-bytes p r s q w f)))) in
+    bytes-cons (q .address) (k .address) (bytes-cons (readingCode (q .reading)) (code-byte (q .reading))
+    (bytes-cons (q .parameter) (k .parameter) (bytes-cons 0 (lit≤ tt) (as-bytes (q .reading) p r s q w f)))) in
     let formed = reply-formed q figures (dataBytes (subjectFor p q slots)) bytes size in
     rw (subject-wider q slots (slots-at-most (r .minutes)) h, h, formed)
     (found-again p r s q slots (bytesOf 2 (crcOf (replyBody q figures))) w f (slice-fits s (keyOf q) b) h)
 
 pub read : (r : Record) (s : List ℕ) (q : Request) (out : List ℕ) → FitsRecord r → Bytes s → FitsRequest q
-    → answerNumber (answered r s q out) ≡ 0 → decodedOf q (replyIn (answered r s q out)) ≡ ownFigures (parameterOf (q .parameter)) r s q
+    → answerNumber (answered r s q out) ≡ 0 → decodedOf q (replyIn (answered r s q out)) ≡ ownAs (q .reading) (parameterOf (q .parameter)) r s q
 unfolding isSound
 read r s q out f b k h =
     let p = passed r s (requestFrame q) out h in
     let w = within r (both (eqb (length s) storeBytes) (isWithin r) (p .sound) .1) in
     ap (decodedOf q) (reply-is r s q out p) ∙ decoded-is r s q w f b k (asked r q (p .verdict))
+
+-- six slices are asked for with function 3 alone
+six-as : (x : Reading) (r : Record) (s : List ℕ) (q : Request) → opensTo x (rowOf parameter.SixSlices) ≡ true
+    → figuresAs x parameter.SixSlices r s q ≡ sixBytes (sixOf s (keyOf q))
+six-as Stored r s q h = refl
+six-as Displayed r s q h = absurd (false≢true h)
+
+six-stored : (r : Record) (s : List ℕ) (q : Request) → parameterOf (q .parameter) ≡ parameter.SixSlices
+    → askable (subjectOf q (slotsOf (r .minutes))) ≡ true
+    → figuresAs (q .reading) (parameterOf (q .parameter)) r s q ≡ sixBytes (sixOf s (keyOf q))
+unfolding subjectOf
+six-stored r s q e h =
+    let opened = request.asked (parameterOf (q .parameter)) q (slotsOf (r .minutes)) h .open-to in
+    ap (λ (x : Parameter). figuresAs (q .reading) x r s q) e
+    ∙ six-as (q .reading) r s q (ap (λ (x : Parameter). opensTo (q .reading) (rowOf x)) (sym e) ∙ opened)
 
 pub six-slices : (r : Record) (s : List ℕ) (q : Request) (out : List ℕ) → Bytes s
     → parameterOf (q .parameter) ≡ parameter.SixSlices → answerNumber (answered r s q out) ≡ 0
@@ -177,7 +198,7 @@ pub six-slices : (r : Record) (s : List ℕ) (q : Request) (out : List ℕ) → 
 unfolding framed
 six-slices r s q out b e h =
     let p = passed r s (requestFrame q) out h in
-    let figures : figuresOf (parameterOf (q .parameter)) r s q ≡ sixBytes (sixOf s (keyOf q)) = ap (λ (x : Parameter). figuresOf x r s q) e in
+    let figures = six-stored r s q e (asked r q (p .verdict)) in
     ap (λ (y : List ℕ). sixIn (replyData y)) (reply-is r s q out p ∙ ap (λ (x : List ℕ). framed (replyBody q x)) figures)
     ∙ six-again s (keyOf q) (bytesOf 2 (crcOf (replyBody q (sixBytes (sixOf s (keyOf q)))))) b
 
@@ -189,7 +210,7 @@ unfolding framed
 six-in-output r s q out b e h =
     let p = passed r s (requestFrame q) out h in
     let rows = sixBytes (sixOf s (keyOf q)) in
-    let figures : figuresOf (parameterOf (q .parameter)) r s q ≡ rows = ap (λ (x : Parameter). figuresOf x r s q) e in
+    let figures = six-stored r s q e (asked r q (p .verdict)) in
     let crc = bytesOf 2 (crcOf (replyBody q rows)) in
     let frame = framed (replyBody q rows) in
     let small : length rows ≤ 48 = rw (sym figures) (figures-small (parameterOf (q .parameter)) r s q) in
@@ -203,29 +224,56 @@ six-in-output r s q out b e h =
 
 -- ---- "A refusal frame decodes to 24 with its result"
 
+-- the refusal frame's bytes before its CRC
+abbrev refusalBody : Request → ℕ → List ℕ
+refusalBody q k = q .address ∷ (128 + readingCode (q .reading)) ∷ q .parameter ∷ k ∷ []
+
 refusal-decoded : (q : Request) (k : ℕ) → k < 256 → eqb k 0 ≡ false → FitsRequest q → askable (subjectOf q mostSlots) ≡ true
-    → decodedOf q (framed (q .address ∷ 131 ∷ q .parameter ∷ k ∷ [])) ≡ decoded.MeterRefused k
+    → decodedOf q (framed (refusalBody q k)) ≡ decoded.MeterRefused k
 unfolding decodedOf repliedOf formOf lengthFor form.functionFor form.headOf framed bytesOf
 refusal-decoded q k small n f h =
-    let bytes : OfBytes (q .address ∷ 131 ∷ q .parameter ∷ k ∷ []) =
-    bytes-cons (q .address) (f .address) (bytes-cons 131 (lit≤ tt) (bytes-cons (q .parameter) (f .parameter) (bytes-cons k small nil))) in
-    simp (h, n, crcFits-framed (q .address ∷ 131 ∷ q .parameter ∷ k ∷ []) (bytes .each), eq-eqb (q .address) (q .address) refl, eq-eqb (q .parameter) (q .parameter) refl)
+    let code = 128 + readingCode (q .reading) in
+    let bytes : OfBytes (refusalBody q k) =
+    bytes-cons (q .address) (f .address) (bytes-cons code (refused-byte (q .reading)) (bytes-cons (q .parameter) (f .parameter) (bytes-cons k small nil))) in
+    simp (
+      h,
+      n,
+      refused-top (q .reading),
+      crcFits-framed (refusalBody q k) (bytes .each),
+      eq-eqb (q .address) (q .address) refl,
+      eq-eqb code code refl,
+      eq-eqb (q .parameter) (q .parameter) refl,
+    )
 
--- the refusal frame that a request gets, decoded
+-- the refusal frame that a request gets
+refusal-head : (q : Request) (v : Verdict) → isDone v ≡ false → headOf v (requestFrame q) ≡ refusalBody q (resultOf v)
+unfolding headOf functionFor requestFrame framed parameterByte bytesOf
+refusal-head q v e = simp (e, reading-back (q .reading), code-below (q .reading))
+
+-- its result is one that the reader can tell
+record Told (k : ℕ) : Type 0 where
+  byte : k < 256
+  some : eqb k 0 ≡ false
+
+result-told : (v : Verdict) → isDone v ≡ false → Told (resultOf v)
+result-told Done e = absurd (false≢true (sym e))
+result-told TooShort e = record { byte = lit≤ tt; some = refl }
+result-told Unsound e = record { byte = lit≤ tt; some = refl }
+result-told Silent e = record { byte = lit≤ tt; some = refl }
+result-told UnknownFunction e = record { byte = lit≤ tt; some = refl }
+result-told UnknownParameter e = record { byte = lit≤ tt; some = refl }
+result-told NotOpen e = record { byte = lit≤ tt; some = refl }
+result-told WrongLength e = record { byte = lit≤ tt; some = refl }
+result-told ByAddressZero e = record { byte = lit≤ tt; some = refl }
+result-told NoAccess e = record { byte = lit≤ tt; some = refl }
+result-told WrongArgument e = record { byte = lit≤ tt; some = refl }
+
+-- and decoded
 refusal-of : (q : Request) (v : Verdict) → FitsRequest q → askable (subjectOf q mostSlots) ≡ true → isDone v ≡ false
     → decodedOf q (framed (headOf v (requestFrame q))) ≡ decoded.MeterRefused (resultOf v)
-unfolding headOf functionFor requestFrame framed functionOf parameterByte bytesOf
-refusal-of q Done f h e = absurd (false≢true (sym e))
-refusal-of q TooShort f h e = refusal-decoded q 3 (lit≤ tt) refl f h
-refusal-of q Unsound f h e = refusal-decoded q 3 (lit≤ tt) refl f h
-refusal-of q Silent f h e = refusal-decoded q 3 (lit≤ tt) refl f h
-refusal-of q UnknownFunction f h e = refusal-decoded q 1 (lit≤ tt) refl f h
-refusal-of q UnknownParameter f h e = refusal-decoded q 2 (lit≤ tt) refl f h
-refusal-of q NotOpen f h e = refusal-decoded q 3 (lit≤ tt) refl f h
-refusal-of q WrongLength f h e = refusal-decoded q 3 (lit≤ tt) refl f h
-refusal-of q ByAddressZero f h e = refusal-decoded q 4 (lit≤ tt) refl f h
-refusal-of q NoAccess f h e = refusal-decoded q 4 (lit≤ tt) refl f h
-refusal-of q WrongArgument f h e = refusal-decoded q 3 (lit≤ tt) refl f h
+refusal-of q v f h e =
+    let t = result-told v e in
+    ap (λ (body : List ℕ). decodedOf q (framed body)) (refusal-head q v e) ∙ refusal-decoded q (resultOf v) (t .byte) (t .some) f h
 
 -- a refused command's answer, whole
 refused-whole : (r : Record) (s f out : List ℕ) → 64 ≤ length out → isSound r s ≡ true → heard r f ≡ true → isDone (verdictOn r f) ≡ false

@@ -19,14 +19,19 @@ use Rattle.calendar.specs.Time.{isTime, secondNumber, centurySeconds}
 use Rattle.calendar.proofs.TimeLaws.{time-ranges, is-time}
 use Rattle.calendar.specs.declared.time.DateTime.{DateTime}
 use Rattle.figures.specs.Clock.{dateTimeBytes}
+use Rattle.figures.specs.Displayed.{energiesBytes}
 use Rattle.figures.specs.Mask.{maskBytes}
 use Rattle.figures.specs.Power.{totalOf, bitsOf, powerBytes, powersBytes}
 use Rattle.figures.specs.Telemetry.{telemetryBytes}
+use Rattle.figures.specs.declared.displayed.Energies.{Energies}
 use Rattle.figures.specs.declared.power.Phases.{Phases}
 use Rattle.frame.specs.Sealing.{framed}
 use Rattle.frame.proofs.SealingLaws.{length-framed, crcFits-framed}
 use Rattle.frame.specs.declared.code.Parameter.{Parameter}
 use Rattle.frame.specs.declared.code.Parameter.the-variants as parameter
+use Rattle.frame.specs.declared.code.Reading.{Reading}
+use Rattle.frame.specs.declared.code.Reading.the-variants.{Stored, Displayed}
+use Rattle.frame.specs.Code.{readingCode}
 use Rattle.request.specs.Subject.{keyOf}
 use Rattle.request.specs.declared.request.Request.{Request}
 use Rattle.meter_clock.specs.Season.{isSwitchable, isChoice, sunday, onHour, chosenDate}
@@ -39,9 +44,10 @@ use Rattle.meter_store.proofs.StoreLaws.{RowFits}
 use Rattle.meter_record.proofs.RangeLaws.{Within}
 use Rattle.meter_record.specs.Widths.{FitsRecord}
 use Rattle.meter_record.specs.declared.record.Record.{Record}
-use Rattle.meter_reading.specs.Reading.{phase, powerData, sixBytes, figuresOf}
+use Rattle.meter_reading.specs.Reading.{phase, powerData, sixBytes, displayedOf, figuresOf, figuresAs}
 use Rattle.reader.specs.Form.{lengthFor, functionFor, headOf, formOf}
 use Rattle.reader.specs.declared.form.Form.the-variants.{WellFormed}
+use Rattle.demands.proofs.Reading.{code-below}
 
 -- ---- lists of bytes
 
@@ -156,7 +162,7 @@ six-bytes rows =
     let row : (i : ℕ) → OfBytes (rowBytes (getD rows i [])) = λ i. row-bytes (getD rows i []) in
     append (row 0) (append (row 1) (append (row 2) (append (row 3) (append (row 4) (row 5)))))
 
-pub figures-bytes : (p : Parameter) (r : Record) (s : List ℕ) (q : Request) → Within r → FitsRecord r → OfBytes (figuresOf p r s q)
+figures-bytes : (p : Parameter) (r : Record) (s : List ℕ) (q : Request) → Within r → FitsRecord r → OfBytes (figuresOf p r s q)
 unfolding telemetryBytes maskBytes
 figures-bytes p r s q w f = go p
   where
@@ -181,19 +187,36 @@ figures-bytes p r s q w f = go p
     go parameter.Password = nil
     go parameter.Unknown = nil
 
+energies-bytes : (e : Energies) → OfBytes (energiesBytes e)
+unfolding energiesBytes
+energies-bytes e =
+    append (of-number 4 (e .«e_plus» .0)) (append (of-number 4 (e .«e_minus» .0)) (append (of-number 4 (e .«r_plus» .0)) (of-number 4 (e .«r_minus» .0))))
+
+pub as-bytes : (x : Reading) (p : Parameter) (r : Record) (s : List ℕ) (q : Request) → Within r → FitsRecord r → OfBytes (figuresAs x p r s q)
+as-bytes Stored p r s q w f = figures-bytes p r s q w f
+as-bytes Displayed p r s q w f = energies-bytes (displayedOf r (sliceOf s (keyOf q)))
+
 -- ---- the reply
 
 -- the reply to a read that is done
 abbrev pub replyBody : Request → List ℕ → List ℕ
-replyBody q figures = q .address ∷ 3 ∷ q .parameter ∷ 0 ∷ figures
+replyBody q figures = q .address ∷ readingCode (q .reading) ∷ q .parameter ∷ 0 ∷ figures
 
 -- it is well formed for the reader that asked
 pub reply-formed : (q : Request) (figures : List ℕ) (n : ℕ) → OfBytes (replyBody q figures) → length figures ≡ n
-    → formOf (q .address) 3 (q .parameter) (6 + n) (framed (replyBody q figures)) ≡ WellFormed
+    → formOf (q .address) (readingCode (q .reading)) (q .parameter) (6 + n) (framed (replyBody q figures)) ≡ WellFormed
 unfolding formOf lengthFor functionFor headOf framed
 reply-formed q figures n b e =
     let l : length (framed (replyBody q figures)) ≡ 6 + n = length-framed (replyBody q figures) ∙ omega (arith, e) in
-    simp (eq-eqb _ _ l, crcFits-framed (replyBody q figures) (b .each), eq-eqb (q .address) (q .address) refl, eq-eqb (q .parameter) (q .parameter) refl)
+    let code = readingCode (q .reading) in
+    simp (
+      code-below (q .reading),
+      eq-eqb _ _ l,
+      crcFits-framed (replyBody q figures) (b .each),
+      eq-eqb (q .address) (q .address) refl,
+      eq-eqb code code refl,
+      eq-eqb (q .parameter) (q .parameter) refl,
+    )
 
 -- what was written to the front of a longer output reads back
 pub front-again : (out bs : List ℕ) (n : ℕ) → length bs ≡ n → n ≤ length out → take n (written out 0 bs) ≡ bs

@@ -14,6 +14,7 @@ use Rattle.words.specs.Place.{numberAt}
 use Rattle.frame.specs.Table.{parameterOf}
 use Rattle.frame.specs.declared.code.Function.the-variants as function
 use Rattle.frame.specs.declared.code.Parameter.the-variants as parameter
+use Rattle.frame.specs.declared.code.Reading.{Reading}
 use Rattle.request.specs.Request.{requestFrame}
 use Rattle.request.specs.Subject.{keyOf, subjectOf, mostSlots, askable}
 use Rattle.request.specs.declared.request.Request.{Request}
@@ -33,7 +34,7 @@ use Rattle.meter.specs.Reply.{Outcome, isSound, heard, verdictOn, answerOf}
 use Rattle.meter_inquiry.specs.Inquiry as inquiry
 use Rattle.meter_inquiry.specs.declared.Inquired.the-variants.{Told}
 use Rattle.demands.specs.Demand1.{answerNumber}
-use Rattle.demands.specs.Figures.{ownFigures}
+use Rattle.demands.specs.Figures.{ownAs}
 use Rattle.demands.specs.Changes.{Permitted, Leaves}
 
 -- the meter's answer to a read request, and the bytes of its reply
@@ -49,17 +50,18 @@ pub record FitsRequest (q : Request) : Type 0 where
   pub parameter : q .parameter < 256
 
 pub record Demand2 : Type 0 where
-  -- "What the bench meter answers from its record, the reader decodes to the same figures": every reply with result 0; its six rows, which the
+  -- "What the bench meter answers from its record, the reader decodes to the same figures": every reply with result 0, with
+  -- function 3 and with function 4; its six rows, which the
   -- reader takes beside the decoding; "24: meter's result not 0; returned"; and all of it as one call, `inquire`
   pub read : (r : Record) (s : List ℕ) (q : Request) (out : List ℕ) → FitsRecord r → Bytes s → FitsRequest q
-      → answerNumber (answered r s q out) ≡ 0 → decodedOf q (replyIn (answered r s q out)) ≡ ownFigures (parameterOf (q .parameter)) r s q
+      → answerNumber (answered r s q out) ≡ 0 → decodedOf q (replyIn (answered r s q out)) ≡ ownAs (q .reading) (parameterOf (q .parameter)) r s q
   pub six-slices : (r : Record) (s : List ℕ) (q : Request) (out : List ℕ) → Bytes s → parameterOf (q .parameter) ≡ parameter.SixSlices
       → answerNumber (answered r s q out) ≡ 0 → rows.sixOf (rows.replyData (replyIn (answered r s q out))) ≡ sixOf s (keyOf q)
   pub refused : (r : Record) (s : List ℕ) (q : Request) (out : List ℕ) → FitsRequest q → askable (subjectOf q mostSlots) ≡ true
       → 64 ≤ length out → isSound r s ≡ true → heard r (requestFrame q) ≡ true → isDone (verdictOn r (requestFrame q)) ≡ false
       → decodedOf q (replyIn (answered r s q out)) ≡ decoded.MeterRefused (resultOf (verdictOn r (requestFrame q)))
   pub inquired : (r : Record) (s : List ℕ) (q : Request) (out : List ℕ) → FitsRecord r → Bytes s → FitsRequest q
-      → let o = inquiry.inquired r s q out in inquiry.numberOf (o .answer) ≡ 0 → o .answer ≡ Told (ownFigures (parameterOf (q .parameter)) r s q)
+      → let o = inquiry.inquired r s q out in inquiry.numberOf (o .answer) ≡ 0 → o .answer ≡ Told (ownAs (q .reading) (parameterOf (q .parameter)) r s q)
   -- the rows that the console says after `inquire`: it hands all of the output to the reader's `six_slices`
   pub inquired-six : (r : Record) (s : List ℕ) (q : Request) (out : List ℕ) → Bytes s → FitsRequest q → parameterOf (q .parameter) ≡ parameter.SixSlices
       → let o = inquiry.inquired r s q out in inquiry.numberOf (o .answer) ≡ 0 → rows.sixOf (rows.replyData (o .out)) ≡ sixOf s (keyOf q)
@@ -80,5 +82,5 @@ pub record Demand2 : Type 0 where
       → (numberAt f 4 8 ≡ passwordFor (r .passwords) (detailIn f) → ⊥) → Leaves r s (answerOf r s f out)
   pub lock : (r : Record) (s f out : List ℕ) → functionIn f ≡ function.Lock → let o = answerOf r s f out in answerNumber o ≡ 0
       → Leaves (withProtection r shut) s o
-  pub read-changes-nothing : (r : Record) (s f out : List ℕ) → functionIn f ≡ function.Read → let o = answerOf r s f out in answerNumber o ≡ 0
-      → Leaves r s o
+  pub read-changes-nothing : (reading : Reading) (r : Record) (s f out : List ℕ) → functionIn f ≡ function.Read reading
+      → let o = answerOf r s f out in answerNumber o ≡ 0 → Leaves r s o

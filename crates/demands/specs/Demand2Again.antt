@@ -10,6 +10,7 @@ use Rattle.figures.specs.declared.power.Phases.{Phases}
 use Rattle.frame.specs.Table.{rowOf, parameterOf}
 use Rattle.frame.specs.declared.code.Function.the-variants as function
 use Rattle.frame.specs.declared.code.Parameter.the-variants as parameter
+use Rattle.frame.specs.declared.code.Reading.the-variants.{Stored}
 use Rattle.slots.specs.Day.{slotsOf}
 use Rattle.slots.specs.Key.{isLegal}
 use Rattle.slots.specs.declared.key.Key.{Key}
@@ -33,14 +34,15 @@ use Rattle.meter.specs.Reply.{Outcome, isSound, answerOf}
 use Rattle.demands.specs.Demand1.{answerNumber}
 use Rattle.demands.specs.Demand2.{answered, replyIn}
 use Rattle.demands.specs.Demand2Done.{BytesRequest}
-use Rattle.demands.specs.Figures.{ownPower, fourCounts, ownFigures}
+use Rattle.demands.specs.Figures.{ownPower, fourCounts, ownAs}
 
--- reads of a meter by its own address: a parameter with a detail, and slices by a key
+-- reads of a meter by its own address, with function 3: a parameter with a detail, and slices by a key
 abbrev pub readOf : Record → ℕ → ℕ → Request
-readOf r parameter detail = record { address = r .address; parameter = parameter; offset = 0; tariff = 0; detail = detail }
+readOf r parameter detail = record { reading = Stored; address = r .address; parameter = parameter; offset = 0; tariff = 0; detail = detail }
 
 abbrev pub sliceRead : Record → ℕ → Key → Request
-sliceRead r parameter k = record { address = r .address; parameter = parameter; offset = k .month; tariff = k .day; detail = k .number }
+sliceRead r parameter k =
+    record { reading = Stored; address = r .address; parameter = parameter; offset = k .month; tariff = k .day; detail = k .number }
 
 -- what the reader makes of the meter's answer
 abbrev pub readBack : Record → List ℕ → Request → List ℕ → Decoded
@@ -57,7 +59,7 @@ pub record Demand2Again : Type 0 where
   -- a sound meter's own figures, for whatever it has
   pub own : (r : Record) (s : List ℕ) (q : Request) (out : List ℕ) → FitsRecord r → Bytes s → BytesRequest q → 64 ≤ length out
       → isSound r s ≡ true → q .address ≡ r .address → askable (subjectOf q (slotsOf (r .minutes))) ≡ true
-      → readBack r s q out ≡ ownFigures (parameterOf (q .parameter)) r s q
+      → readBack r s q out ≡ ownAs (q .reading) (parameterOf (q .parameter)) r s q
   -- a change of what can be read: the bytes written, decoded, by the address that the meter then has
   pub change-read : (r : Record) (s f out room : List ℕ) → Bytes f → functionIn f ≡ function.Change → (rowOf (parameterIn f)) .readable ≡ true
       → let o = answerOf r s f out in Next r s o room

@@ -27,7 +27,7 @@ use Rattle.demands.specs.Demand2Done.{Ready}
 abbrev pub changes : Function → Bool
 changes function.Change = true
 changes function.Zero = true
-changes function.Read = false
+changes (function.Read reading) = false
 changes function.Unlock = false
 changes function.Lock = false
 changes function.Unknown = false
@@ -36,7 +36,7 @@ changes function.Unknown = false
 abbrev pub formFits : Function → List ℕ → Bool
 formFits function.Change f = let w = rowOf (parameterIn f) in w .changeable && eqb (length f) (bareSize + w .«change_bytes»)
 formFits function.Zero f = (rowOf (parameterIn f)) .zeroable && eqb (length f) bareSize
-formFits function.Read f = false
+formFits (function.Read reading) f = false
 formFits function.Unlock f = false
 formFits function.Lock f = false
 formFits function.Unknown f = false

@@ -28,7 +28,7 @@ use Rattle.meter_inquiry.specs.Inquiry.{inquired}
 use Rattle.meter_inquiry.specs.declared.Inquired.the-variants.{Told}
 use Rattle.demands.specs.Demand1.{answerNumber}
 use Rattle.demands.specs.Demand2.{answered, FitsRequest}
-use Rattle.demands.specs.Figures.{ownFigures}
+use Rattle.demands.specs.Figures.{ownAs}
 
 -- the meter is ready for a frame: room for the reply, its record and store within their ranges, and the frame is one that it hears
 pub record Ready (r : Record) (s f out : List ℕ) : Type 0 where
@@ -58,7 +58,7 @@ pub record Demand2Done : Type 0 where
       → askable (subjectOf q (slotsOf (r .minutes))) ≡ true → answerNumber (answered r s q out) ≡ 0
   -- the same as one call, `inquire` (that it leaves the store, `Demand1Inquire` says)
   pub inquired-done : (r : Record) (s : List ℕ) (q : Request) (out : List ℕ) → Ready r s (requestFrame q) out → FitsRecord r → Bytes s → FitsRequest q
-      → askable (subjectOf q (slotsOf (r .minutes))) ≡ true → (inquired r s q out) .answer ≡ Told (ownFigures (parameterOf (q .parameter)) r s q)
+      → askable (subjectOf q (slotsOf (r .minutes))) ≡ true → (inquired r s q out) .answer ≡ Told (ownAs (q .reading) (parameterOf (q .parameter)) r s q)
   -- a change and a zeroing of a parameter that can be changed or zeroed, of its length, by the meter's own address, with the access it needs and a
   -- right argument
   pub change-done : (r : Record) (s f out : List ℕ) → Ready r s f out → met r f ≡ Own → functionIn f ≡ function.Change → let w = rowOf (parameterIn f) in

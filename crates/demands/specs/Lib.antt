@@ -6,6 +6,7 @@ pub mod Demand1Inquire
 pub mod Demand2Done
 pub mod Demand2ByZero
 pub mod Demand2Again
+pub mod Function4
 pub mod Demand3
 pub mod Faults
 pub mod Examples

@@ -3,3 +3,4 @@ pub mod TelemetryLaws
 pub mod MaskLaws
 pub mod PowerLaws
 pub mod Within
+pub mod DisplayedLaws

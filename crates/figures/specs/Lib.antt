@@ -2,3 +2,4 @@ pub mod Clock
 pub mod Telemetry
 pub mod Mask
 pub mod Power
+pub mod Displayed

@@ -1,6 +1,6 @@
 -- Parameters 8 and 9. Source: document 01, "Powers": "three phase powers in floating point belong together as one reading; detail 0
 -- answers the total and A, B, C, details 1 to 3 one phase. The total is (A + B) + C, each sum rounded once to 32 bits."; 002, figure 9 (page 9).
-use mathlib.Core.Bool.{cond}
+use mathlib.Core.Bool.{Bool, cond}
 use mathlib.Core.List.{List, _++_}
 use Prim.Native.Nat.{ℕ}
 use lib.ListN.{drop}
@@ -24,6 +24,10 @@ totalOf p = add binary32 (add binary32 (p .a) (p .b)) (p .c)
 -- the float that four bytes from place i on stand for
 unfoldable pub floatAt : List ℕ → ℕ → Float
 floatAt bs i = ofBits binary32 (numberAt bs i 4)
+
+-- whether a float's bits are those of a number
+abbrev pub isFinite : ℕ → Bool
+isFinite n = finite (ofBits binary32 n)
 
 -- one power: document 01's 26 is for "an infinity or no number"
 unfoldable pub powerOf : List ℕ → ℕ → Power

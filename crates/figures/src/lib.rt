@@ -3,12 +3,18 @@
 // Each kind of figure is read from the front of a data part, and written to the front of one; what was written reads back as it
 // was. The bench meter writes and the reader reads through these same definitions.
 mod clock;
+mod displayed;
 mod mask;
 mod power;
 mod telemetry;
 
 pub use clock::date_time_of;
 pub use clock::put_date_time;
+pub use displayed::Energies;
+pub use displayed::EnergiesAnswer;
+pub use displayed::KilowattHours;
+pub use displayed::energies_of;
+pub use displayed::put_energies;
 pub use mask::DisplayMask;
 pub use mask::display_mask;
 pub use mask::put_display_mask;

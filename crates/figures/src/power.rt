@@ -1,6 +1,6 @@
 // Parameters 8 and 9: the powers of three phases and their total, as 32-bit floats.
 ghost use mathlib.Core.Path.{_≡_};
-ghost use Rattle.figures.specs.Power.{totalOf, powerOf, together, phasesOf, powersOf, bitsOf, powerBytes, phasesBytes, powersBytes};
+ghost use Rattle.figures.specs.Power.{totalOf, isFinite, powerOf, together, phasesOf, powersOf, bitsOf, powerBytes, phasesBytes, powersBytes};
 ghost use Rattle.words.specs.Place.{written};
 
 // The phase powers of one reading.
@@ -46,13 +46,21 @@ const INFINITY: u32 = 0x7F80_0000;
 
 const SIGN: u32 = 0x8000_0000;
 
+// Whether a float's bits are those of a number.
+pub fn is_finite(bits: u32) -> bool
+    ensures { λ r. ⌜ r ≡ isFinite bits ⌝ }
+{
+    bits % SIGN < INFINITY
+}
+
 // The power at a place of a data part.
 pub fn power_of(bytes: &[u8], at: usize) -> Power
     ensures { λ r. ⌜ r ≡ powerOf (now (bytes .entry)) at ⌝ }
 {
     let bits = words::u32_at(bytes, at);
-    if bits % SIGN < INFINITY {
-        Power::Finite(f32::from_bits(bits))
+    if is_finite(bits) {
+        let power = f32::from_bits(bits);
+        Power::Finite(power)
     } else {
         Power::NotFinite
     }

@@ -8,6 +8,8 @@ use borrow.Author.Tests.{leb-true}
 use Rattle.case_laws.proofs.Test.{both, either}
 use Rattle.frame.specs.Table.{rowOf, codeOf, firstOf, parameters, parameterOf, byPhase, replyBytes}
 use Rattle.frame.specs.declared.code.Parameter.{Parameter}
+use Rattle.frame.specs.declared.code.Reading.{Reading}
+use Rattle.frame.specs.declared.code.Reading.the-variants.{Stored, Displayed}
 use Rattle.frame.specs.declared.code.Parameter.the-variants.{ActivePower, ReactivePower, Address, Telemetry, SummerDate, WinterDate, Clock, DisplayMask, Slice, Password, SixSlices, Unknown}
 use Rattle.frame.specs.declared.table.Fields.{Fields}
 use Rattle.frame.specs.declared.table.Fields.the-variants.{Unused, Phase, Slot, SixSlots}
@@ -54,9 +56,10 @@ phase-small Unused detail whole h = h
 phase-small Slot detail whole h = h
 phase-small SixSlots detail whole h = h
 
-pub reply-small : (p : Parameter) (detail : ℕ) → replyBytes p detail ≤ 48
+pub reply-small : (reading : Reading) (p : Parameter) (detail : ℕ) → replyBytes reading p detail ≤ 48
 unfolding replyBytes all
-reply-small p detail =
+reply-small Displayed p detail = lit≤ tt
+reply-small Stored p detail =
     phase-small ((rowOf p) .fields) detail ((rowOf p) .«reply_bytes»)
     (leb-true _ _ (every-row (λ (p : Parameter). leb ((rowOf p) .«reply_bytes») 48) refl p))
 

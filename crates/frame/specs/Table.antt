@@ -7,6 +7,8 @@ use mathlib.Core.List.{List, [], _∷_}
 use Prim.Native.Nat.{ℕ}
 use lib.Dec.{eqb}
 use Rattle.frame.specs.declared.code.Parameter.{Parameter}
+use Rattle.frame.specs.declared.code.Reading.{Reading}
+use Rattle.frame.specs.declared.code.Reading.the-variants.{Stored, Displayed}
 use Rattle.frame.specs.declared.table.Access.the-variants.{Auxiliary, Main}
 use Rattle.frame.specs.declared.table.Changes.{Changes}
 use Rattle.frame.specs.declared.table.Fields.{Fields}
@@ -19,14 +21,19 @@ use Rattle.frame.specs.declared.code.Parameter.the-variants as parameter
 
 -- a parameter that can be read: what offset, tariff and detail are, how many bytes the reply's data have, and how many figures
 abbrev pub read : Fields → ℕ → ℕ → Reads
-read fields bytes figures = record { may = true; fields = fields; bytes = bytes; figures = figures }
+read fields bytes figures = record { may = true; displayed = false; fields = fields; bytes = bytes; figures = figures }
+
+-- one that function 4 reads too. Document 02, request 3: "For parameter 36, function 4 answers four 32-bit floats"; "Parameters 8 and 9 and all
+-- others the meter knows answer 12 to function 4 for now"
+abbrev pub readBoth : Fields → ℕ → ℕ → Reads
+readBoth fields bytes figures = record { may = true; displayed = true; fields = fields; bytes = bytes; figures = figures }
 
 -- "Unused fields are 0"
 abbrev pub plain : ℕ → ℕ → Reads
 plain bytes figures = read Unused bytes figures
 
 abbrev pub unread : Reads
-unread = record { may = false; fields = Unused; bytes = 0; figures = 0 }
+unread = record { may = false; displayed = false; fields = Unused; bytes = 0; figures = 0 }
 
 -- one that can be changed: how many bytes the change's data have, and the details that it may have, from and to. "Main opens all changes;
 -- auxiliary opens only network address, port settings and display mask."
@@ -44,6 +51,7 @@ abbrev pub line : ℕ → Reads → Changes → Bool → Row
 line code r c zeroable = record {
   code = code;
   readable = r .may;
+  displayable = r .displayed;
   fields = r .fields;
   «reply_bytes» = r .bytes;
   figures = r .figures;
@@ -69,7 +77,7 @@ rowOf parameter.SummerDate = line 27 (plain 6 6) (byMain 6 0 0) true
 rowOf parameter.WinterDate = line 28 (plain 6 6) (byMain 6 0 0) true
 rowOf parameter.Clock = line 32 (plain 6 6) (byMain 6 2 2) false
 rowOf parameter.DisplayMask = line 35 (plain 6 3) (byAuxiliary 6 0 0) false
-rowOf parameter.Slice = line 36 (read Slot 8 4) fixed true
+rowOf parameter.Slice = line 36 (readBoth Slot 8 4) fixed true
 rowOf parameter.Password = line 37 unread (byMain 8 0 1) false
 rowOf parameter.SixSlices = line 40 (read SixSlots 48 24) fixed false
 rowOf parameter.Unknown = line 0 unread fixed false
@@ -78,6 +86,11 @@ rowOf parameter.Unknown = line 0 unread fixed false
 
 abbrev pub codeOf : Parameter → ℕ
 codeOf p = (rowOf p) .code
+
+-- whether a read opens it: function 3 what can be read, function 4 what it reads too
+abbrev pub opensTo : Reading → Row → Bool
+opensTo Stored w = w .readable
+opensTo Displayed w = w .displayable
 
 -- "every parameter with no bullet of its own": 11
 abbrev pub known : Row → Bool
@@ -106,9 +119,11 @@ byPhase Unused detail whole phase = whole
 byPhase Slot detail whole phase = whole
 byPhase SixSlots detail whole phase = whole
 
--- how many bytes the data of a reply have, and how many figures they are
-unfoldable pub replyBytes : Parameter → ℕ → ℕ
-replyBytes p detail = byPhase ((rowOf p) .fields) detail ((rowOf p) .«reply_bytes») 4
+-- how many bytes the data of a reply have, and how many figures they are; what is displayed is "four 32-bit floats" (document 02, request 3)
+unfoldable pub replyBytes : Reading → Parameter → ℕ → ℕ
+replyBytes Stored p detail = byPhase ((rowOf p) .fields) detail ((rowOf p) .«reply_bytes») 4
+replyBytes Displayed p detail = 16
 
-unfoldable pub figureCount : Parameter → ℕ → ℕ
-figureCount p detail = byPhase ((rowOf p) .fields) detail ((rowOf p) .figures) 1
+unfoldable pub figureCount : Reading → Parameter → ℕ → ℕ
+figureCount Stored p detail = byPhase ((rowOf p) .fields) detail ((rowOf p) .figures) 1
+figureCount Displayed p detail = 4

@@ -1,9 +1,11 @@
 // The codes of the SS-301 operator's instruction 3.16.
 ghost use mathlib.Core.Path.{_≡_};
-ghost use Rattle.frame.specs.Code.{functionOf};
+ghost use Rattle.frame.specs.Code.{functionOf, readingCode};
 
 // Functions (sections 4 and 5).
 pub const READ: u8 = 3;
+
+pub const READ_DISPLAYED: u8 = 4;
 
 pub const CHANGE: u8 = 16;
 
@@ -51,8 +53,16 @@ pub const WRONG_ARGUMENT: u8 = 3;
 
 pub const NO_ACCESS: u8 = 4;
 
+// What a read is answered with.
+pub enum Reading {
+    // Figures as the meter keeps them.
+    Stored,
+    // Figures as its display shows them.
+    Displayed,
+}
+
 pub enum Function {
-    Read,
+    Read(Reading),
     Change,
     Zero,
     Unlock,
@@ -79,11 +89,22 @@ pub fn function_of(code: u8) -> Function
     ensures { λ r. ⌜ r ≡ functionOf code ⌝ }
 {
     match code {
-        READ => Function::Read,
+        READ => Function::Read(Reading::Stored),
+        READ_DISPLAYED => Function::Read(Reading::Displayed),
         CHANGE => Function::Change,
         ZERO => Function::Zero,
         UNLOCK => Function::Unlock,
         LOCK => Function::Lock,
         _ => Function::Unknown,
+    }
+}
+
+// The function of a read request.
+pub fn reading_code(reading: Reading) -> u8
+    ensures { λ r. ⌜ r ≡ readingCode reading ⌝ }
+{
+    match reading {
+        Reading::Stored => READ,
+        Reading::Displayed => READ_DISPLAYED,
     }
 }

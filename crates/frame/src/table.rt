@@ -9,6 +9,7 @@ use crate::code::DISPLAY_MASK;
 use crate::code::PASSWORD;
 use crate::code::Parameter;
 use crate::code::REACTIVE_POWER;
+use crate::code::Reading;
 use crate::code::SIX_SLICES;
 use crate::code::SLICE;
 use crate::code::SUMMER_DATE;
@@ -16,7 +17,8 @@ use crate::code::TELEMETRY;
 use crate::code::UNKNOWN;
 use crate::code::WINTER_DATE;
 ghost use mathlib.Core.Path.{_≡_};
-ghost use Rattle.frame.specs.Table.{line, read, plain, unread, byMain, byAuxiliary, fixed, rowOf, codeOf, parameterOf, byPhase, replyBytes, figureCount};
+ghost use Rattle.frame.specs.Table.{line, read, readBoth, plain, unread, byMain, byAuxiliary, fixed, rowOf, codeOf};
+ghost use Rattle.frame.specs.Table.{opensTo, parameterOf, byPhase, replyBytes, figureCount};
 
 // What offset, tariff and detail of a read are.
 pub enum Fields {
@@ -39,6 +41,8 @@ pub enum Access {
 pub struct Row {
     pub code: u8,
     pub readable: bool,
+    // Whether it can be read as the display shows it.
+    pub displayable: bool,
     pub fields: Fields,
     // The data of a reply: bytes, and figures in them.
     pub reply_bytes: usize,
@@ -55,6 +59,7 @@ pub struct Row {
 // A row's columns for reads, and those for changes.
 struct Reads {
     may: bool,
+    displayed: bool,
     fields: Fields,
     bytes: usize,
     figures: usize,
@@ -72,6 +77,11 @@ struct Changes {
 const PHASE_BYTES: usize = 4;
 
 const PHASE_FIGURES: usize = 1;
+
+// Those of a reply with what the display shows: four 32-bit floats.
+const DISPLAYED_BYTES: usize = 16;
+
+const DISPLAYED_FIGURES: usize = 4;
 
 pub fn row_of(p: Parameter) -> Row
     ensures { λ r. ⌜ r ≡ rowOf p ⌝ }
@@ -91,7 +101,7 @@ pub fn row_of(p: Parameter) -> Row
         Parameter::WinterDate => line(WINTER_DATE, plain(6, 6), by_main(6, 0, 0), true),
         Parameter::Clock => line(CLOCK, plain(6, 6), by_main(6, 2, 2), false),
         Parameter::DisplayMask => line(DISPLAY_MASK, plain(6, 3), by_auxiliary(6, 0, 0), false),
-        Parameter::Slice => line(SLICE, read(Fields::Slot, 8, 4), fixed(), true),
+        Parameter::Slice => line(SLICE, read_both(Fields::Slot, 8, 4), fixed(), true),
         Parameter::Password => line(PASSWORD, unread(), by_main(8, 0, 1), false),
         Parameter::SixSlices => line(SIX_SLICES, read(Fields::SixSlots, 48, 24), fixed(), false),
         Parameter::Unknown => line(UNKNOWN, unread(), fixed(), false),
@@ -106,6 +116,7 @@ fn line(code: u8, reads: Reads, changes: Changes, zeroable: bool) -> Row
     Row {
         code: code,
         readable: reads.may,
+        displayable: reads.displayed,
         fields: fields,
         reply_bytes: reads.bytes,
         figures: reads.figures,
@@ -123,6 +134,19 @@ fn read(fields: Fields, bytes: usize, figures: usize) -> Reads
 {
     Reads {
         may: true,
+        displayed: false,
+        fields: fields,
+        bytes: bytes,
+        figures: figures,
+    }
+}
+
+fn read_both(fields: Fields, bytes: usize, figures: usize) -> Reads
+    ensures { λ r. ⌜ r ≡ readBoth fields bytes figures ⌝ }
+{
+    Reads {
+        may: true,
+        displayed: true,
         fields: fields,
         bytes: bytes,
         figures: figures,
@@ -140,6 +164,7 @@ fn unread() -> Reads
 {
     Reads {
         may: false,
+        displayed: false,
         fields: Fields::Unused,
         bytes: 0,
         figures: 0,
@@ -188,7 +213,17 @@ pub fn code_of(p: Parameter) -> u8
     row_of(p).code
 }
 
-// The other direction.
+// Whether a read opens a parameter.
+pub fn opens_to(reading: Reading, row: Row) -> bool
+    ensures { λ r. ⌜ r ≡ opensTo reading row ⌝ }
+{
+    match reading {
+        Reading::Stored => row.readable,
+        Reading::Displayed => row.displayable,
+    }
+}
+
+// The other direction of `code_of`.
 pub fn parameter_of(code: u8) -> Parameter
     ensures { λ r. ⌜ r ≡ parameterOf code ⌝ }
 {
@@ -209,20 +244,26 @@ pub fn parameter_of(code: u8) -> Parameter
 }
 
 // How many bytes the data of a reply have, and how many figures: those of the row, save that one phase of a power is a part of it.
-pub fn reply_bytes(p: Parameter, detail: u8) -> usize
-    ensures { λ r. ⌜ r ≡ replyBytes p detail ⌝ }
+pub fn reply_bytes(reading: Reading, p: Parameter, detail: u8) -> usize
+    ensures { λ r. ⌜ r ≡ replyBytes reading p detail ⌝ }
 {
     let row = row_of(p);
     let fields = row.fields;
-    by_phase(fields, detail, row.reply_bytes, PHASE_BYTES)
+    match reading {
+        Reading::Stored => by_phase(fields, detail, row.reply_bytes, PHASE_BYTES),
+        Reading::Displayed => DISPLAYED_BYTES,
+    }
 }
 
-pub fn figure_count(p: Parameter, detail: u8) -> usize
-    ensures { λ r. ⌜ r ≡ figureCount p detail ⌝ }
+pub fn figure_count(reading: Reading, p: Parameter, detail: u8) -> usize
+    ensures { λ r. ⌜ r ≡ figureCount reading p detail ⌝ }
 {
     let row = row_of(p);
     let fields = row.fields;
-    by_phase(fields, detail, row.figures, PHASE_FIGURES)
+    match reading {
+        Reading::Stored => by_phase(fields, detail, row.figures, PHASE_FIGURES),
+        Reading::Displayed => DISPLAYED_FIGURES,
+    }
 }
 
 fn by_phase(fields: Fields, detail: u8, whole: usize, phase: usize) -> usize

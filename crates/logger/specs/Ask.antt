@@ -8,6 +8,7 @@ use lib.ListN.{length}
 use Rattle.refusal.specs.Outcome.{Outcome, outcome}
 use Rattle.words.specs.Place.{written}
 use Rattle.frame.specs.Code.{slice}
+use Rattle.frame.specs.declared.code.Reading.the-variants.{Stored}
 use Rattle.frame.specs.Layout.{readSize}
 use Rattle.request.specs.Request.{requestFrame}
 use Rattle.calendar.specs.Date.{dateOf, dayNumber}
@@ -30,9 +31,9 @@ answered a held s = outcome (record { answer = a; held = held }) s
 abbrev pub dateOfDay : Header → ℕ → Date
 dateOfDay h day = dateOf (dayNumber (h .start) + day)
 
--- the request for a slice: its month and day, and its number in the day
+-- the request for a slice: its month and day, and its number in the day; "the log takes function 3 only" (document 02, request 3)
 abbrev pub sliceRequest : ℕ → Date → ℕ → Request
-sliceRequest address d slot = record { address = address; parameter = slice; offset = d .month; tariff = d .day; detail = slot }
+sliceRequest address d slot = record { reading = Stored; address = address; parameter = slice; offset = d .month; tariff = d .day; detail = slot }
 
 -- the frame of an ask
 unfoldable pub askFrame : Header → ℕ → ℕ → ℕ → List ℕ

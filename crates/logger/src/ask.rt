@@ -1,6 +1,7 @@
 // Asking for an interval.
 use crate::held::OpenAsk;
 use frame::code;
+use frame::code::Reading;
 use frame::layout::READ_BYTES;
 use log::DayAnswer;
 use log::Header;
@@ -86,6 +87,7 @@ fn put_slot(h: Header, address: u8, day: u8, slot: u8, out: &mut [u8])
     match log::date_of(h, day) {
         DayAnswer::On(date) => {
             let q = Request {
+                reading: Reading::Stored,
                 address: address,
                 parameter: code::SLICE,
                 offset: date.month,

@@ -53,7 +53,7 @@ shut-fits = refl
 
 after-by : (fn : Function) (m : Met) (r : Record) (f : List ℕ) → Within r → isDone (verdictBy fn m r f) ≡ true → Within (afterBy fn r f)
 unfolding verdictBy afterBy
-after-by function.Read m r f w d = w
+after-by (function.Read reading) m r f w d = w
 after-by function.Change m r f w d =
     let a = change-accepted m r f d in
     renewed-within (changed (parameterIn f) r f) (change-within (parameterIn f) r f w (a .fits))

@@ -21,13 +21,17 @@ use Rattle.frame.proofs.SealingLaws.{sealed-written}
 use Rattle.frame.specs.Table.{replyBytes}
 use Rattle.frame.proofs.TableLaws.{reply-small}
 use Rattle.frame.specs.declared.code.Parameter.{Parameter}
+use Rattle.frame.specs.declared.code.Reading.{Reading}
+use Rattle.frame.specs.declared.code.Reading.the-variants.{Stored, Displayed}
+use Rattle.figures.proofs.DisplayedLaws.{length-energies}
+use Rattle.request.specs.Subject.{keyOf}
 use Rattle.request.specs.declared.request.Request.{Request}
-use Rattle.meter_store.specs.Store.{sixOf, rowBytes}
+use Rattle.meter_store.specs.Store.{sliceOf, sixOf, rowBytes}
 use Rattle.meter_record.specs.declared.record.Record.{Record}
 use Rattle.meter_command.specs.Parts.{functionIn, parameterIn, requestIn}
 use Rattle.meter_command.specs.Verdict.{isDone}
 use Rattle.meter_command.specs.declared.verdict.Verdict.{Verdict}
-use Rattle.meter_reading.specs.Reading.{powerData, sixBytes, figuresOf, isRead, dataOf, dataSize}
+use Rattle.meter_reading.specs.Reading.{powerData, sixBytes, figuresOf, displayedOf, figuresAs, isRead, dataOf, dataSize}
 use Rattle.frame.specs.declared.code.Parameter.the-variants as parameter
 use Rattle.meter.specs.Reply.{outcome, isSound, heard, verdictOn, headOf, filled, done, refused, replied, answerOf}
 
@@ -45,7 +49,7 @@ pub length-row : (row : List ℕ) → length (rowBytes row) ≡ 8
 unfolding rowBytes bytesOf
 length-row row = refl
 
-pub length-figures : (p : Parameter) (r : Record) (s : List ℕ) (q : Request) → length (figuresOf p r s q) ≡ replyBytes p (q .detail)
+pub length-figures : (p : Parameter) (r : Record) (s : List ℕ) (q : Request) → length (figuresOf p r s q) ≡ replyBytes Stored p (q .detail)
 unfolding replyBytes telemetryBytes maskBytes dateTimeBytes bytesOf rowBytes sixBytes sixOf
 length-figures parameter.ActivePower r s q = length-power (r .active) (q .detail)
 length-figures parameter.ReactivePower r s q = length-power (r .reactive) (q .detail)
@@ -60,12 +64,18 @@ length-figures parameter.SixSlices r s q = refl
 length-figures parameter.Password r s q = refl
 length-figures parameter.Unknown r s q = refl
 
+pub length-as : (reading : Reading) (p : Parameter) (r : Record) (s : List ℕ) (q : Request)
+    → length (figuresAs reading p r s q) ≡ replyBytes reading p (q .detail)
+unfolding replyBytes
+length-as Stored p r s q = length-figures p r s q
+length-as Displayed p r s q = length-energies (displayedOf r (sliceOf s (keyOf q)))
+
 pub length-data : (r : Record) (s f : List ℕ) → length (dataOf r s f) ≡ dataSize f
 unfolding dataOf dataSize
 length-data r s f = go (isRead (functionIn f)) refl
   where
     go : (b : Bool) → isRead (functionIn f) ≡ b → length (dataOf r s f) ≡ dataSize f
-    go true e = simp e (length-figures (parameterIn f) r s (requestIn f))
+    go true e = simp e (length-as ((requestIn f) .reading) (parameterIn f) r s (requestIn f))
     go false e = simp e
 
 -- six rows are the most
@@ -74,7 +84,7 @@ unfolding dataSize
 data-small f = go (isRead (functionIn f)) refl
   where
     go : (b : Bool) → isRead (functionIn f) ≡ b → dataSize f ≤ 48
-    go true e = simp e (reply-small (parameterIn f) ((requestIn f) .detail))
+    go true e = simp e (reply-small ((requestIn f) .reading) (parameterIn f) ((requestIn f) .detail))
     go false e = simp e (lit≤ tt)
 
 -- ---- a reply's parts, one behind the other

@@ -26,7 +26,7 @@ afterBy function.Change r f = renewed (changed (parameterIn f) r f)
 afterBy function.Zero r f = renewed (zeroed (parameterIn f) r)
 afterBy function.Unlock r f = withProtection r (opened (levelFor (detailIn f)))
 afterBy function.Lock r f = withProtection r shut
-afterBy function.Read r f = r
+afterBy (function.Read reading) r f = r
 afterBy function.Unknown r f = r
 
 -- the record after a command that is done
@@ -39,7 +39,7 @@ isSlice p = eqb (codeOf p) slice
 
 unfoldable pub clearsBy : Function → Parameter → Bool
 clearsBy function.Zero p = isSlice p
-clearsBy function.Read p = false
+clearsBy (function.Read reading) p = false
 clearsBy function.Change p = false
 clearsBy function.Unlock p = false
 clearsBy function.Lock p = false

@@ -38,7 +38,7 @@ pub fn record_after(r: Record, frame: &[u8]) -> Record
             protection: meter_clock::shut(),
             ..r
         },
-        Function::Read => r,
+        Function::Read(_) => r,
         Function::Unknown => r,
     }
 }
@@ -55,7 +55,7 @@ fn clears(frame: &[u8]) -> bool
 {
     match meter_command::function_in(frame) {
         Function::Zero => is_slice(meter_command::parameter_in(frame)),
-        Function::Read => false,
+        Function::Read(_) => false,
         Function::Change => false,
         Function::Unlock => false,
         Function::Lock => false,

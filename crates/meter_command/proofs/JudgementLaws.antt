@@ -9,7 +9,7 @@ use Rattle.words.specs.Place.{byteAt}
 use Rattle.slots.specs.Day.{slotsOf}
 use Rattle.request.specs.Subject.{subjectOf, askable}
 use Rattle.meter_record.specs.declared.record.Record.{Record}
-use Rattle.frame.specs.Table.{rowOf, known}
+use Rattle.frame.specs.Table.{rowOf, opensTo, known}
 use Rattle.frame.specs.declared.table.Access.{Access}
 use Rattle.meter_clock.specs.Protection.{opened, isRunning, isProtection}
 use Rattle.meter_clock.specs.declared.protection.Level.{Level}
@@ -60,7 +60,7 @@ open-runs Main h = refl
 -- ---- what a read, a change and a zeroing that are done have passed
 
 pub read-accepted : (r : Record) (f : List ℕ) → isDone (readVerdict r f) ≡ true
-    → Accepted (known (rowOf (parameterIn f))) ((rowOf (parameterIn f)) .readable) (eqb (length f) 8) true true
+    → Accepted (known (rowOf (parameterIn f))) (opensTo ((requestIn f) .reading) (rowOf (parameterIn f))) (eqb (length f) 8) true true
     (askable (subjectOf (requestIn f) (slotsOf (r .minutes))))
 unfolding readVerdict
 read-accepted r f h = accepted _ _ _ _ _ _ h

@@ -6,7 +6,7 @@ use Prim.Native.Nat.{ℕ, _+_}
 use lib.Dec.{eqb}
 use lib.ListN.{length}
 use Rattle.frame.specs.Layout.{readSize, bareSize}
-use Rattle.frame.specs.Table.{rowOf, known}
+use Rattle.frame.specs.Table.{rowOf, opensTo, known}
 use Rattle.frame.specs.declared.code.Function.{Function}
 use Rattle.frame.specs.declared.code.Parameter.{Parameter}
 use Rattle.slots.specs.Day.{slotsOf}
@@ -31,12 +31,13 @@ unfolding passed
 checked knows opens lengthFits own allowed fits =
     cond knows (cond opens (cond lengthFits (passed own allowed fits) WrongLength) NotOpen) UnknownParameter
 
--- "Read: function 3, .. 8 bytes in all. Unused fields are 0, else 15." Document 02, CR 6: "Reads by 0 go on"
+-- "Read: function 3, .. 8 bytes in all. Unused fields are 0, else 15." Function 4 likewise, with 12 for what it does not open. Document 02, CR 6:
+-- "Reads by 0 go on"
 unfoldable pub readVerdict : Record → List ℕ → Verdict
 unfolding checked
 readVerdict r f =
     let w = rowOf (parameterIn f) in
-    checked (known w) (w .readable) (eqb (length f) readSize) true true (askable (subjectOf (requestIn f) (slotsOf (r .minutes))))
+    checked (known w) (opensTo ((requestIn f) .reading) w) (eqb (length f) readSize) true true (askable (subjectOf (requestIn f) (slotsOf (r .minutes))))
 
 unfoldable pub argumentFits : Parameter → Record → List ℕ → Bool
 argumentFits p r f =
@@ -61,7 +62,7 @@ zeroVerdict met r f =
 -- document 02, CR 6: "the protection commands are still accepted", by 0 too
 unfoldable pub verdictBy : Function → Met → Record → List ℕ → Verdict
 unfolding readVerdict changeVerdict zeroVerdict
-verdictBy function.Read met r f = readVerdict r f
+verdictBy (function.Read reading) met r f = readVerdict r f
 verdictBy function.Change met r f = changeVerdict met r f
 verdictBy function.Zero met r f = zeroVerdict met r f
 verdictBy function.Unlock met r f = unlockVerdict (r .passwords) f

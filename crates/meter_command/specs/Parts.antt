@@ -12,14 +12,16 @@ use Rattle.frame.specs.Table.{parameterOf}
 use Rattle.frame.specs.declared.code.Function.{Function}
 use Rattle.frame.specs.declared.code.Function.the-variants as function
 use Rattle.frame.specs.declared.code.Parameter.{Parameter}
+use Rattle.frame.specs.declared.code.Reading.{Reading}
+use Rattle.frame.specs.declared.code.Reading.the-variants.{Stored}
 use Rattle.request.specs.declared.request.Request.{Request}
 
 abbrev pub functionIn : List ℕ → Function
 functionIn f = functionOf (byteAt f functionPlace)
 
--- the functions whose commands name a parameter: 3, 16 and 30
+-- the functions whose commands name a parameter: 3, 16 and 30, and 4, "whose 4-byte frame gets 11" (document 02, request 3)
 abbrev pub named : Function → Bool
-named function.Read = true
+named (function.Read reading) = true
 named function.Change = true
 named function.Zero = true
 named function.Unlock = false
@@ -33,9 +35,25 @@ parameterByte f = cond (leb (length f) shortest) 0 (cond (named (functionIn f)) 
 abbrev pub parameterIn : List ℕ → Parameter
 parameterIn f = parameterOf (parameterByte f)
 
--- "Read: function 3, then parameter, offset, tariff, detail"
+-- what a read is answered with; of another command it is not looked at
+abbrev pub readingOf : Function → Reading
+readingOf (function.Read reading) = reading
+readingOf function.Change = Stored
+readingOf function.Zero = Stored
+readingOf function.Unlock = Stored
+readingOf function.Lock = Stored
+readingOf function.Unknown = Stored
+
+-- "Read: function 3, then parameter, offset, tariff, detail"; function 4 likewise
 unfoldable pub requestIn : List ℕ → Request
-requestIn f = record { address = byteAt f addressPlace; parameter = byteAt f parameterPlace; offset = byteAt f 3; tariff = byteAt f 4; detail = byteAt f 5 }
+requestIn f = record {
+  reading = readingOf (functionIn f);
+  address = byteAt f addressPlace;
+  parameter = byteAt f parameterPlace;
+  offset = byteAt f 3;
+  tariff = byteAt f 4;
+  detail = byteAt f 5;
+}
 
 -- a change: "function 16, parameter, data", with a detail byte before the data (002, figure 5, page 6)
 abbrev pub detailIn : List ℕ → ℕ

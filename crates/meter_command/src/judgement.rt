@@ -57,10 +57,12 @@ fn read_verdict(r: Record, frame: &[u8]) -> Verdict
 {
     let row = table::row_of(parts::parameter_in(frame));
     let slots = slots::slots_of(r.minutes);
-    let subject = request::subject_of(parts::request_in(frame), slots);
+    let q = parts::request_in(frame);
+    let reading = q.reading;
+    let subject = request::subject_of(q, slots);
     checked(
         row.code != code::UNKNOWN,
-        row.readable,
+        table::opens_to(reading, row),
         frame.len() == layout::READ_BYTES,
         true,
         true,
@@ -123,7 +125,7 @@ pub fn judge(met: Met, r: Record, frame: &[u8]) -> Verdict
 {
     let passwords = r.passwords;
     match parts::function_in(frame) {
-        Function::Read => read_verdict(r, frame),
+        Function::Read(_) => read_verdict(r, frame),
         Function::Change => change_verdict(met, r, frame),
         Function::Zero => zero_verdict(met, r, frame),
         Function::Unlock => access::unlock_verdict(passwords, frame),

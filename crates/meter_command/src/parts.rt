@@ -2,11 +2,12 @@
 use frame::code;
 use frame::code::Function;
 use frame::code::Parameter;
+use frame::code::Reading;
 use frame::layout;
 use frame::table;
 use request::Request;
 ghost use mathlib.Core.Path.{_≡_};
-ghost use Rattle.meter_command.specs.Parts.{named, functionIn, parameterByte, parameterIn, requestIn};
+ghost use Rattle.meter_command.specs.Parts.{named, readingOf, functionIn, parameterByte, parameterIn, requestIn};
 
 pub fn function_in(frame: &[u8]) -> Function
     ensures { λ r. ⌜ r ≡ functionIn (now (frame .entry)) ⌝ }
@@ -19,7 +20,7 @@ fn is_named(function: Function) -> bool
     ensures { λ r. ⌜ r ≡ named function ⌝ }
 {
     match function {
-        Function::Read => true,
+        Function::Read(_) => true,
         Function::Change => true,
         Function::Zero => true,
         Function::Unlock => false,
@@ -47,11 +48,26 @@ pub fn parameter_in(frame: &[u8]) -> Parameter
     table::parameter_of(parameter_byte(frame))
 }
 
+// What a read is answered with. Of another command it is not looked at.
+fn reading_of(function: Function) -> Reading
+    ensures { λ r. ⌜ r ≡ readingOf function ⌝ }
+{
+    match function {
+        Function::Read(reading) => reading,
+        Function::Change => Reading::Stored,
+        Function::Zero => Reading::Stored,
+        Function::Unlock => Reading::Stored,
+        Function::Lock => Reading::Stored,
+        Function::Unknown => Reading::Stored,
+    }
+}
+
 // The fields of a read.
 pub fn request_in(frame: &[u8]) -> Request
     ensures { λ r. ⌜ r ≡ requestIn (now (frame .entry)) ⌝ }
 {
     Request {
+        reading: reading_of(function_in(frame)),
         address: words::byte_at(frame, layout::ADDRESS),
         parameter: words::byte_at(frame, layout::PARAMETER),
         offset: words::byte_at(frame, layout::OFFSET),

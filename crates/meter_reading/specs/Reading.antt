@@ -2,26 +2,35 @@
 -- reader decodes (`figures`).
 use mathlib.Core.Bool.{Bool, true, false, cond}
 use mathlib.Core.List.{List, [], _∷_, _++_}
-use Prim.Native.Nat.{ℕ}
+use Prim.Native.Nat.{ℕ, _*_}
 use lib.Dec.{eqb}
 use lib.Ieee.{Float}
 use lib.ListN.{getD}
 use Rattle.calendar.specs.declared.time.DateTime.{DateTime}
 use Rattle.figures.specs.Clock.{dateTimeBytes}
+use Rattle.figures.specs.Displayed.{energiesBytes}
 use Rattle.figures.specs.Mask.{maskBytes}
 use Rattle.figures.specs.Power.{powerBytes, powersBytes}
 use Rattle.figures.specs.Telemetry.{telemetryBytes}
+use Rattle.figures.specs.declared.displayed.Energies.{Energies}
+use Rattle.figures.specs.declared.displayed.KilowattHours.{KilowattHours}
 use Rattle.figures.specs.declared.power.Phases.{Phases}
+use Rattle.figures.specs.declared.telemetry.Telemetry.{Telemetry}
 use Rattle.frame.specs.Table.{replyBytes}
 use Rattle.frame.specs.declared.code.Function.{Function}
 use Rattle.frame.specs.declared.code.Function.the-variants as function
 use Rattle.frame.specs.declared.code.Parameter.{Parameter}
 use Rattle.frame.specs.declared.code.Parameter.the-variants as parameter
+use Rattle.frame.specs.declared.code.Reading.{Reading}
+use Rattle.frame.specs.declared.code.Reading.the-variants.{Stored, Displayed}
 use Rattle.request.specs.Subject.{keyOf}
 use Rattle.request.specs.declared.request.Request.{Request}
 use Rattle.meter_clock.specs.Season.{summerDate, winterDate}
 use Rattle.meter_clock.specs.declared.season.Time.{Time}
-use Rattle.meter_store.specs.Store.{sliceOf, sixOf, rowBytes}
+use Rattle.meter_store.specs.Store.{sliceOf, sixOf, rowBytes, countAt}
+use Rattle.kilowatt_hours.specs.Bits.{kwhBits}
+use Rattle.meter_record.specs.Ratios.{areRatios}
+use Rattle.meter_record.specs.declared.record.Ratios.{Ratios}
 use Rattle.meter_record.specs.declared.record.Record.{Record}
 use Rattle.meter_command.specs.Parts.{functionIn, parameterIn, requestIn}
 
@@ -63,9 +72,28 @@ figuresOf parameter.SixSlices r s q = sixBytes (sixOf s (keyOf q))
 figuresOf parameter.Password r s q = []
 figuresOf parameter.Unknown r s q = []
 
+-- document 02, request 3: "the exact figure is N x Ke x KI x KU / 1,000,000", and the float is the one nearest to it. No meter answers from a
+-- record with other ratios, and they show nothing
+unfoldable pub shownOf : Telemetry → Ratios → ℕ → KilowattHours
+shownOf t k n = record { 0 = cond (areRatios k) (kwhBits (n * t .ke * (k .ki * k .ku))) 0 }
+
+-- "four 32-bit floats in kilowatt-hours", of a row of the store
+unfoldable pub displayedOf : Record → List ℕ → Energies
+displayedOf r row = record {
+  «e_plus» = shownOf (r .telemetry) (r .ratios) (countAt row 0);
+  «e_minus» = shownOf (r .telemetry) (r .ratios) (countAt row 1);
+  «r_plus» = shownOf (r .telemetry) (r .ratios) (countAt row 2);
+  «r_minus» = shownOf (r .telemetry) (r .ratios) (countAt row 3);
+}
+
+-- the figures as they are stored, with function 3, or as the display shows them, with function 4, which reads parameter 36 alone
+abbrev pub figuresAs : Reading → Parameter → Record → List ℕ → Request → List ℕ
+figuresAs Stored p r s q = figuresOf p r s q
+figuresAs Displayed p r s q = energiesBytes (displayedOf r (sliceOf s (keyOf q)))
+
 -- only a read has data
 abbrev pub isRead : Function → Bool
-isRead function.Read = true
+isRead (function.Read reading) = true
 isRead function.Change = false
 isRead function.Zero = false
 isRead function.Unlock = false
@@ -74,7 +102,7 @@ isRead function.Unknown = false
 
 -- the data of the reply to a command that is done
 unfoldable pub dataOf : Record → List ℕ → List ℕ → List ℕ
-dataOf r s f = cond (isRead (functionIn f)) (figuresOf (parameterIn f) r s (requestIn f)) []
+dataOf r s f = cond (isRead (functionIn f)) (figuresAs ((requestIn f) .reading) (parameterIn f) r s (requestIn f)) []
 
 unfoldable pub dataSize : List ℕ → ℕ
-dataSize f = cond (isRead (functionIn f)) (replyBytes (parameterIn f) ((requestIn f) .detail)) 0
+dataSize f = cond (isRead (functionIn f)) (replyBytes ((requestIn f) .reading) (parameterIn f) ((requestIn f) .detail)) 0

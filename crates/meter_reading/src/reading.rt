@@ -1,15 +1,22 @@
 // The data of a reply: a parameter's figures, written into the part of the reply that is lent for them.
 use calendar::DateTime;
+use energy::Counts;
+use figures::Energies;
+use figures::KilowattHours;
 use figures::Phases;
+use figures::Telemetry;
 use frame::code::Function;
 use frame::code::Parameter;
+use frame::code::Reading;
 use frame::table;
 use meter_clock::Time;
+use meter_record::Ratios;
 use meter_record::Record;
 use request::Request;
 ghost use mathlib.Core.Path.{_≡_};
 ghost use Rattle.words.specs.Place.{written};
-ghost use Rattle.meter_reading.specs.Reading.{phase, powerData, summerShown, winterShown, sixBytes, figuresOf, isRead, dataOf, dataSize};
+ghost use Rattle.meter_reading.specs.Reading.{phase, powerData, summerShown, winterShown, sixBytes, figuresOf};
+ghost use Rattle.meter_reading.specs.Reading.{shownOf, displayedOf, figuresAs, isRead, dataOf, dataSize};
 ghost use Rattle.meter_command.specs.Parts.{functionIn};
 
 fn phase(p: Phases, detail: u8) -> f32
@@ -94,12 +101,54 @@ fn put_figures(out: &mut [u8], p: Parameter, r: Record, store: &[u8], q: Request
     }
 }
 
+// The kilowatt-hours that the display shows for some counts: their energy at the meter, times both ratios. Ratios that no record has show
+// nothing.
+fn shown(telemetry: Telemetry, ratios: Ratios, counts: u16) -> KilowattHours
+    ensures { λ r. ⌜ r ≡ shownOf telemetry ratios counts ⌝ }
+{
+    if meter_record::are_ratios(ratios) {
+        let energy = Counts(counts as u32).energy(telemetry.ke);
+        let product = (ratios.ki as u64) * (ratios.ku as u64);
+        let primary = energy.number() * product;
+        return KilowattHours(kilowatt_hours::kwh_bits(primary));
+    }
+    KilowattHours(0)
+}
+
+// A row of the store as the display shows it.
+fn displayed(r: Record, row: [u16; 4]) -> Energies
+    ensures { λ e. ⌜ e ≡ displayedOf r row ⌝ }
+{
+    let telemetry = r.telemetry;
+    let ratios = r.ratios;
+    Energies {
+        e_plus: shown(telemetry, ratios, row[0]),
+        e_minus: shown(telemetry, ratios, row[1]),
+        r_plus: shown(telemetry, ratios, row[2]),
+        r_minus: shown(telemetry, ratios, row[3]),
+    }
+}
+
+// The figures as they are stored, or as the display shows them.
+fn put_as(out: &mut [u8], p: Parameter, r: Record, store: &[u8], q: Request)
+    ensures { λ _. ⌜ now (out .exit) ≡ written (now (out .entry)) 0 (figuresAs (q .reading) p r (now (store .entry)) q) ⌝ }
+{
+    let reading = q.reading;
+    match reading {
+        Reading::Stored => put_figures(out, p, r, store, q),
+        Reading::Displayed => figures::put_energies(
+            out,
+            displayed(r, meter_store::slice_of(store, request::key_of(q))),
+        ),
+    }
+}
+
 // Only a read has data.
 pub fn is_read(frame: &[u8]) -> bool
     ensures { λ r. ⌜ r ≡ isRead (functionIn (now (frame .entry))) ⌝ }
 {
     match meter_command::function_in(frame) {
-        Function::Read => true,
+        Function::Read(_) => true,
         Function::Change => false,
         Function::Zero => false,
         Function::Unlock => false,
@@ -114,7 +163,7 @@ pub fn put_data(out: &mut [u8], r: Record, store: &[u8], frame: &[u8])
 {
     if is_read(frame) {
         let p = meter_command::parameter_in(frame);
-        put_figures(out, p, r, store, meter_command::request_in(frame));
+        put_as(out, p, r, store, meter_command::request_in(frame));
     }
 }
 
@@ -123,7 +172,8 @@ pub fn data_size(frame: &[u8]) -> usize
 {
     if is_read(frame) {
         let q = meter_command::request_in(frame);
-        return table::reply_bytes(meter_command::parameter_in(frame), q.detail);
+        let reading = q.reading;
+        return table::reply_bytes(reading, meter_command::parameter_in(frame), q.detail);
     }
     0
 }

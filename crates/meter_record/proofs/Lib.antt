@@ -1,3 +1,4 @@
 pub mod PowerLaws
 pub mod DisplayLaws
 pub mod RangeLaws
+pub mod RatiosLaws

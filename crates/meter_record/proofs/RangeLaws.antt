@@ -18,7 +18,9 @@ use Rattle.slots.specs.Day.{isMinutes}
 use Rattle.meter_store.specs.Store.{places}
 use Rattle.meter_record.specs.Power.{arePowers}
 use Rattle.meter_record.specs.Ranges.{isTelemetry, settingsRight, benchRight, isWithin}
-use Rattle.meter_record.specs.Record.{later, secondOf, made, fresh, withPowers, powersSet, setPowers}
+use Rattle.meter_record.specs.Ratios.{areRatios}
+use Rattle.meter_record.specs.declared.record.Ratios.{Ratios}
+use Rattle.meter_record.specs.Record.{later, secondOf, made, fresh, withPowers, powersSet, setPowers, withRatios, setRatios}
 use Rattle.meter_record.specs.With.{remade}
 use Rattle.meter_record.specs.declared.record.Passwords.{Passwords}
 use Rattle.meter_record.specs.declared.record.Record.{Record}
@@ -34,11 +36,13 @@ pub record Within (r : Record) : Type 0 where
   pub next : ltb (r .next) places ≡ true
   pub active : arePowers (r .active) ≡ true
   pub reactive : arePowers (r .reactive) ≡ true
+  pub ratios : areRatios (r .ratios) ≡ true
 
 pub within : (r : Record) → isWithin r ≡ true → Within r
 unfolding isWithin settingsRight benchRight
 within r h =
-    let a = both (leb 1 (r .address) && settingsRight r) (benchRight r) h in
+    let k = both (leb 1 (r .address) && settingsRight r && benchRight r) (areRatios (r .ratios)) h in
+    let a = both (leb 1 (r .address) && settingsRight r) (benchRight r) (k .0) in
     let b = both (leb 1 (r .address)) (settingsRight r) (a .0) in
     let s = both (isProtection (r .protection) && isFitting (r .time)) (isTelemetry (r .telemetry)) (b .1) in
     let t = both (isProtection (r .protection)) (isFitting (r .time)) (s .0) in
@@ -54,14 +58,15 @@ within r h =
       next = y .1;
       active = x .1;
       reactive = w .1;
+      ratios = k .1;
     }
 
 pub is-within : (r : Record) → Within r → isWithin r ≡ true
 unfolding isWithin settingsRight benchRight
 is-within r w =
-    ap₂ _&&_
-    (ap₂ _&&_ (w .address) (ap₂ _&&_ (ap₂ _&&_ (w .protection) (w .time)) (w .telemetry)))
-    (ap₂ _&&_ (ap₂ _&&_ (ap₂ _&&_ (w .minutes) (w .next)) (w .active)) (w .reactive))
+    let settings = ap₂ _&&_ (ap₂ _&&_ (w .protection) (w .time)) (w .telemetry) in
+    let bench = ap₂ _&&_ (ap₂ _&&_ (ap₂ _&&_ (w .minutes) (w .next)) (w .active)) (w .reactive) in
+    ap₂ _&&_ (ap₂ _&&_ (ap₂ _&&_ (w .address) settings) bench) (w .ratios)
 
 -- a record of which what a command can change was changed within the ranges
 pub remade-within : (r : Record) (a : ℕ) (p : Protection) (k : Passwords) (t : Time) (y : Telemetry) (m : DisplayMask) (n : ℕ) → Within r
@@ -76,6 +81,7 @@ remade-within r a p k t y m n w address protection time telemetry next = record 
   next = next;
   active = w .active;
   reactive = w .reactive;
+  ratios = w .ratios;
 }
 
 -- a second keeps a record within its ranges
@@ -121,6 +127,7 @@ powers-kept r a b w p q =
       next = w .next;
       active = p;
       reactive = q;
+      ratios = w .ratios;
     })
 
 pub powers-within : (r : Record) (n : ℕ) (p : Phases) → handsBack (setPowers r n p) ≡ true
@@ -134,3 +141,26 @@ powers-within r n p = go (isWithin r) refl (arePowers p) refl (eqb n 8) refl (eq
     go true e true f true g d h = simp (e, f, g) (powers-kept r p (r .reactive) (within r e) f (within r e .reactive))
     go true e true f false g true h = simp (e, f, g, h) (powers-kept r (r .active) p (within r e) (within r e .active) f)
     go true e true f false g false h = simp (e, f, g, h)
+
+ratios-kept : (r : Record) (k : Ratios) → Within r → areRatios k ≡ true → isWithin (withRatios r k) ≡ true
+ratios-kept r k w h =
+    is-within (withRatios r k) (record {
+      address = w .address;
+      protection = w .protection;
+      time = w .time;
+      telemetry = w .telemetry;
+      minutes = w .minutes;
+      next = w .next;
+      active = w .active;
+      reactive = w .reactive;
+      ratios = h;
+    })
+
+pub ratios-within : (r : Record) (k : Ratios) → handsBack (setRatios r k) ≡ true
+unfolding setRatios
+ratios-within r k = go (isWithin r) refl (areRatios k) refl
+  where
+    go : (a : Bool) → isWithin r ≡ a → (b : Bool) → areRatios k ≡ b → handsBack (setRatios r k) ≡ true
+    go false e b f = simp e
+    go true e false f = simp (e, f)
+    go true e true f = simp (e, f) (ratios-kept r k (within r e) f)

@@ -1,4 +1,5 @@
 pub mod Power
+pub mod Ratios
 pub mod Ranges
 pub mod Record
 pub mod With

@@ -8,6 +8,7 @@ use Rattle.meter_clock.specs.Season.{isFitting}
 use Rattle.slots.specs.Day.{isMinutes}
 use Rattle.meter_store.specs.Store.{places}
 use Rattle.meter_record.specs.Power.{arePowers}
+use Rattle.meter_record.specs.Ratios.{areRatios}
 use Rattle.meter_record.specs.declared.record.Record.{Record}
 
 -- "A change needs K x Ke from 40,000 to 5,000,000"
@@ -24,4 +25,4 @@ benchRight r = isMinutes (r .minutes) && ltb (r .next) places && arePowers (r .a
 
 -- "Address 1..255", and the rest. A password, the mask and the reserve may be any bytes.
 unfoldable pub isWithin : Record → Bool
-isWithin r = leb 1 (r .address) && settingsRight r && benchRight r
+isWithin r = leb 1 (r .address) && settingsRight r && benchRight r && areRatios (r .ratios)

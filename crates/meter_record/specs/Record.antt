@@ -12,6 +12,8 @@ use Rattle.meter_clock.specs.declared.season.Season.{Season}
 use Rattle.meter_clock.specs.declared.season.SwitchDate.the-variants.{Automatic}
 use Rattle.meter_record.specs.Power.{arePowers}
 use Rattle.meter_record.specs.Ranges.{isWithin}
+use Rattle.meter_record.specs.Ratios.{areRatios}
+use Rattle.meter_record.specs.declared.record.Ratios.{Ratios}
 use Rattle.meter_record.specs.declared.record.Record.{Record}
 use Rattle.meter_record.specs.declared.record.RecordAnswer.{RecordAnswer}
 use Rattle.meter_record.specs.declared.record.RecordAnswer.the-variants.{Done, OutOfRange, Unsound}
@@ -20,7 +22,7 @@ use Rattle.meter_record.specs.declared.record.RecordAnswer.the-variants.
 abbrev pub noPowers : Phases
 noPowers = record { a = ofBits binary32 0; b = ofBits binary32 0; c = ofBits binary32 0 }
 
--- a meter from the factory: "from the factory eight bytes 30 hex"; the mask shows all (002, section 4.12, page 17)
+-- a meter from the factory: "from the factory eight bytes 30 hex"; the mask shows all (002, section 4.12, page 17); KI and KU "at first 1 each"
 unfoldable pub fresh : ℕ → ℕ → Telemetry → DateTime → Season → Record
 fresh address minutes telemetry clock season = record {
   address = address;
@@ -33,6 +35,7 @@ fresh address minutes telemetry clock season = record {
   reactive = noPowers;
   minutes = minutes;
   next = 0;
+  ratios = record { ki = 1; ku = 1 };
 }
 
 -- making a record: 27 for a "bench setting .. out of range"
@@ -55,6 +58,7 @@ later r = record {
   reactive = r .reactive;
   minutes = r .minutes;
   next = r .next;
+  ratios = r .ratios;
 }
 
 -- "One call is one second."
@@ -75,6 +79,7 @@ withPowers r active reactive = record {
   reactive = reactive;
   minutes = r .minutes;
   next = r .next;
+  ratios = r .ratios;
 }
 
 -- parameter 8 is the active power and 9 the reactive one; no other is a power
@@ -85,6 +90,26 @@ powersSet r n p =
 -- setting powers: 28, then 27
 unfoldable pub setPowers : Record → ℕ → Phases → RecordAnswer
 setPowers r n p = cond (isWithin r) (cond (arePowers p) (powersSet r n p) OutOfRange) Unsound
+
+-- the record with other ratios
+abbrev pub withRatios : Record → Ratios → Record
+withRatios r k = record {
+  address = r .address;
+  protection = r .protection;
+  passwords = r .passwords;
+  time = r .time;
+  telemetry = r .telemetry;
+  mask = r .mask;
+  active = r .active;
+  reactive = r .reactive;
+  minutes = r .minutes;
+  next = r .next;
+  ratios = k;
+}
+
+-- setting both ratios: 28, then 27
+unfoldable pub setRatios : Record → Ratios → RecordAnswer
+setRatios r k = cond (isWithin r) (cond (areRatios k) (Done (withRatios r k)) OutOfRange) Unsound
 
 -- document 01's numbers
 abbrev pub numberOf : RecordAnswer → ℕ

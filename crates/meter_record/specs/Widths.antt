@@ -16,3 +16,5 @@ pub record FitsRecord (r : Record) : Type 0 where
   pub active : FitsPhases (r .active)
   pub reactive : FitsPhases (r .reactive)
   pub next : r .next < 2 ^ 16
+  pub ki : r .ratios .ki < 2 ^ 32
+  pub ku : r .ratios .ku < 2 ^ 32

@@ -22,6 +22,7 @@ remade r address protection passwords time telemetry mask next = record {
   reactive = r .reactive;
   minutes = r .minutes;
   next = next;
+  ratios = r .ratios;
 }
 
 abbrev pub withAddress : Record → ℕ → Record

@@ -2,6 +2,7 @@
 use crate::ranges::is_within;
 use crate::record::Password;
 use crate::record::Passwords;
+use crate::record::Ratios;
 use crate::record::Record;
 use crate::record::RecordAnswer;
 use calendar::DateTime;
@@ -81,5 +82,6 @@ fn new_record(
         },
         minutes: minutes,
         next: 0,
+        ratios: Ratios { ki: 1, ku: 1 },
     }
 }

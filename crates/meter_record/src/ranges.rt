@@ -1,5 +1,6 @@
 // What a record keeps to.
 use crate::power::are_powers;
+use crate::ratios::are_ratios;
 use crate::record::Record;
 use figures::Telemetry;
 ghost use mathlib.Core.Path.{_≡_};
@@ -26,8 +27,11 @@ pub fn is_within(r: Record) -> bool
     if r.address < 1 {
         return false;
     }
+    let ratios = r.ratios;
     if settings_right(r) {
-        return bench_right(r);
+        if bench_right(r) {
+            return are_ratios(ratios);
+        }
     }
     false
 }

@@ -14,6 +14,12 @@ pub struct Passwords {
     pub auxiliary: Password,
 }
 
+// The ratios of the transformers before the meter, of current and of voltage.
+pub struct Ratios {
+    pub ki: u32,
+    pub ku: u32,
+}
+
 pub struct Record {
     pub address: u8,
     pub protection: Protection,
@@ -27,6 +33,7 @@ pub struct Record {
     pub minutes: u8,
     // The store's next place.
     pub next: u16,
+    pub ratios: Ratios,
 }
 
 // What the bench's own calls answer.

@@ -40,7 +40,7 @@ pub length-setting : (r : Record) → length (settingBytes r) ≡ 35
 unfolding settingBytes timeBytes switchBytes dateTimeBytes telemetryBytes maskBytes bytesOf
 length-setting r = refl
 
-pub length-bench : (r : Record) → length (benchBytes r) ≡ 27
+pub length-bench : (r : Record) → length (benchBytes r) ≡ 35
 unfolding benchBytes powerBytes bytesOf
 length-bench r = refl
 
@@ -85,11 +85,15 @@ module _ (r : Record) where
   unfolding recordBytes accessBytes settingBytes timeBytes switchBytes dateTimeBytes telemetryBytes maskBytes bytesOf
   from-mask = refl
 
-  from-active : drop 54 (recordBytes r) ≡ phasesBytes (r .active) ++ (phasesBytes (r .reactive) ++ (r .minutes ∷ bytesOf 2 (r .next)))
+  abbrev ratios-at-end : List ℕ
+  ratios-at-end = bytesOf 4 (r .ratios .ki) ++ bytesOf 4 (r .ratios .ku)
+
+  from-active : drop 54 (recordBytes r)
+      ≡ phasesBytes (r .active) ++ (phasesBytes (r .reactive) ++ (r .minutes ∷ bytesOf 2 (r .next) ++ ratios-at-end))
   unfolding recordBytes accessBytes settingBytes timeBytes switchBytes dateTimeBytes telemetryBytes maskBytes benchBytes bytesOf
   from-active = refl
 
-  from-reactive : drop 66 (recordBytes r) ≡ phasesBytes (r .reactive) ++ (r .minutes ∷ bytesOf 2 (r .next))
+  from-reactive : drop 66 (recordBytes r) ≡ phasesBytes (r .reactive) ++ (r .minutes ∷ bytesOf 2 (r .next) ++ ratios-at-end)
   unfolding recordBytes accessBytes settingBytes timeBytes switchBytes dateTimeBytes telemetryBytes maskBytes benchBytes powerBytes bytesOf
   from-reactive = refl
 
@@ -104,6 +108,14 @@ module _ (r : Record) where
   next-there : numberAt (recordBytes r) 79 2 ≡ numberAt (bytesOf 2 (r .next) ++ []) 0 2
   unfolding recordBytes accessBytes settingBytes timeBytes switchBytes dateTimeBytes telemetryBytes maskBytes benchBytes powerBytes bytesOf numberAt
   next-there = refl
+
+  ki-there : numberAt (recordBytes r) 81 4 ≡ numberAt (bytesOf 4 (r .ratios .ki) ++ []) 0 4
+  unfolding recordBytes accessBytes settingBytes timeBytes switchBytes dateTimeBytes telemetryBytes maskBytes benchBytes powerBytes bytesOf numberAt
+  ki-there = refl
+
+  ku-there : numberAt (recordBytes r) 85 4 ≡ numberAt (bytesOf 4 (r .ratios .ku) ++ []) 0 4
+  unfolding recordBytes accessBytes settingBytes timeBytes switchBytes dateTimeBytes telemetryBytes maskBytes benchBytes powerBytes bytesOf numberAt
+  ku-there = refl
 
   minutes-there : byteAt (recordBytes r) 78 ≡ r .minutes
   unfolding recordBytes accessBytes settingBytes timeBytes switchBytes dateTimeBytes telemetryBytes maskBytes benchBytes powerBytes bytesOf
@@ -128,6 +140,8 @@ module _ (r : Record) where
       let auxiliary-read : numberAt bs 11 8 ≡ r .passwords .auxiliary .0 =
       auxiliary-there ∙ numberAt-front 8 (r .passwords .auxiliary .0) [] ∙ mod-eq-of-lt (f .auxiliary) in
       let next-read : numberAt bs 79 2 ≡ r .next = next-there ∙ numberAt-front 2 (r .next) [] ∙ mod-eq-of-lt (f .next) in
+      let ki-read : numberAt bs 81 4 ≡ r .ratios .ki = ki-there ∙ numberAt-front 4 (r .ratios .ki) [] ∙ mod-eq-of-lt (f .ki) in
+      let ku-read : numberAt bs 85 4 ≡ r .ratios .ku = ku-there ∙ numberAt-front 4 (r .ratios .ku) [] ∙ mod-eq-of-lt (f .ku) in
       simp (
         length-record r,
         level-read,
@@ -139,6 +153,8 @@ module _ (r : Record) where
         main-read,
         auxiliary-read,
         next-read,
+        ki-read,
+        ku-read,
         minutes-there,
         front-there .0,
         front-there .2,

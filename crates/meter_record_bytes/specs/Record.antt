@@ -1,4 +1,4 @@
--- The bench meter's record as 81 bytes. Source: document 01, "The bench meter's record"; the order is this project's own. Numbers of
+-- The bench meter's record as 89 bytes. Source: document 01, "The bench meter's record"; the order is this project's own. Numbers of
 -- several bytes stand lowest byte first, figures as the wire has them.
 use mathlib.Core.Bool.{cond}
 use mathlib.Core.List.{List, [], _∷_, _++_}
@@ -27,7 +27,7 @@ use Rattle.meter_record_bytes.specs.declared.record.RecordRead.{RecordRe
 use Rattle.meter_record_bytes.specs.declared.record.RecordRead.the-variants.{Read, Unreadable}
 
 abbrev pub recordSize : ℕ
-recordSize = 81
+recordSize = 89
 
 -- from byte 0: address, level, seconds left, and the passwords, main and auxiliary
 unfoldable pub accessBytes : Record → List ℕ
@@ -39,9 +39,11 @@ accessBytes r =
 unfoldable pub settingBytes : Record → List ℕ
 settingBytes r = timeBytes (r .time) ++ (telemetryBytes (r .telemetry) ++ maskBytes (r .mask))
 
--- from byte 54: the powers, active and reactive, the interval, the store's next place
+-- from byte 54: the powers, active and reactive, the interval, the store's next place, and from byte 81 the ratios, KI and KU
 unfoldable pub benchBytes : Record → List ℕ
-benchBytes r = phasesBytes (r .active) ++ (phasesBytes (r .reactive) ++ ((r .minutes ∷ []) ++ bytesOf 2 (r .next)))
+benchBytes r =
+    phasesBytes (r .active)
+    ++ (phasesBytes (r .reactive) ++ ((r .minutes ∷ []) ++ (bytesOf 2 (r .next) ++ (bytesOf 4 (r .ratios .ki) ++ bytesOf 4 (r .ratios .ku)))))
 
 unfoldable pub recordBytes : Record → List ℕ
 recordBytes r = accessBytes r ++ (settingBytes r ++ benchBytes r)
@@ -62,6 +64,7 @@ recordWith bs l t a p = record {
   reactive = p;
   minutes = byteAt bs 78;
   next = numberAt bs 79 2;
+  ratios = record { ki = numberAt bs 81 4; ku = numberAt bs 85 4 };
 }
 
 -- the parts that may be unreadable: all of them, or no record is read

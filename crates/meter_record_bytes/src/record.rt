@@ -14,6 +14,7 @@ use meter_clock::Protection;
 use meter_clock::Time;
 use meter_record::Password;
 use meter_record::Passwords;
+use meter_record::Ratios;
 use meter_record::Record;
 ghost use mathlib.Core.Path.{_≡_};
 ghost use Rattle.words.specs.Place.{written};
@@ -22,7 +23,7 @@ ghost use Rattle.figures.specs.Telemetry.{telemetryBytes};
 ghost use Rattle.meter_record_bytes.specs.Record.{accessBytes, settingBytes, benchBytes, recordBytes, passwordsIn};
 ghost use Rattle.meter_record_bytes.specs.Record.{recordWith, together, recordIn, recordOf};
 
-pub const RECORD_BYTES: usize = 81;
+pub const RECORD_BYTES: usize = 89;
 
 // Where each thing stands.
 const ADDRESS: usize = 0;
@@ -48,6 +49,10 @@ const REACTIVE: usize = 66;
 const MINUTES: usize = 78;
 
 const NEXT: usize = 79;
+
+const KI: usize = 81;
+
+const KU: usize = 85;
 
 pub enum RecordRead {
     Read(Record),
@@ -89,16 +94,19 @@ fn put_settings(out: &mut [u8], r: Record)
     put_mask(out, MASK, mask);
 }
 
-// The powers, the interval, the store's next place.
+// The powers, the interval, the store's next place, the ratios.
 fn put_bench(out: &mut [u8], r: Record)
     ensures { λ _. ⌜ now (out .exit) ≡ written (now (out .entry)) 54 (benchBytes r) ⌝ }
 {
     let active = r.active;
     let reactive = r.reactive;
+    let ratios = r.ratios;
     figures::put_phases(out, ACTIVE, active);
     figures::put_phases(out, REACTIVE, reactive);
     words::put_byte(out, MINUTES, r.minutes);
     words::put_u16(out, NEXT, r.next);
+    words::put_u32(out, KI, ratios.ki);
+    words::put_u32(out, KU, ratios.ku);
 }
 
 // A figure in the part that begins at a place.
@@ -174,6 +182,10 @@ fn record_with(bytes: &[u8], level: Level, time: Time, active: Phases, reactive:
         reactive: reactive,
         minutes: words::byte_at(bytes, MINUTES),
         next: words::u16_at(bytes, NEXT),
+        ratios: Ratios {
+            ki: words::u32_at(bytes, KI),
+            ku: words::u32_at(bytes, KU),
+        },
     }
 }
 

@@ -25,6 +25,7 @@ demand-1 = record {
   meter-make = ends.meter-make;
   meter-second = ends.meter-second;
   meter-powers = ends.meter-powers;
+  meter-ratios = ends.meter-ratios;
   meter-slice = ends.meter-slice;
   meter-answer = ends.meter-answer;
   meter-output = ends.meter-output;

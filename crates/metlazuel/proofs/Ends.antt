@@ -11,6 +11,7 @@ use Rattle.case_laws.proofs.Test.{either}
 use Rattle.words.specs.Place.{written}
 use Rattle.refusal.specs.Outcome.{Outcome, outcome}
 use Rattle.frame.specs.Layout.{bareSize, readSize, longest}
+use Rattle.frame.specs.declared.code.Reading.{Reading}
 use Rattle.request.specs.Request as request-of
 use Rattle.request.specs.Subject.{subjectOf, mostSlots}
 use Rattle.request.specs.declared.request.Request.{Request}
@@ -59,7 +60,7 @@ use Rattle.metlazuel.specs.Calls.{numbered, sized, unreadNumber, resultA
 use Rattle.metlazuel.specs.LogCalls.{headerFrom, imageLength, fileLength, lengthAfter, askLeft, askForC, lapseLeft, lapseForC, closes, takeForC}
 use Rattle.metlazuel.specs.CellCalls.{cellForC, nextGapForC}
 use Rattle.metlazuel.specs.WireCalls.{requestFrom, countAfter, decodedForC, decodeForC}
-use Rattle.metlazuel.specs.MeterCalls.{telemetryFrom, clockFrom, phasesFrom, key, row, madeIn, secondIn, powersIn, sliceIn}
+use Rattle.metlazuel.specs.MeterCalls.{telemetryFrom, clockFrom, phasesFrom, ratiosFrom, key, row, madeIn, secondIn, powersIn, ratiosIn, sliceIn}
 use Rattle.metlazuel.specs.MeterCalls.{bytesAfter, benchForC, makeForC, putForC, bytesLeft, sentLength, answerForC}
 use Rattle.metlazuel.specs.Demand1.{EndsForC, RefusedOutput}
 
@@ -187,9 +188,10 @@ take-length log bs reply result size = read-length (askOf bs) log bs reply resul
 
 -- ---- requests, and replies decoded
 
-pub request : (address parameter offset tariff detail : ℕ) (out : List ℕ)
-    → EndsForC out (numbered request-of.numberOf (request-of.requested (requestFrom address parameter offset tariff detail) out))
-request address parameter offset tariff detail out = claims.demand-1 .put-request (requestFrom address parameter offset tariff detail) out
+pub request : (reading : Reading) (address parameter offset tariff detail : ℕ) (out : List ℕ)
+    → EndsForC out (numbered request-of.numberOf (request-of.requested (requestFrom reading address parameter offset tariff detail) out))
+request reading address parameter offset tariff detail out =
+    claims.demand-1 .put-request (requestFrom reading address parameter offset tariff detail) out
 
 row-kept : (d : Decoded) (reply row : List ℕ) → (reader.numberOf d ≡ 0 → ⊥) → written row 0 (figureRow d reply) ≡ row
 unfolding figureRow written
@@ -205,6 +207,7 @@ row-kept (decoded.Powers p) reply row n = absurd (n refl)
 row-kept (decoded.OnePower p) reply row n = absurd (n refl)
 row-kept (decoded.Slice c) reply row n = absurd (n refl)
 row-kept decoded.SixSlices reply row n = absurd (n refl)
+row-kept (decoded.Displayed e) reply row n = absurd (n refl)
 
 module _ (q : Request) (reply row : List ℕ) (count result size : ℕ) where
   abbrev Told : Outcome ℕ (ℕ × ℕ × ℕ × List ℕ) → Type 0
@@ -249,6 +252,9 @@ meter-second bs = bench (secondIn (recordOf bs)) bs
 
 pub meter-powers : (bs : List ℕ) (parameter a b c : ℕ) → EndsForC bs (benchForC (powersIn (recordOf bs) parameter (phasesFrom a b c)) bs)
 meter-powers bs parameter a b c = bench (powersIn (recordOf bs) parameter (phasesFrom a b c)) bs
+
+pub meter-ratios : (bs : List ℕ) (ki ku : ℕ) → EndsForC bs (benchForC (ratiosIn (recordOf bs) (ratiosFrom ki ku)) bs)
+meter-ratios bs ki ku = bench (ratiosIn (recordOf bs) (ratiosFrom ki ku)) bs
 
 slice-ends : (read : RecordRead) (bs s : List ℕ) (k : Key) (counts : List ℕ) → EndsForC (bs, s) (putForC (sliceIn read s k counts) bs)
 unfolding sliceIn bytesAfter inTable

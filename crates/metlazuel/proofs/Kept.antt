@@ -2,7 +2,7 @@
 use mathlib.Core.Path.{_≡_, refl, sym, ap, ap₂, subst, _∙_}
 use mathlib.Core.Bool.{Bool, true, false, cond, false≢true}
 use mathlib.Core.List.{List, [], _∷_}
-use Prim.Native.Nat.{ℕ, _<_}
+use Prim.Native.Nat.{ℕ, _^_, _<_}
 use lib.Dec.{eqb, ltb}
 use lib.ListN.{length}
 use Rattle.case_laws.proofs.Test.{both, either}
@@ -19,12 +19,13 @@ use Rattle.slots.specs.Key.{isLegal}
 use Rattle.slots.specs.declared.key.Key.{Key}
 use Rattle.meter_record.specs.Power.{arePowers}
 use Rattle.meter_record.specs.Ranges.{isWithin}
-use Rattle.meter_record.specs.Record.{fresh, made, secondOf, powersSet, setPowers}
+use Rattle.meter_record.specs.Ratios.{areRatios}
+use Rattle.meter_record.specs.Record.{fresh, made, secondOf, powersSet, setPowers, setRatios}
 use Rattle.meter_record.specs.Widths.{FitsRecord}
 use Rattle.meter_record.specs.declared.record.Record.{Record}
 use Rattle.meter_record.specs.declared.record.RecordAnswer.{RecordAnswer}
 use Rattle.meter_record.specs.declared.record.RecordAnswer.the-variants as given
-use Rattle.meter_record.proofs.RangeLaws.{handsBack, made-within, second-within, powers-within}
+use Rattle.meter_record.proofs.RangeLaws.{handsBack, made-within, second-within, powers-within, ratios-within}
 use Rattle.meter_record_bytes.specs.Record.{recordSize, recordOf}
 use Rattle.meter_record_bytes.specs.Time.{seasonOf}
 use Rattle.meter_record_bytes.specs.declared.time.SeasonRead.{SeasonRead}
@@ -43,10 +44,10 @@ use Rattle.meter.specs.Reply.{isSound, heard, verdictOn, replied, answerOf}
 use Rattle.meter.proofs.KeepLaws as keep
 use Rattle.demands.specs.Changes.{Permitted}
 use Rattle.demands.proofs.Claims as claims
-use Rattle.metlazuel.specs.MeterCalls.{phasesFrom, madeIn, secondIn, powersIn, sliceIn, bytesAfter, makeForC, bytesLeft, answerForC}
-use Rattle.metlazuel.specs.MeterRun.{MeterCall, make, second, powers, slice, frame, Meter, meter, Told, recordAfter, recordStep, bytesStep, meterRun}
+use Rattle.metlazuel.specs.MeterCalls.{phasesFrom, ratiosFrom, madeIn, secondIn, powersIn, ratiosIn, sliceIn, bytesAfter, makeForC, bytesLeft, answerForC}
+use Rattle.metlazuel.specs.MeterRun.{MeterCall, make, second, powers, ratios, slice, frame, Meter, meter, Told, recordAfter, recordStep, bytesStep, meterRun}
 use Rattle.metlazuel.specs.Demand2.{Holds, EndAlike, CallFits, AllFit}
-use Rattle.metlazuel.proofs.WidthLaws.{fresh-fits, later-fits, from-fits, powers-fit, place-fits, after-fits, read-back, read-again, read-fits}
+use Rattle.metlazuel.proofs.WidthLaws.{fresh-fits, later-fits, from-fits, powers-fit, ratios-fit, place-fits, after-fits, read-back, read-again, read-fits}
 
 -- bytes that are read as a record whose numbers fit
 abbrev Reads : List ℕ → Record → Type 0
@@ -98,6 +99,11 @@ set-fits r n a b c f =
     tt)
     tt
 
+ratios-fits : (r : Record) (ki ku : ℕ) → ki < 2 ^ 32 → ku < 2 ^ 32 → FitsRecord r → FitsAnswer (setRatios r (ratiosFrom ki ku))
+unfolding setRatios
+ratios-fits r ki ku i u f =
+    either FitsAnswer (isWithin r) (either FitsAnswer (areRatios (ratiosFrom ki ku)) (ratios-fit r ki ku i u f) tt) tt
+
 sound-within : (r : Record) (s : List ℕ) → isSound r s ≡ true → isWithin r ≡ true
 unfolding isSound
 sound-within r s h = both (eqb (length s) _) (isWithin r) h .1
@@ -121,7 +127,7 @@ put-fits r s k row f =
 
 read-leaves : (fn : Function) (r : Record) (f : List ℕ) → isRead fn ≡ true → afterBy fn r f ≡ r
 unfolding afterBy
-read-leaves function.Read r f e = refl
+read-leaves (function.Read reading) r f e = refl
 read-leaves function.Unknown r f e = refl
 read-leaves function.Change r f e = absurd (false≢true e)
 read-leaves function.Zero r f e = absurd (false≢true e)
@@ -168,7 +174,7 @@ module _ (bs : List ℕ) (r : Record) (s f out : List ℕ) (e : Reads bs r) (b :
 -- ---- one call, and a list of them
 
 step-alike : (bs s : List ℕ) (r : Record) (c : MeterCall) → Reads bs r → CallFits c → EndAlike (bytesStep (meter bs s) c) (recordStep (meter r s) c)
-unfolding bytesStep recordStep makeForC secondIn powersIn sliceIn answerForC
+unfolding bytesStep recordStep makeForC secondIn powersIn ratiosIn sliceIn answerForC
 step-alike bs s r (make address minutes t c season) e b =
     let a = madeIn address minutes t c season in
     let o = bench-reads a bs r e (made-fits address minutes t c season (b .0) (b .1)) (made-back address minutes t c season) in
@@ -179,6 +185,10 @@ step-alike bs s r second e b =
     record { told = rw (e .0) refl; left = record { bytes = rw (e .0) (o .0); widths = o .1; store = refl } }
 step-alike bs s r (powers n x y z) e b =
     let o = bench-reads (setPowers r n (phasesFrom x y z)) bs r e (set-fits r n x y z (e .1)) (powers-within r n (phasesFrom x y z)) in
+    record { told = rw (e .0) refl; left = record { bytes = rw (e .0) (o .0); widths = o .1; store = refl } }
+step-alike bs s r (ratios ki ku) e b =
+    let k = ratiosFrom ki ku in
+    let o = bench-reads (setRatios r k) bs r e (ratios-fits r ki ku (b .0) (b .1) (e .1)) (ratios-within r k) in
     record { told = rw (e .0) refl; left = record { bytes = rw (e .0) (o .0); widths = o .1; store = refl } }
 step-alike bs s r (slice k row) e b =
     let h = keep.put-sound r s k row in

@@ -36,7 +36,7 @@ use Rattle.meter_clock.specs.declared.season.Season.{Season}
 use Rattle.meter_clock.specs.declared.season.Time.{Time}
 use Rattle.meter_record.specs.Power.{arePowers}
 use Rattle.meter_record.specs.Ranges.{isWithin}
-use Rattle.meter_record.specs.Record.{fresh, later, withPowers}
+use Rattle.meter_record.specs.Record.{fresh, later, withPowers, withRatios}
 use Rattle.meter_record.specs.Widths.{FitsRecord}
 use Rattle.meter_record.specs.With.{remade, withProtection, withTime, withNext}
 use Rattle.meter_record.specs.declared.record.Passwords.{Passwords}
@@ -54,7 +54,7 @@ use Rattle.meter_record_bytes.specs.declared.record.RecordRead.the-variants.{Re
 use Rattle.meter_command.specs.Change.{passwordsAfter, changedTo, changed, zeroed}
 use Rattle.meter_command.specs.Parts.{functionIn, parameterIn, detailIn, dataIn}
 use Rattle.meter.specs.Effect.{afterBy, afterOf}
-use Rattle.metlazuel.specs.MeterCalls.{phasesFrom}
+use Rattle.metlazuel.specs.MeterCalls.{phasesFrom, ratiosFrom}
 
 -- ---- numbers that are read from bytes
 
@@ -108,6 +108,8 @@ remade-fits r a p k t y m n f address passwords telemetry mask next = record {
   active = f .active;
   reactive = f .reactive;
   next = next;
+  ki = f .ki;
+  ku = f .ku;
 }
 
 module _ (r : Record) (f : FitsRecord r) where
@@ -154,6 +156,8 @@ fresh-fits address minutes t c s a f =
       active = from-fits 0 0 0;
       reactive = from-fits 0 0 0;
       next = omega arith;
+      ki = omega arith;
+      ku = omega arith;
     }
 
 pub powers-fit : (r : Record) (p q : Phases) → FitsPhases p → FitsPhases q → FitsRecord r → FitsRecord (withPowers r p q)
@@ -168,6 +172,24 @@ powers-fit r p q a b f = record {
   active = a;
   reactive = b;
   next = f .next;
+  ki = f .ki;
+  ku = f .ku;
+}
+
+pub ratios-fit : (r : Record) (ki ku : ℕ) → ki < 2 ^ 32 → ku < 2 ^ 32 → FitsRecord r → FitsRecord (withRatios r (ratiosFrom ki ku))
+ratios-fit r ki ku i u f = record {
+  address = f .address;
+  main = f .main;
+  auxiliary = f .auxiliary;
+  telemetry = f .telemetry;
+  parameters = f .parameters;
+  tariffs = f .tariffs;
+  directions = f .directions;
+  active = f .active;
+  reactive = f .reactive;
+  next = f .next;
+  ki = i;
+  ku = u;
 }
 
 -- the next place is one of the store's
@@ -206,7 +228,7 @@ zero-fits p r f =
 
 after-by : (fn : Function) (r : Record) (f : List ℕ) → Bytes f → FitsRecord r → FitsRecord (afterBy fn r f)
 unfolding afterBy changed
-after-by function.Read r f b w = w
+after-by (function.Read reading) r f b w = w
 after-by function.Change r f b w = protection-fits _ _ (data-fits r w (detailIn f) (dataIn f) (bytes-behind 4 f b) (codeOf (parameterIn f)))
 after-by function.Zero r f b w = protection-fits _ _ (zero-fits (parameterIn f) r w)
 after-by function.Unlock r f b w = protection-fits r _ w
@@ -284,11 +306,13 @@ module _ (bs : List ℕ) (b : Bytes bs) where
         active = x;
         reactive = y;
         next = two-below bs b 79;
+        ki = four-below bs b 81;
+        ku = four-below bs b 85;
       }
 
   bytes-fit : FitsRead (recordOf bs)
   unfolding recordOf recordIn
-  bytes-fit = either FitsRead (eqb (length bs) 81) (parts-fit _ _ _ _ (phases-fit (drop 54 bs)) (phases-fit (drop 66 bs))) tt
+  bytes-fit = either FitsRead (eqb (length bs) 89) (parts-fit _ _ _ _ (phases-fit (drop 54 bs)) (phases-fit (drop 66 bs))) tt
 
   pub read-fits : (r : Record) → recordOf bs ≡ Read r → FitsRecord r
   read-fits r e = subst FitsRead e bytes-fit

@@ -12,6 +12,7 @@ use Rattle.words.specs.Place.{written}
 use Rattle.refusal.specs.Outcome.{Outcome, outcome}
 use Rattle.frame.specs.Layout.{bareSize}
 use Rattle.frame.specs.Sealing.{framed}
+use Rattle.frame.specs.declared.code.Reading.{Reading}
 use Rattle.request.specs.Request as request
 use Rattle.request.specs.declared.request.Request.{Request}
 use Rattle.meter_record.specs.declared.record.Record.{Record}
@@ -32,7 +33,7 @@ use Rattle.metlazuel.specs.Calls.{numbered, sized, resultAfter, received
 use Rattle.metlazuel.specs.LogCalls.{headerFrom, imageLength, fileLength, lengthAfter, askForC, lapseForC, closes, takeForC}
 use Rattle.metlazuel.specs.CellCalls.{cellForC, nextGapForC}
 use Rattle.metlazuel.specs.WireCalls.{requestFrom, decodeForC}
-use Rattle.metlazuel.specs.MeterCalls.{telemetryFrom, clockFrom, phasesFrom, key, row, madeIn, secondIn, powersIn, sliceIn}
+use Rattle.metlazuel.specs.MeterCalls.{telemetryFrom, clockFrom, phasesFrom, ratiosFrom, key, row, madeIn, secondIn, powersIn, ratiosIn, sliceIn}
 use Rattle.metlazuel.specs.MeterCalls.{benchForC, makeForC, putForC, answerForC}
 
 -- how a function ends: its number is the table's, and a refused one leaves what it is lent as it stood
@@ -67,9 +68,9 @@ pub record Demand1C : Type 0 where
   -- 50 alone gives the length received, and every other answer, 0 too, leaves the lent one
   pub take-length : (log bs reply : List ℕ) (result length : ℕ) → let o = takeForC (askOf bs) log bs reply result length in
       o .left .1 ≡ receivedAfter (o .result) reply length
-  -- requests, and replies decoded: count, result, length and row
-  pub request : (address parameter offset tariff detail : ℕ) (out : List ℕ)
-      → EndsForC out (numbered request.numberOf (request.requested (requestFrom address parameter offset tariff detail) out))
+  -- requests, and replies decoded: count, result, length and row; with function 3, and with function 4 `metlazuel_request4` and `metlazuel_decode4`
+  pub request : (reading : Reading) (address parameter offset tariff detail : ℕ) (out : List ℕ)
+      → EndsForC out (numbered request.numberOf (request.requested (requestFrom reading address parameter offset tariff detail) out))
   pub decode : (q : Request) (reply row : List ℕ) (count result length : ℕ) → let o = decodeForC q reply row count result length in let n = o .result in
       Ends {A = ℕ × ℕ × ℕ × List ℕ} n (count, resultAfter n reply result, receivedAfter n reply length, row) (o .left)
   pub decode-length : (q : Request) (reply row : List ℕ) (count result length : ℕ) → let o = decodeForC q reply row count result length in
@@ -79,6 +80,7 @@ pub record Demand1C : Type 0 where
       → EndsForC bs (makeForC (madeIn address minutes (telemetryFrom k ke reserve) (clockFrom year month day hour minute second) season) bs)
   pub meter-second : (bs : List ℕ) → EndsForC bs (benchForC (secondIn (recordOf bs)) bs)
   pub meter-powers : (bs : List ℕ) (parameter a b c : ℕ) → EndsForC bs (benchForC (powersIn (recordOf bs) parameter (phasesFrom a b c)) bs)
+  pub meter-ratios : (bs : List ℕ) (ki ku : ℕ) → EndsForC bs (benchForC (ratiosIn (recordOf bs) (ratiosFrom ki ku)) bs)
   pub meter-slice : (bs s : List ℕ) (month day number e+ e- r+ r- : ℕ)
       → EndsForC (bs, s) (putForC (sliceIn (recordOf bs) s (key month day number) (row e+ e- r+ r-)) bs)
   -- a frame: length, record and store, where a refusal frame is six bytes long; then the output; and the length of a reply of 0

@@ -5,7 +5,7 @@
 -- The calls run by the definitions that their contracts cite (specs/MeterRun.antt). Proofs: `demand-2`, proofs/Claims.antt.
 use mathlib.Core.Path.{_≡_}
 use mathlib.Core.List.{List, [], _∷_}
-use Prim.Native.Nat.{ℕ, _<_}
+use Prim.Native.Nat.{ℕ, _^_, _<_}
 use lib.ListN.{length}
 use Rattle.refusal.specs.Outcome.{Outcome}
 use Rattle.words.specs.Number.{Bytes}
@@ -23,7 +23,7 @@ use Rattle.meter_command.specs.Parts.{functionIn, parameterIn}
 use Rattle.meter.specs.Reply.{answerOf}
 use Rattle.demands.specs.Changes.{Permitted}
 use Rattle.metlazuel.specs.MeterCalls.{madeIn, makeForC}
-use Rattle.metlazuel.specs.MeterRun.{MeterCall, make, second, powers, slice, frame, Meter, meter, recordStep, bytesStep, meterRun}
+use Rattle.metlazuel.specs.MeterRun.{MeterCall, make, second, powers, ratios, slice, frame, Meter, meter, recordStep, bytesStep, meterRun}
 
 -- the lent bytes are read as the record, whose numbers fit their widths, and the stores are the same
 pub record Holds (m : Meter (List ℕ)) (x : Meter Record) : Type 0 where
@@ -36,11 +36,12 @@ pub record EndAlike {A : Type 0} (o : Outcome A (Meter (List ℕ))) (p : Outcome
   pub told : o .result ≡ p .result
   pub left : Holds (o .left) (p .left)
 
--- a new meter's numbers fit their widths, as those that C hands over do, and the bytes of a frame are bytes
+-- a new meter's numbers and the ratios fit their widths, as those that C hands over do, and the bytes of a frame are bytes
 abbrev pub CallFits : MeterCall → Type 0
 CallFits (make address minutes telemetry clock season) = (address < 256) × FitsTelemetry telemetry
 CallFits second = Unit
 CallFits (powers n a b c) = Unit
+CallFits (ratios ki ku) = (ki < 2 ^ 32) × (ku < 2 ^ 32)
 CallFits (slice k row) = Unit
 CallFits (frame f out word) = Bytes f
 
@@ -51,7 +52,7 @@ AllFit (c ∷ cs) = CallFits c × AllFit cs
 pub record Demand2C : Type 0 where
   -- any bytes that are read as a record are its start
   pub start : (bs s : List ℕ) (r : Record) → Bytes bs → recordOf bs ≡ Read r → Holds (meter bs s) (meter r s)
-  -- and so is a meter made over 81 bytes, whatever they held
+  -- and so is a meter made over 89 bytes, whatever they held
   pub make-start : (address minutes : ℕ) (t : Telemetry) (c : DateTime) (season : ℕ) (bs s : List ℕ) (r : Record) → address < 256 → FitsTelemetry t
       → length bs ≡ recordSize → madeIn address minutes t c season ≡ Done r → let o = makeForC (madeIn address minutes t c season) bs in
       (o .result ≡ 0) × Holds (meter (o .left) s) (meter r s)

@@ -12,7 +12,8 @@ use Rattle.figures.specs.declared.power.Phases.{Phases}
 use Rattle.figures.specs.declared.telemetry.Telemetry.{Telemetry}
 use Rattle.frame.specs.Layout.{longest}
 use Rattle.slots.specs.declared.key.Key.{Key}
-use Rattle.meter_record.specs.Record.{made, secondOf, setPowers, numberOf}
+use Rattle.meter_record.specs.Record.{made, secondOf, setPowers, setRatios, numberOf}
+use Rattle.meter_record.specs.declared.record.Ratios.{Ratios}
 use Rattle.meter_record.specs.declared.record.RecordAnswer.{RecordAnswer}
 use Rattle.meter_record.specs.declared.record.RecordAnswer.the-variants as answer
 use Rattle.meter_record_bytes.specs.Record.{recordSize, recordBytes}
@@ -49,6 +50,9 @@ row e+ e- r+ r- = e+ ∷ e- ∷ r+ ∷ r- ∷ []
 abbrev pub phasesFrom : ℕ → ℕ → ℕ → Phases
 phasesFrom a b c = record { a = ofBits binary32 a; b = ofBits binary32 b; c = ofBits binary32 c }
 
+abbrev pub ratiosFrom : ℕ → ℕ → Ratios
+ratiosFrom ki ku = record { ki = ki; ku = ku }
+
 -- ---- the bench's calls on what was read: bytes that are no record count as one outside its ranges
 
 madeBy : SeasonRead → ℕ → ℕ → Telemetry → DateTime → RecordAnswer
@@ -67,6 +71,10 @@ secondIn Unreadable = answer.Unsound
 unfoldable pub powersIn : RecordRead → ℕ → Phases → RecordAnswer
 powersIn (Read r) n p = setPowers r n p
 powersIn Unreadable n p = answer.Unsound
+
+unfoldable pub ratiosIn : RecordRead → Ratios → RecordAnswer
+ratiosIn (Read r) k = setRatios r k
+ratiosIn Unreadable k = answer.Unsound
 
 unfoldable pub sliceIn : RecordRead → List ℕ → Key → List ℕ → Outcome RecordAnswer (List ℕ)
 sliceIn (Read r) s k row = slicePut r s k row

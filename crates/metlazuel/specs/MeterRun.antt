@@ -5,7 +5,7 @@ use Rattle.refusal.specs.Outcome.{Outcome, outcome}
 use Rattle.calendar.specs.declared.time.DateTime.{DateTime}
 use Rattle.figures.specs.declared.telemetry.Telemetry.{Telemetry}
 use Rattle.slots.specs.declared.key.Key.{Key}
-use Rattle.meter_record.specs.Record.{secondOf, setPowers, numberOf}
+use Rattle.meter_record.specs.Record.{secondOf, setPowers, setRatios, numberOf}
 use Rattle.meter_record.specs.declared.record.Record.{Record}
 use Rattle.meter_record.specs.declared.record.RecordAnswer.{RecordAnswer}
 use Rattle.meter_record.specs.declared.record.RecordAnswer.the-variants as answer
@@ -13,14 +13,15 @@ use Rattle.meter_record_bytes.specs.Record.{recordOf}
 use Rattle.meter_command.specs.Verdict as verdict
 use Rattle.meter.specs.Bench.{slicePut}
 use Rattle.meter.specs.Reply.{answerOf}
-use Rattle.metlazuel.specs.MeterCalls.{phasesFrom, madeIn, secondIn, powersIn, sliceIn, benchForC, makeForC, putForC, sentLength, answerForC}
+use Rattle.metlazuel.specs.MeterCalls.{phasesFrom, ratiosFrom, madeIn, secondIn, powersIn, ratiosIn, sliceIn, benchForC, makeForC, putForC, sentLength, answerForC}
 
 -- a call's arguments, without record and store: a new meter's address, minutes, telemetry, clock and season; a power's parameter and the bits of
--- its phases; a slice's key and counts; a frame, the output and the word behind `length`
+-- its phases; the ratios; a slice's key and counts; a frame, the output and the word behind `length`
 pub data MeterCall : Type 0 where
   make : ℕ → ℕ → Telemetry → DateTime → ℕ → MeterCall
   second : MeterCall
   powers : ℕ → ℕ → ℕ → ℕ → MeterCall
+  ratios : ℕ → ℕ → MeterCall
   slice : Key → List ℕ → MeterCall
   frame : List ℕ → List ℕ → ℕ → MeterCall
 
@@ -55,6 +56,7 @@ unfoldable pub recordStep : Meter Record → MeterCall → Outcome Told (Meter R
 recordStep m (make address minutes telemetry clock season) = benched (madeIn address minutes telemetry clock season) (m .kept) (m .store)
 recordStep m second = benched (secondOf (m .kept)) (m .kept) (m .store)
 recordStep m (powers n a b c) = benched (setPowers (m .kept) n (phasesFrom a b c)) (m .kept) (m .store)
+recordStep m (ratios ki ku) = benched (setRatios (m .kept) (ratiosFrom ki ku)) (m .kept) (m .store)
 recordStep m (slice k row) =
     let o = slicePut (m .kept) (m .store) k row in
     benched (o .result) (m .kept) (o .left)
@@ -73,6 +75,9 @@ bytesStep m second =
     outcome (plain (o .result)) (meter (o .left) (m .store))
 bytesStep m (powers n a b c) =
     let o = benchForC (powersIn (recordOf (m .kept)) n (phasesFrom a b c)) (m .kept) in
+    outcome (plain (o .result)) (meter (o .left) (m .store))
+bytesStep m (ratios ki ku) =
+    let o = benchForC (ratiosIn (recordOf (m .kept)) (ratiosFrom ki ku)) (m .kept) in
     outcome (plain (o .result)) (meter (o .left) (m .store))
 bytesStep m (slice k row) =
     let o = putForC (sliceIn (recordOf (m .kept)) (m .store) k row) (m .kept) in

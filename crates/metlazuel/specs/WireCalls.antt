@@ -7,6 +7,7 @@ use lib.Dec.{eqb, ltb}
 use lib.ListN.{length}
 use Rattle.refusal.specs.Outcome.{Outcome, outcome}
 use Rattle.words.specs.Place.{written}
+use Rattle.frame.specs.declared.code.Reading.{Reading}
 use Rattle.request.specs.Subject.{subjectOf, mostSlots}
 use Rattle.request.specs.declared.request.Request.{Request}
 use Rattle.reader.specs.Reply.{decodedOf, numberOf}
@@ -14,10 +15,10 @@ use Rattle.reader.specs.declared.reply.Decoded.{Decoded}
 use Rattle.c_values.specs.Row.{figuresFor, figureRow}
 use Rattle.metlazuel.specs.Calls.{resultAfter, receivedAfter}
 
--- the numbers that C hands over, as a request
-abbrev pub requestFrom : ℕ → ℕ → ℕ → ℕ → ℕ → Request
-requestFrom address parameter offset tariff detail =
-    record { address = address; parameter = parameter; offset = offset; tariff = tariff; detail = detail }
+-- the numbers that C hands over, as a request; the function goes by the call
+abbrev pub requestFrom : Reading → ℕ → ℕ → ℕ → ℕ → ℕ → Request
+requestFrom reading address parameter offset tariff detail =
+    record { reading = reading; address = address; parameter = parameter; offset = offset; tariff = tariff; detail = detail }
 
 -- the lent count: how many figures there are, and untouched by a refusal
 unfoldable pub countAfter : Decoded → List ℕ → ℕ → ℕ

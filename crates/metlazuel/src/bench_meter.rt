@@ -1,10 +1,11 @@
-// The bench meter for C. Its record is 81 bytes, which `metlazuel_meter_make` fills and the other calls read and renew; its store 32,736,
+// The bench meter for C. Its record is 89 bytes, which `metlazuel_meter_make` fills and the other calls read and renew; its store 32,736,
 // at first all zero. A call that is refused leaves the record's bytes as they were, and bytes that are no record count as one outside its
 // ranges: 28. Here stand the bench's own calls; `answer_call` has a frame answered.
 use calendar::Date;
 use calendar::DateTime;
 use figures::Phases;
 use figures::Telemetry;
+use meter_record::Ratios;
 use meter_record::RecordAnswer;
 use meter_record_bytes::RECORD_BYTES;
 use meter_record_bytes::RecordRead;
@@ -15,7 +16,7 @@ ghost use Prim.Native.Nat.{_*_};
 ghost use Rattle.refusal.specs.Outcome.{outcome};
 ghost use Rattle.meter_record_bytes.specs.Record.{recordOf};
 ghost use Rattle.metlazuel.specs.Bits.{floatFrom};
-ghost use Rattle.metlazuel.specs.MeterCalls.{telemetryFrom, clockFrom, phasesFrom, madeIn, secondIn, powersIn};
+ghost use Rattle.metlazuel.specs.MeterCalls.{telemetryFrom, clockFrom, phasesFrom, ratiosFrom, madeIn, secondIn, powersIn, ratiosIn};
 ghost use Rattle.metlazuel.specs.MeterCalls.{key, row, sliceIn, bytesAfter, benchForC, makeForC, putForC};
 
 // The bits of a float, without its sign, from which on it is an infinity or no number.
@@ -159,6 +160,27 @@ pub extern "C" fn metlazuel_meter_powers(
         c: float_from(c),
     };
     let answer = powers_in(meter_record_bytes::record_of(meter), parameter, phases);
+    keep(meter, answer)
+}
+
+fn ratios_in(read: RecordRead, ratios: Ratios) -> RecordAnswer
+    ensures { λ a. ⌜ a ≡ ratiosIn read ratios ⌝ }
+{
+    match read {
+        RecordRead::Read(r) => meter_record::set_ratios(r, ratios),
+        RecordRead::Unreadable => RecordAnswer::Unsound,
+    }
+}
+
+// uint8_t metlazuel_meter_ratios(uint8_t *meter, size_t n, uint32_t ki, uint32_t ku)
+//
+// Sets the ratios of the current and voltage transformers.
+#[no_mangle]
+pub extern "C" fn metlazuel_meter_ratios(meter: &mut [u8], ki: u32, ku: u32) -> u8
+    ensures { λ n. ⌜ outcome n (now (meter .exit)) ≡ benchForC (ratiosIn (recordOf (now (meter .entry))) (ratiosFrom ki ku)) (now (meter .entry)) ⌝ }
+{
+    let ratios = Ratios { ki: ki, ku: ku };
+    let answer = ratios_in(meter_record_bytes::record_of(meter), ratios);
     keep(meter, answer)
 }
 

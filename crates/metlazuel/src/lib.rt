@@ -21,6 +21,7 @@ mod wire_calls;
 pub use answer_call::metlazuel_meter_answer;
 pub use bench_meter::metlazuel_meter_make;
 pub use bench_meter::metlazuel_meter_powers;
+pub use bench_meter::metlazuel_meter_ratios;
 pub use bench_meter::metlazuel_meter_second;
 pub use bench_meter::metlazuel_meter_slice;
 pub use cell_calls::metlazuel_cell;
@@ -34,7 +35,9 @@ pub use mercury_calls::metlazuel_mercury_answer;
 pub use mercury_calls::metlazuel_mercury_decode;
 pub use mercury_calls::metlazuel_mercury_request;
 pub use wire_calls::metlazuel_decode;
+pub use wire_calls::metlazuel_decode4;
 pub use wire_calls::metlazuel_request;
+pub use wire_calls::metlazuel_request4;
 
 // uint16_t metlazuel_crc16(const uint8_t *bytes, size_t n)
 #[no_mangle]

@@ -1,10 +1,12 @@
 // Read requests and their replies for C, without a log. A reply's figures go to a lent row of 32-bit numbers.
 use crate::given;
+use frame::code::Reading;
 use request::Request;
 ghost use mathlib.Core.Path.{_≡_};
 ghost use mathlib.Core.Bool.{cond};
 ghost use lib.Dec.{eqb};
 ghost use Rattle.refusal.specs.Outcome.{outcome};
+ghost use Rattle.frame.specs.declared.code.Reading.the-variants.{Stored, Displayed};
 ghost use Rattle.request.specs.Request.{requested, numberOf};
 ghost use Rattle.metlazuel.specs.Calls.{numbered};
 ghost use Rattle.metlazuel.specs.WireCalls.{requestFrom, decodeForC};
@@ -21,9 +23,37 @@ pub extern "C" fn metlazuel_request(
     detail: u8,
     out: &mut [u8],
 ) -> u8
-    ensures { λ n. ⌜ outcome n (now (out .exit)) ≡ numbered numberOf (requested (requestFrom address parameter offset tariff detail) (now (out .entry))) ⌝ }
+    ensures { λ n. ⌜ outcome n (now (out .exit))
+        ≡ numbered numberOf (requested (requestFrom Stored address parameter offset tariff detail) (now (out .entry))) ⌝ }
 {
     let q = Request {
+        reading: Reading::Stored,
+        address: address,
+        parameter: parameter,
+        offset: offset,
+        tariff: tariff,
+        detail: detail,
+    };
+    request::put_request(q, out).number()
+}
+
+// uint8_t metlazuel_request4(uint8_t address, uint8_t parameter, uint8_t offset, uint8_t tariff, uint8_t detail, uint8_t *out, size_t room)
+//
+// The same with function 4: figures as the display shows them.
+#[no_mangle]
+pub extern "C" fn metlazuel_request4(
+    address: u8,
+    parameter: u8,
+    offset: u8,
+    tariff: u8,
+    detail: u8,
+    out: &mut [u8],
+) -> u8
+    ensures { λ n. ⌜ outcome n (now (out .exit))
+        ≡ numbered numberOf (requested (requestFrom Displayed address parameter offset tariff detail) (now (out .entry))) ⌝ }
+{
+    let q = Request {
+        reading: Reading::Displayed,
         address: address,
         parameter: parameter,
         offset: offset,
@@ -52,16 +82,63 @@ pub extern "C" fn metlazuel_decode(
     length: &mut usize,
 ) -> u8
     ensures { λ n. ⌜ outcome n (now (count .exit), now (result .exit), now (length .exit), now (figures .exit))
-        ≡ decodeForC (requestFrom address parameter offset tariff detail) (now (reply .entry)) (now (figures .entry))
+        ≡ decodeForC (requestFrom Stored address parameter offset tariff detail) (now (reply .entry)) (now (figures .entry))
         (now (count .entry)) (now (result .entry)) (now (length .entry)) ⌝ }
 {
     let q = Request {
+        reading: Reading::Stored,
         address: address,
         parameter: parameter,
         offset: offset,
         tariff: tariff,
         detail: detail,
     };
+    decode(q, reply, figures, count, result, length)
+}
+
+// uint8_t metlazuel_decode4(uint8_t address, uint8_t parameter, uint8_t offset, uint8_t tariff, uint8_t detail, const uint8_t *reply,
+//     size_t bytes, uint32_t *figures, size_t room, size_t *count, uint8_t *result, size_t *length)
+//
+// The same of a reply to a request with function 4: the figures are the bits of floats.
+#[no_mangle]
+pub extern "C" fn metlazuel_decode4(
+    address: u8,
+    parameter: u8,
+    offset: u8,
+    tariff: u8,
+    detail: u8,
+    reply: &[u8],
+    figures: &mut [u32],
+    count: &mut usize,
+    result: &mut u8,
+    length: &mut usize,
+) -> u8
+    ensures { λ n. ⌜ outcome n (now (count .exit), now (result .exit), now (length .exit), now (figures .exit))
+        ≡ decodeForC (requestFrom Displayed address parameter offset tariff detail) (now (reply .entry)) (now (figures .entry))
+        (now (count .entry)) (now (result .entry)) (now (length .entry)) ⌝ }
+{
+    let q = Request {
+        reading: Reading::Displayed,
+        address: address,
+        parameter: parameter,
+        offset: offset,
+        tariff: tariff,
+        detail: detail,
+    };
+    decode(q, reply, figures, count, result, length)
+}
+
+fn decode(
+    q: Request,
+    reply: &[u8],
+    figures: &mut [u32],
+    count: &mut usize,
+    result: &mut u8,
+    length: &mut usize,
+) -> u8
+    ensures { λ n. ⌜ outcome n (now (count .exit), now (result .exit), now (length .exit), now (figures .exit))
+        ≡ decodeForC q (now (reply .entry)) (now (figures .entry)) (now (count .entry)) (now (result .entry)) (now (length .entry)) ⌝ }
+{
     let foretold = c_values::figures_for(request::subject_of(q, request::MOST_SLOTS));
     if figures.len() < foretold {
         return refusal::TOO_SHORT;

@@ -7,6 +7,7 @@ use lib.Dec.{eqb}
 use lib.ListN.{drop}
 use Rattle.words.specs.Place.{byteAt}
 use Rattle.frame.specs.Code.{read}
+use Rattle.frame.specs.declared.code.Reading.the-variants.{Stored}
 use Rattle.frame.specs.Layout.{resultPlace, dataPlace, bareSize}
 use Rattle.request.specs.Subject.{subjectOf, dataBytes, mostSlots}
 use Rattle.request.specs.declared.request.Request.{Request}
@@ -23,9 +24,9 @@ use Rattle.polling.specs.declared.question.Learned.the-variants as learn
 
 -- the request of a question; the slice is number 48 of 1 January
 unfoldable pub questionOf : Question → ℕ → Request
-questionOf question.Clock a = record { address = a; parameter = 32; offset = 0; tariff = 0; detail = 0 }
-questionOf question.Weight a = record { address = a; parameter = 24; offset = 0; tariff = 0; detail = 0 }
-questionOf question.Interval a = record { address = a; parameter = 36; offset = 1; tariff = 1; detail = 48 }
+questionOf question.Clock a = record { reading = Stored; address = a; parameter = 32; offset = 0; tariff = 0; detail = 0 }
+questionOf question.Weight a = record { reading = Stored; address = a; parameter = 24; offset = 0; tariff = 0; detail = 0 }
+questionOf question.Interval a = record { reading = Stored; address = a; parameter = 36; offset = 1; tariff = 1; detail = 48 }
 
 -- the bytes of the reply to a request with result 0
 unfoldable pub fullSize : Request → ℕ

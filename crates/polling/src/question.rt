@@ -1,10 +1,12 @@
 // What a poll asks before the log's intervals: the meter's clock, the weight of its counts, and its interval.
 ghost use mathlib.Core.Path.{_≡_};
 ghost use Rattle.refusal.specs.Outcome.{outcome};
+ghost use Rattle.frame.specs.declared.code.Reading.the-variants.{Stored};
 ghost use Rattle.request.specs.Request.{requested};
 ghost use Rattle.polling.specs.Question.{questionOf, fullSize, figureOf, refusalOf, learnedOf, fitsLog};
 use calendar::DateTime;
 use frame::code;
+use frame::code::Reading;
 use frame::layout;
 use log::Header;
 use reader::Fault;
@@ -92,6 +94,7 @@ fn request_of(question: Question, address: u8) -> Request
         Question::Clock => plain(address, code::CLOCK),
         Question::Weight => plain(address, code::TELEMETRY),
         Question::Interval => Request {
+            reading: Reading::Stored,
             address: address,
             parameter: code::SLICE,
             offset: JANUARY,
@@ -103,9 +106,10 @@ fn request_of(question: Question, address: u8) -> Request
 
 // A request whose other fields are unused.
 fn plain(address: u8, parameter: u8) -> Request
-    ensures { λ r. ⌜ r ≡ record { address = address; parameter = parameter; offset = 0; tariff = 0; detail = 0 } ⌝ }
+    ensures { λ r. ⌜ r ≡ record { reading = Stored; address = address; parameter = parameter; offset = 0; tariff = 0; detail = 0 } ⌝ }
 {
     Request {
+        reading: Reading::Stored,
         address: address,
         parameter: parameter,
         offset: 0,

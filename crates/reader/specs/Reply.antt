@@ -6,18 +6,23 @@ use mathlib.Core.List.{List}
 use Prim.Native.Nat.{ℕ, _+_}
 use lib.Dec.{eqb}
 use Rattle.words.specs.Place.{byteAt, numberAt}
-use Rattle.frame.specs.Code.{read}
+use Rattle.frame.specs.Code.{readingCode}
 use Rattle.frame.specs.Layout.{resultPlace, bareSize}
 use Rattle.frame.specs.declared.code.Parameter.{Parameter}
 use Rattle.frame.specs.declared.code.Parameter.the-variants as parameter
+use Rattle.frame.specs.declared.code.Reading.{Reading}
+use Rattle.frame.specs.declared.code.Reading.the-variants.{Stored, Displayed as AsDisplayed}
 use Rattle.request.specs.Subject.{subjectOf, askable, dataBytes, mostSlots}
 use Rattle.request.specs.declared.request.Request.{Request}
 use Rattle.request.specs.declared.subject.Subject.{Subject}
 use Rattle.request.specs.declared.subject.Subject.the-variants.{Figures, Nothing}
 use Rattle.figures.specs.Clock.{dateTimeOf}
+use Rattle.figures.specs.Displayed.{energiesOf}
 use Rattle.figures.specs.Mask.{maskOf}
 use Rattle.figures.specs.Power.{powerOf, powersOf}
 use Rattle.figures.specs.Telemetry.{telemetryOf}
+use Rattle.figures.specs.declared.displayed.EnergiesAnswer.{EnergiesAnswer}
+use Rattle.figures.specs.declared.displayed.EnergiesAnswer.the-variants as energies
 use Rattle.figures.specs.declared.power.Power.{Power}
 use Rattle.figures.specs.declared.power.Power.the-variants as power
 use Rattle.figures.specs.declared.power.PowersAnswer.{PowersAnswer}
@@ -27,7 +32,8 @@ use Rattle.reader.specs.Rows.{replyData}
 use Rattle.reader.specs.declared.form.Form.{Form}
 use Rattle.reader.specs.declared.form.Form.the-variants.{WellFormed, Faulty}
 use Rattle.reader.specs.declared.reply.Decoded.{Decoded}
-use Rattle.reader.specs.declared.reply.Decoded.the-variants.{OutOfRange, Malformed, MeterRefused, NotFinite, Address, Telemetry, DateTime, DisplayMask, Powers, OnePower, Slice, SixSlices}
+use Rattle.reader.specs.declared.reply.Decoded.the-variants.{OutOfRange, Malformed, MeterRefused, NotFinite, Address, Telemetry, DateTime}
+use Rattle.reader.specs.declared.reply.Decoded.the-variants.{DisplayMask, Powers, OnePower, Slice, SixSlices, Displayed}
 use Rattle.reader.specs.declared.reply.Slice.{Slice as FourCounts}
 
 -- "E+, E-, R+, R-, 2 bytes each"
@@ -48,11 +54,16 @@ abbrev pub powerFigure : Power → Decoded
 powerFigure (power.Finite p) = OnePower p
 powerFigure power.NotFinite = NotFinite
 
+-- document 02, request 3: "26 applies to these replies also"
+abbrev pub energiesFigure : EnergiesAnswer → Decoded
+energiesFigure (energies.Finite e) = Displayed e
+energiesFigure energies.NotFinite = NotFinite
+
 -- "detail 0 answers the total and A, B, C, details 1 to 3 one phase"
 unfoldable pub phaseFigures : ℕ → List ℕ → Decoded
 phaseFigures detail bs = cond (eqb detail 0) (powersFigure (powersOf bs)) (powerFigure (powerOf bs 0))
 
--- the figures that the data of a reply hold
+-- the figures that the data of a reply hold, as they are stored
 unfoldable pub readFigures : Parameter → ℕ → List ℕ → Decoded
 unfolding phaseFigures countsOf
 readFigures parameter.ActivePower detail bs = phaseFigures detail bs
@@ -68,8 +79,14 @@ readFigures parameter.SixSlices detail bs = SixSlices
 readFigures parameter.Password detail bs = OutOfRange
 readFigures parameter.Unknown detail bs = OutOfRange
 
+-- and as the display shows them, with function 4, which reads parameter 36 alone
+unfoldable pub readAs : Reading → Parameter → ℕ → List ℕ → Decoded
+unfolding readFigures
+readAs Stored p detail bs = readFigures p detail bs
+readAs AsDisplayed p detail bs = energiesFigure (energiesOf bs)
+
 abbrev pub figuresOf : Subject → List ℕ → Decoded
-figuresOf (Figures p detail) bs = readFigures p detail bs
+figuresOf (Figures reading p detail) bs = readAs reading p detail bs
 figuresOf Nothing bs = OutOfRange
 
 -- a well-formed reply: 24 with the meter's result, else its figures
@@ -86,7 +103,7 @@ unfoldable pub decodedOf : Request → List ℕ → Decoded
 unfolding formed
 decodedOf q y =
     let s = subjectOf q mostSlots in
-    cond (askable s) (formed (formOf (q .address) read (q .parameter) (bareSize + dataBytes s) y) s y) OutOfRange
+    cond (askable s) (formed (formOf (q .address) (readingCode (q .reading)) (q .parameter) (bareSize + dataBytes s) y) s y) OutOfRange
 
 -- document 01's numbers, and document 02's of a reply that is not well formed
 abbrev pub numberOf : Decoded → ℕ
@@ -102,3 +119,4 @@ numberOf (Powers p) = 0
 numberOf (OnePower p) = 0
 numberOf (Slice c) = 0
 numberOf SixSlices = 0
+numberOf (Displayed e) = 0

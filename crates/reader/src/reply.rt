@@ -5,17 +5,21 @@ use crate::form::form_of;
 use calendar::DateTime;
 use energy::Counts;
 use figures::DisplayMask;
+use figures::Energies;
+use figures::EnergiesAnswer;
 use figures::Power;
 use figures::Powers;
 use figures::PowersAnswer;
 use figures::Telemetry;
 use frame::code;
 use frame::code::Parameter;
+use frame::code::Reading;
 use frame::layout;
 use request::Request;
 use request::Subject;
 ghost use mathlib.Core.Path.{_≡_};
-ghost use Rattle.reader.specs.Reply.{countsOf, powersFigure, powerFigure, phaseFigures, readFigures, figuresOf, repliedOf, decodedOf, numberOf};
+ghost use Rattle.reader.specs.Reply.{countsOf, powersFigure, powerFigure, phaseFigures, energiesFigure};
+ghost use Rattle.reader.specs.Reply.{readFigures, readAs, figuresOf, repliedOf, decodedOf, numberOf};
 
 // The counts of one slice.
 pub struct Slice {
@@ -31,7 +35,7 @@ pub enum Decoded {
     Malformed(Fault),
     // The meter's result.
     MeterRefused(u8),
-    // An infinity or no number among the powers.
+    // An infinity or no number among the powers or the displayed energies.
     NotFinite,
     Address(u8),
     Telemetry(Telemetry),
@@ -42,6 +46,8 @@ pub enum Decoded {
     Slice(Slice),
     // `six_slices` has the rows.
     SixSlices,
+    // A slice as the display shows it.
+    Displayed(Energies),
 }
 
 impl Decoded {
@@ -62,6 +68,7 @@ impl Decoded {
             Decoded::OnePower(_) => refusal::DONE,
             Decoded::Slice(_) => refusal::DONE,
             Decoded::SixSlices => refusal::DONE,
+            Decoded::Displayed(_) => refusal::DONE,
         }
     }
 }
@@ -72,7 +79,14 @@ pub fn decode(q: Request, reply: &[u8]) -> Decoded
     let subject = request::subject_of(q, request::MOST_SLOTS);
     if request::is_askable(subject) {
         let full = layout::BARE_BYTES + request::data_bytes(subject);
-        match form_of(q.address, code::READ, q.parameter, full, reply) {
+        let reading = q.reading;
+        match form_of(
+            q.address,
+            code::reading_code(reading),
+            q.parameter,
+            full,
+            reply,
+        ) {
             Form::WellFormed => replied(subject, reply),
             Form::Faulty(fault) => Decoded::Malformed(fault),
         }
@@ -95,8 +109,27 @@ fn figures_of(subject: Subject, bytes: &[u8]) -> Decoded
     ensures { λ r. ⌜ r ≡ figuresOf subject (now (bytes .entry)) ⌝ }
 {
     match subject {
-        Subject::Figures(p, detail) => read_figures(p, detail, bytes),
+        Subject::Figures(reading, p, detail) => read_as(reading, p, detail, bytes),
         Subject::Nothing => Decoded::OutOfRange,
+    }
+}
+
+// Figures as they are stored, or as the display shows them.
+fn read_as(reading: Reading, p: Parameter, detail: u8, bytes: &[u8]) -> Decoded
+    ensures { λ r. ⌜ r ≡ readAs reading p detail (now (bytes .entry)) ⌝ }
+{
+    match reading {
+        Reading::Stored => read_figures(p, detail, bytes),
+        Reading::Displayed => energies_figure(figures::energies_of(bytes)),
+    }
+}
+
+fn energies_figure(e: EnergiesAnswer) -> Decoded
+    ensures { λ r. ⌜ r ≡ energiesFigure e ⌝ }
+{
+    match e {
+        EnergiesAnswer::Finite(energies) => Decoded::Displayed(energies),
+        EnergiesAnswer::NotFinite => Decoded::NotFinite,
     }
 }
 

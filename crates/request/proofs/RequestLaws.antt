@@ -8,7 +8,7 @@ use borrow.Author.Tests.{lt-ltb, ltb-true}
 use Rattle.case_laws.proofs.Test.{both}
 use Rattle.slots.specs.Key.{isLegal}
 use Rattle.slots.specs.declared.key.Key.{Key}
-use Rattle.frame.specs.Table.{rowOf, parameterOf}
+use Rattle.frame.specs.Table.{rowOf, opensTo, parameterOf}
 use Rattle.frame.proofs.TableLaws.{reply-small}
 use Rattle.frame.specs.declared.code.Parameter.{Parameter}
 use Rattle.frame.specs.declared.table.Fields.{Fields}
@@ -21,17 +21,17 @@ use Rattle.request.specs.declared.subject.Subject.the-variants.{Figures,
 -- ---- what a request that asks for something asks for
 
 pub record Asked (p : Parameter) (q : Request) (slots : ℕ) : Type 0 where
-  pub readable : (rowOf p) .readable ≡ true
+  pub open-to : opensTo (q .reading) (rowOf p) ≡ true
   pub fits : fieldsFit ((rowOf p) .fields) q slots ≡ true
-  pub subject : subjectFor p q slots ≡ Figures p (q .detail)
+  pub subject : subjectFor p q slots ≡ Figures (q .reading) p (q .detail)
 
 pub asked : (p : Parameter) (q : Request) (slots : ℕ) → askable (subjectFor p q slots) ≡ true → Asked p q slots
 unfolding subjectFor
-asked p q slots = go ((rowOf p) .readable) refl (fieldsFit ((rowOf p) .fields) q slots) refl
+asked p q slots = go (opensTo (q .reading) (rowOf p)) refl (fieldsFit ((rowOf p) .fields) q slots) refl
   where
-    go : (a : Bool) → (rowOf p) .readable ≡ a → (b : Bool) → fieldsFit ((rowOf p) .fields) q slots ≡ b
+    go : (a : Bool) → opensTo (q .reading) (rowOf p) ≡ a → (b : Bool) → fieldsFit ((rowOf p) .fields) q slots ≡ b
         → askable (subjectFor p q slots) ≡ true → Asked p q slots
-    go true e true g h = record { readable = e; fits = g; subject = rw (e, g) }
+    go true e true g h = record { open-to = e; fits = g; subject = rw (e, g) }
     go true e false g h = absurd (false≢true (rw (e, g) at h))
     go false e b g h = absurd (false≢true (rw e at h))
 
@@ -55,10 +55,10 @@ pub subject-wider : (q : Request) (slots : ℕ) → slots ≤ mostSlots → aska
 unfolding subjectOf subjectFor
 subject-wider q slots h e =
     let a = asked (parameterOf (q .parameter)) q slots e in
-    rw (a .readable, a .fits, fields-wider ((rowOf (parameterOf (q .parameter))) .fields) q slots mostSlots h (a .fits))
+    rw (a .open-to, a .fits, fields-wider ((rowOf (parameterOf (q .parameter))) .fields) q slots mostSlots h (a .fits))
 
 -- ---- data bytes
 
 pub dataBytes-small : (s : Subject) → dataBytes s ≤ 48
-dataBytes-small (Figures p detail) = reply-small p detail
+dataBytes-small (Figures reading p detail) = reply-small reading p detail
 dataBytes-small Nothing = lit≤ tt

@@ -5,7 +5,7 @@ use Prim.Native.Nat.{ℕ, _-_}
 use lib.Dec.{eqb, leb}
 use Rattle.slots.specs.Key.{isLegal}
 use Rattle.slots.specs.declared.key.Key.{Key}
-use Rattle.frame.specs.Table.{rowOf, parameterOf, replyBytes}
+use Rattle.frame.specs.Table.{rowOf, opensTo, parameterOf, replyBytes}
 use Rattle.frame.specs.declared.code.Parameter.{Parameter}
 use Rattle.frame.specs.declared.table.Fields.{Fields}
 use Rattle.frame.specs.declared.table.Fields.the-variants.{Unused, Phase, Slot, SixSlots}
@@ -36,9 +36,10 @@ fieldsFit SixSlots q slots = isLegal (keyOf q) (slots - 5)
 
 -- ---- what is asked for
 
--- by the parameter that is read
+-- by the parameter that is read: figures as they are stored, with function 3, or as they are displayed, with 4 (document 02, request 3)
 unfoldable pub subjectFor : Parameter → Request → ℕ → Subject
-subjectFor p q slots = cond ((rowOf p) .readable && fieldsFit ((rowOf p) .fields) q slots) (Figures p (q .detail)) Nothing
+subjectFor p q slots =
+    cond (opensTo (q .reading) (rowOf p) && fieldsFit ((rowOf p) .fields) q slots) (Figures (q .reading) p (q .detail)) Nothing
 
 -- what a request asks of a meter whose day has so many slots; nothing, where it would not answer with 0
 unfoldable pub subjectOf : Request → ℕ → Subject
@@ -52,10 +53,10 @@ mostSlots = 96
 
 -- whether it asks for something
 abbrev pub askable : Subject → Bool
-askable (Figures p detail) = true
+askable (Figures reading p detail) = true
 askable Nothing = false
 
 -- how many data bytes its answer has
 abbrev pub dataBytes : Subject → ℕ
-dataBytes (Figures p detail) = replyBytes p detail
+dataBytes (Figures reading p detail) = replyBytes reading p detail
 dataBytes Nothing = 0

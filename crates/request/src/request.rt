@@ -3,6 +3,7 @@ use crate::subject::MOST_SLOTS;
 use crate::subject::is_askable;
 use crate::subject::subject_of;
 use frame::code;
+use frame::code::Reading;
 use frame::layout::CRC_BYTES;
 use frame::layout::READ_BYTES;
 ghost use mathlib.Core.Path.{_≡_};
@@ -10,6 +11,8 @@ ghost use Rattle.refusal.specs.Outcome.{outcome};
 ghost use Rattle.request.specs.Request.{requested, numberOf};
 
 pub struct Request {
+    // Its function.
+    pub reading: Reading,
     pub address: u8,
     pub parameter: u8,
     pub offset: u8,
@@ -47,9 +50,10 @@ pub fn put_request(q: Request, out: &mut [u8]) -> RequestAnswer
         return RequestAnswer::TooShort;
     }
     if is_askable(subject_of(q, MOST_SLOTS)) {
+        let reading = q.reading;
         let body = [
             q.address,
-            code::READ,
+            code::reading_code(reading),
             q.parameter,
             q.offset,
             q.tariff,

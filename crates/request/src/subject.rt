@@ -1,6 +1,7 @@
 // What a request asks for.
 use crate::request::Request;
 use frame::code::Parameter;
+use frame::code::Reading;
 use frame::table;
 use frame::table::Fields;
 use slots::Key;
@@ -10,8 +11,8 @@ ghost use Rattle.request.specs.Subject.{keyOf, unused, isPhase, fieldsFi
 
 // What a request asks for; nothing, where the meter would not answer it with 0.
 pub enum Subject {
-    // The figures of a parameter, by the detail.
-    Figures(Parameter, u8),
+    // The figures of a parameter, as stored or as displayed, by the detail.
+    Figures(Reading, Parameter, u8),
     Nothing,
 }
 
@@ -29,9 +30,10 @@ pub fn subject_of(q: Request, slots: u8) -> Subject
     let p = table::parameter_of(q.parameter);
     let row = table::row_of(p);
     let fields = row.fields;
-    if row.readable {
+    let reading = q.reading;
+    if table::opens_to(reading, row) {
         if fields_fit(fields, q, slots) {
-            return Subject::Figures(p, q.detail);
+            return Subject::Figures(reading, p, q.detail);
         }
     }
     Subject::Nothing
@@ -100,7 +102,7 @@ pub fn is_askable(subject: Subject) -> bool
     ensures { λ r. ⌜ r ≡ askable subject ⌝ }
 {
     match subject {
-        Subject::Figures(_, _) => true,
+        Subject::Figures(_, _, _) => true,
         Subject::Nothing => false,
     }
 }
@@ -110,7 +112,7 @@ pub fn data_bytes(subject: Subject) -> usize
     ensures { λ r. ⌜ r ≡ dataBytes subject ⌝ }
 {
     match subject {
-        Subject::Figures(p, detail) => table::reply_bytes(p, detail),
+        Subject::Figures(reading, p, detail) => table::reply_bytes(reading, p, detail),
         Subject::Nothing => 0,
     }
 }

@@ -11,10 +11,11 @@ mod random;
 use damage::{damaged, damaged_and_sealed};
 use metlazuel_check::model::book::Book;
 use metlazuel_check::model::calendar::date_of;
+use metlazuel_check::model::count_bytes;
 use metlazuel_check::model::crc::sealed;
 use metlazuel_check::model::log::{self, Ask, Header};
+use metlazuel_check::model::reader::{READ, READ_SHOWN};
 use metlazuel_check::model::refusal::Refusal;
-use metlazuel_check::model::{count_bytes, reader::READ};
 use random::Random;
 use std::collections::BTreeSet;
 
@@ -102,6 +103,11 @@ fn any_reply(random: &mut Random, open: Option<Ask>) -> Vec<u8> {
         0 => sealed(vec![address, 0x80 + READ, SLICE, random.byte()]),
         1 => damaged(random, right),
         2 => damaged_and_sealed(random, &right),
+        // function 4, as the meter gives it and as long as one with function 3: the log takes neither
+        3 => {
+            let length = random.pick(&[8, 16]);
+            sealed([&[address, READ_SHOWN, SLICE, 0][..], &random.bytes(length)].concat())
+        }
         _ => right,
     }
 }

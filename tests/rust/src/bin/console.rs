@@ -3,8 +3,8 @@
 use metlazuel_check::model::calendar::Moment;
 use metlazuel_check::model::log::{self, Ask, Cell, Header};
 use metlazuel_check::model::mercury::{self, Reading};
-use metlazuel_check::model::meter::{self, Level, Phases, Record, Season, Telemetry};
-use metlazuel_check::model::reader::{Figures, Request};
+use metlazuel_check::model::meter::{self, Level, Phases, Ratios, Record, Season, Telemetry};
+use metlazuel_check::model::reader::{Figures, Request, READ, READ_SHOWN};
 use metlazuel_check::model::refusal::Refusal;
 use std::io::{self, BufRead, Write};
 
@@ -73,16 +73,20 @@ impl Console {
             "open" => self.open(words),
             "cell" => self.cell(words),
             "report" => self.report(words),
-            "request" => request(words),
-            "decode" => decode(words),
+            "request" => request(READ, words),
+            "request4" => request(READ_SHOWN, words),
+            "decode" => decode(READ, words),
+            "decode4" => decode(READ_SHOWN, words),
             "meter" => self.meter(words),
             "power" => self.power(words),
+            "ratio" => self.ratio(words),
             "slice" => self.slice(words),
             "second" => self.second(words),
             "frame" => self.frame(words),
             "record" => self.record(words),
             "shown" => self.shown(words),
-            "inquire" => self.inquire(words),
+            "inquire" => self.inquire(READ, words),
+            "inquire4" => self.inquire(READ_SHOWN, words),
             "mercury" => self.mercury(words),
             "mercury-frame" => self.mercury_frame(words),
             "mercury-ask" => mercury_ask(words),
@@ -177,6 +181,11 @@ impl Console {
         Some(done(self.record.set_power(parameter, phases)))
     }
 
+    fn ratio(&mut self, words: &[&str]) -> Line {
+        let [ki, ku] = *words else { return None };
+        Some(done(self.record.set_ratios(Ratios { ki: long(ki)?, ku: long(ku)? })))
+    }
+
     fn slice(&mut self, words: &[&str]) -> Line {
         let [month, day, number, a, b, c, d] = *words else { return None };
         let [month, day, number] = bytes(&[month, day, number])?;
@@ -207,11 +216,12 @@ impl Console {
 
     fn record(&self, words: &[&str]) -> Line {
         let [] = *words else { return None };
-        let Record { address, protection, clock, season, next, .. } = &self.record;
+        let Record { address, protection, clock, season, next, ratios, .. } = &self.record;
         let (level, season) = (level_number(protection.level), season_number(*season));
         let year = 2_000 + u16::from(clock.year);
         let time = list([clock.month, clock.day, clock.hour, clock.minute, clock.second]);
-        Some(format!("0 {address} {level} {} {year} {time} {season} {next}", protection.seconds))
+        let Ratios { ki, ku } = ratios;
+        Some(format!("0 {address} {level} {} {year} {time} {season} {next} {ki} {ku}", protection.seconds))
     }
 
     fn shown(&self, words: &[&str]) -> Line {
@@ -220,8 +230,8 @@ impl Console {
     }
 
     /// A read request sent to the console's own meter and its reply decoded, in one call.
-    fn inquire(&mut self, words: &[&str]) -> Line {
-        let request = read_request(words)?;
+    fn inquire(&mut self, function: u8, words: &[&str]) -> Line {
+        let request = read_request(function, words)?;
         Some(said(request.frame().and_then(|frame| self.ask_own_meter(&request, &frame))))
     }
 
@@ -261,21 +271,21 @@ fn mercury_decode(words: &[&str]) -> Line {
     Some(said(mercury::decode(address, command, &reply).map(reading)))
 }
 
-fn request(words: &[&str]) -> Line {
-    Some(said(read_request(words)?.frame().map(|frame| hex(&frame))))
+fn request(function: u8, words: &[&str]) -> Line {
+    Some(said(read_request(function, words)?.frame().map(|frame| hex(&frame))))
 }
 
-fn decode(words: &[&str]) -> Line {
+fn decode(function: u8, words: &[&str]) -> Line {
     let (request, reply) = words.split_at_checked(5)?;
-    let (request, reply) = (read_request(request)?, string_or_nothing(reply)?);
+    let (request, reply) = (read_request(function, request)?, string_or_nothing(reply)?);
     Some(said(request.decode(&reply).map(figures)))
 }
 
 // Words read
 
-fn read_request(words: &[&str]) -> Option<Request> {
+fn read_request(function: u8, words: &[&str]) -> Option<Request> {
     let [address, parameter, offset, tariff, detail] = bytes(words)?;
-    Some(Request { address, parameter, offset, tariff, detail })
+    Some(Request { address, function, parameter, offset, tariff, detail })
 }
 
 /// ADDRESS MINUTES K KE RESERVE YEAR MONTH DAY HOUR MINUTE SECOND SEASON
@@ -405,6 +415,7 @@ fn figures(figures: Figures) -> String {
         Figures::Telemetry { k, ke, reserve } => format!("{k} {ke} {reserve}"),
         Figures::Date(bytes) | Figures::Mask(bytes) => list(bytes),
         Figures::Slice(counts) => list(counts),
+        Figures::SliceShown(energies) => list(energies.map(|bits| format!("{bits:08X}"))),
         Figures::SixSlices(rows) => list(rows.into_iter().flatten()),
     }
 }

@@ -1,5 +1,5 @@
 //! The bench meter: its record, its making, one second of it, and what the bench sets
-//! (01, "The bench meter's record").
+//! (01, "The bench meter's record"; 02, CR 3).
 
 mod answer;
 mod protection;
@@ -13,6 +13,7 @@ pub use store::{empty_store, PLACES, PLACE_BYTES, STORE_BYTES};
 
 use super::calendar::{Moment, LAST};
 use super::refusal::Refusal;
+use super::shown::kilowatt_hours;
 use super::{interval_valid, key_legal};
 
 /// From the factory eight bytes 30 hex (01, "Protection").
@@ -36,6 +37,27 @@ impl Telemetry {
     /// K x Ke from 40,000 to 5,000,000; no division, so nothing is cut.
     pub fn in_range(self) -> bool {
         (40_000..=5_000_000).contains(&(u64::from(self.k) * u64::from(self.ke)))
+    }
+}
+
+/// The ratios of the current and voltage transformers before the meter (02, CR 3).
+#[derive(Clone, Copy, Debug, PartialEq, Eq)]
+pub struct Ratios {
+    pub ki: u32,
+    pub ku: u32,
+}
+
+impl Ratios {
+    /// At first 1 each.
+    pub const NONE: Ratios = Ratios { ki: 1, ku: 1 };
+
+    fn product(self) -> u64 {
+        u64::from(self.ki) * u64::from(self.ku)
+    }
+
+    /// Whole numbers from 1, product at most 1,000,000.
+    pub fn in_range(self) -> bool {
+        self.ki >= 1 && self.ku >= 1 && self.product() <= 1_000_000
     }
 }
 
@@ -78,6 +100,7 @@ pub struct Record {
     pub auxiliary_password: [u8; 8],
     /// The store's next place in turn.
     pub next: usize,
+    pub ratios: Ratios,
 }
 
 /// A new record; a setting out of range is 27 (01, table).
@@ -96,6 +119,7 @@ pub fn make(address: u8, minutes: u8, telemetry: Telemetry, clock: Moment, seaso
         main_password: FACTORY_PASSWORD,
         auxiliary_password: FACTORY_PASSWORD,
         next: 0,
+        ratios: Ratios::NONE,
     };
     if record.sound() {
         Ok(record)
@@ -116,6 +140,7 @@ impl Record {
             && self.reactive.in_range()
             && self.protection.sound()
             && self.next < PLACES
+            && self.ratios.in_range()
     }
 
     /// One call is one second; protection ticks on where the clock stands still (01, "Clock").
@@ -137,6 +162,20 @@ impl Record {
             _ => return Err(Refusal::OutOfRange),
         }
         Ok(())
+    }
+
+    /// The bench sets both ratios (02, CR 3).
+    pub fn set_ratios(&mut self, ratios: Ratios) -> Result<(), Refusal> {
+        if !ratios.in_range() {
+            return Err(Refusal::OutOfRange);
+        }
+        self.ratios = ratios;
+        Ok(())
+    }
+
+    /// A register's counts as the display shows them: N x Ke x KI x KU / 1,000,000 kilowatt-hours, as a float's bits.
+    pub fn as_shown(&self, counts: u16) -> u32 {
+        kilowatt_hours(u64::from(counts) * u64::from(self.telemetry.ke) * self.ratios.product())
     }
 
     /// The bench puts a slice in (01, "Slices").
@@ -177,5 +216,14 @@ mod tests {
         let of = |a| Phases { a, b: 0.0, c: 0.0 };
         assert!(of(1_000_000.0).in_range() && of(-1_000_000.0).in_range());
         assert!(!of(1_000_000.1).in_range() && !of(f32::NAN).in_range() && !of(f32::INFINITY).in_range());
+    }
+
+    #[test]
+    fn ratios_from_1_and_their_product() {
+        let fits = |ki, ku| Ratios { ki, ku }.in_range();
+        assert!(fits(1, 1) && fits(1_000_000, 1) && fits(1, 1_000_000) && fits(1_000, 1_000) && fits(999_999, 1));
+        assert!(!fits(0, 1) && !fits(1, 0) && !fits(0, 0) && !fits(1_000_001, 1) && !fits(1_001, 1_000));
+        // 2^16 x 2^16 is 0 in 32 bits, and (2^32 - 1) x (2^32 - 1) is 1
+        assert!(!fits(65_536, 65_536) && !fits(u32::MAX, u32::MAX) && !fits(1, u32::MAX));
     }
 }

@@ -8,6 +8,7 @@ pub mod mercury;
 pub mod meter;
 pub mod reader;
 pub mod refusal;
+pub mod shown;
 
 /// Slots of a day and legal numbers of a slice: 48 for 30 minutes, 96 for 15 (01, "Slices").
 pub fn slots(minutes: u8) -> u8 {

@@ -30,7 +30,7 @@ pub enum Refusal {
     MeterRefused(u8),
     /// 25: other counts than those measured
     OtherCounts,
-    /// 26: power reply with an infinity or no number
+    /// 26: a reply of floats with an infinity or no number
     NotFinite,
     /// 27: bench setting, new log's header or request out of range
     OutOfRange,

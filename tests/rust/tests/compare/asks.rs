@@ -7,10 +7,11 @@ use crate::logs::{any_image, any_log, fitting, right_header, spoil, start, with_
 use crate::random::Random;
 use crate::run::{same, same_bytes, Answer, Group, Same};
 use crate::twin::{number, told_length, told_result};
+use metlazuel_check::model::count_bytes;
 use metlazuel_check::model::crc::sealed;
 use metlazuel_check::model::log::{self, read_file, Ask, Cell};
+use metlazuel_check::model::reader::{READ, READ_SHOWN};
 use metlazuel_check::model::refusal::Refusal;
-use metlazuel_check::model::{count_bytes, reader::READ};
 
 const FRESH: u64 = 200_000;
 const FILES: u64 = 60_000;
@@ -287,8 +288,9 @@ fn any_reply(random: &mut Random, logs: &Logs) -> Vec<u8> {
     let open = open_of(&logs.ask).flatten().unwrap_or(Ask { address: 1, day: 0, slot: 0 });
     let address = if random.one_in(16) { random.byte() } else { open.address };
     let right = sealed([&[address, READ, SLICE, 0][..], &count_bytes(counts(random, logs, open))].concat());
-    match random.below(12) {
+    match random.below(13) {
         0 => sealed(vec![address, 0x80 + READ, SLICE, random.byte()]),
+        4 => shown(random, address),
         1 => damaged(random, right),
         2 => damaged_and_sealed(random, &right),
         3 => {
@@ -297,6 +299,13 @@ fn any_reply(random: &mut Random, logs: &Logs) -> Vec<u8> {
         }
         _ => right,
     }
+}
+
+/// A reply with function 4, which the log does not take: as the meter gives it, or as long as one with function 3.
+fn shown(random: &mut Random, address: u8) -> Vec<u8> {
+    let length = random.pick(&[0, 8, 16]);
+    let function = if length == 0 { 0x80 + READ_SHOWN } else { READ_SHOWN };
+    sealed([&[address, function, SLICE, u8::from(length == 0)][..], &random.bytes(length)].concat())
 }
 
 /// None, those of the interval's cell, a few, or any.

@@ -1,11 +1,11 @@
-//! Dialogues: a meter made, and then commands, seconds, slices and powers as they come.
+//! Dialogues: a meter made, and then commands, seconds, slices, powers and ratios as they come.
 
 use crate::damage::{change_byte, damaged, damaged_and_sealed};
 use crate::frames::{addressed, command, key, read, Keys};
 use crate::layout::RECORD_BYTES;
 use crate::random::Random;
 use crate::run::Group;
-use crate::settings::{any_settings, right_settings};
+use crate::settings::{any_ratios, any_settings, right_settings};
 use crate::twin::{made, Call, Twin};
 use metlazuel_check::model::meter::{Record, PLACES, PLACE_BYTES, STORE_BYTES};
 
@@ -94,11 +94,12 @@ pub fn call(group: &mut Group, case: u64, twin: &mut Twin, call: &Call) {
 }
 
 fn step(group: &mut Group, case: u64, random: &mut Random, twin: &mut Twin, keys: Keys) {
-    match random.below(40) {
+    match random.below(42) {
         0..=21 => call(group, case, twin, &frame_call(random, twin, keys)),
         22..=27 => seconds(group, case, random, twin),
         28..=34 => call(group, case, twin, &slice_call(random, twin, keys)),
         35..=37 => call(group, case, twin, &powers_call(random)),
+        38 | 39 => call(group, case, twin, &Call::Ratios(any_ratios(random))),
         _ => damaged_meter(group, case, random, twin, keys),
     }
 }
@@ -182,6 +183,7 @@ fn damaged_meter(group: &mut Group, case: u64, random: &mut Random, twin: &Twin,
         slice_call(random, twin, keys),
         Call::Second,
         powers_call(random),
+        Call::Ratios(any_ratios(random)),
         frame_call(random, twin, keys),
     ];
     let mut copy = twin.clone();

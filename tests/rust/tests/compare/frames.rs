@@ -6,10 +6,12 @@ use crate::times::{clock_time, season_date, spoiled};
 use metlazuel_check::model::calendar::Moment;
 use metlazuel_check::model::crc::sealed;
 use metlazuel_check::model::meter::{Record, FACTORY_PASSWORD};
+use metlazuel_check::model::reader::{READ, READ_SHOWN};
 use metlazuel_check::model::slots;
 
 pub const PARAMETERS: [u8; 11] = [8, 9, 21, 24, 27, 28, 32, 35, 36, 37, 40];
 pub const CHANGED: [u8; 7] = [21, 24, 27, 28, 32, 35, 37];
+pub const SLICE: u8 = 36;
 
 /// Keys of slices: a few that repeat, or all that there are.
 #[derive(Clone, Copy, Debug, PartialEq)]
@@ -59,9 +61,10 @@ fn lock(random: &mut Random) -> Vec<u8> {
     vec![32, u8::from(random.one_in(8)), u8::from(random.one_in(8))]
 }
 
-/// Function 3: parameter, offset, tariff, detail.
+/// Functions 3 and 4: parameter, offset, tariff, detail; function 4 with a slice most often.
 pub fn read(random: &mut Random, record: &Record, keys: Keys) -> Vec<u8> {
-    let parameter = random.pick(&PARAMETERS);
+    let function = random.pick(&[READ, READ, READ_SHOWN]);
+    let parameter = if function == READ || random.one_in(4) { random.pick(&PARAMETERS) } else { SLICE };
     let mut fields = match parameter {
         8 | 9 => [0, 0, random.within(0, 4)],
         36 | 40 => key(random, record.minutes, keys),
@@ -70,7 +73,7 @@ pub fn read(random: &mut Random, record: &Record, keys: Keys) -> Vec<u8> {
     if random.one_in(8) {
         fields[random.below(3)] = random.byte();
     }
-    [&[3, parameter][..], &fields].concat()
+    [&[function, parameter][..], &fields].concat()
 }
 
 /// A key of a slice, now and then an illegal one.

@@ -1,10 +1,10 @@
-//! The record's 81 bytes (crates/record_bytes): where each thing stands, written and read.
+//! The record's 89 bytes (crates/record_bytes): where each thing stands, written and read.
 
 use metlazuel_check::model::calendar::Moment;
-use metlazuel_check::model::meter::{Level, Phases, Protection, Record, Season, Switches, Telemetry};
+use metlazuel_check::model::meter::{Level, Phases, Protection, Ratios, Record, Season, Switches, Telemetry};
 use metlazuel_check::model::word;
 
-pub const RECORD_BYTES: usize = 81;
+pub const RECORD_BYTES: usize = 89;
 
 pub fn bytes_of(record: &Record) -> Vec<u8> {
     let mut bytes = vec![record.address, level_byte(record.protection.level), record.protection.seconds];
@@ -22,6 +22,8 @@ pub fn bytes_of(record: &Record) -> Vec<u8> {
     bytes.extend(power_bytes(record.reactive));
     bytes.push(record.minutes);
     bytes.extend((record.next as u16).to_le_bytes());
+    bytes.extend(record.ratios.ki.to_le_bytes());
+    bytes.extend(record.ratios.ku.to_le_bytes());
     bytes
 }
 
@@ -66,6 +68,7 @@ pub fn record_of(bytes: &[u8]) -> Option<Record> {
         reactive: phases_of(&bytes[66..]),
         minutes: bytes[78],
         next: usize::from(word(&bytes[79..])),
+        ratios: Ratios { ki: long(&bytes[81..]), ku: long(&bytes[85..]) },
     })
 }
 

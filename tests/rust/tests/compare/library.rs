@@ -50,6 +50,29 @@ mod c {
             out: *mut u8,
             room: usize,
         ) -> u8;
+        pub fn metlazuel_request4(
+            address: u8,
+            parameter: u8,
+            offset: u8,
+            tariff: u8,
+            detail: u8,
+            out: *mut u8,
+            room: usize,
+        ) -> u8;
+        pub fn metlazuel_decode4(
+            address: u8,
+            parameter: u8,
+            offset: u8,
+            tariff: u8,
+            detail: u8,
+            reply: *const u8,
+            bytes: usize,
+            figures: *mut u32,
+            room: usize,
+            count: *mut usize,
+            result: *mut u8,
+            length: *mut usize,
+        ) -> u8;
         pub fn metlazuel_decode(
             address: u8,
             parameter: u8,
@@ -106,6 +129,7 @@ mod c {
             rminus: u16,
         ) -> u8;
         pub fn metlazuel_meter_powers(kept: *mut u8, n: usize, parameter: u8, a: u32, b: u32, c: u32) -> u8;
+        pub fn metlazuel_meter_ratios(kept: *mut u8, n: usize, ki: u32, ku: u32) -> u8;
         pub fn metlazuel_mercury_request(address: u32, command: u8, out: *mut u8, room: usize) -> u8;
         pub fn metlazuel_mercury_decode(
             address: u32,
@@ -141,7 +165,8 @@ use crate::settings::Settings;
 use metlazuel_check::model::calendar::Moment;
 use metlazuel_check::model::log::{Ask, Header};
 use metlazuel_check::model::mercury::Figures;
-use metlazuel_check::model::reader::Request;
+use metlazuel_check::model::meter::Ratios;
+use metlazuel_check::model::reader::{Request, READ};
 
 /// Numbers on both sides of what is lent, which must stay as they are.
 const GUARD: u8 = 0xC3;
@@ -225,24 +250,23 @@ pub fn take(log: &mut [u8], kept: &mut [u8], reply: &[u8], result: &mut u8, leng
     })
 }
 
+/// Each function has a call of its own.
 pub fn request(request: &Request, out: &mut [u8]) -> u8 {
-    let Request { address, parameter, offset, tariff, detail } = *request;
-    guarded(out, |out| unsafe {
-        c::metlazuel_request(address, parameter, offset, tariff, detail, out.as_mut_ptr(), out.len())
-    })
+    let Request { address, function, parameter, offset, tariff, detail } = *request;
+    let call = if function == READ { c::metlazuel_request } else { c::metlazuel_request4 };
+    guarded(out, |out| unsafe { call(address, parameter, offset, tariff, detail, out.as_mut_ptr(), out.len()) })
 }
 
 /// What is lent beside the figures: their count, the meter's result, the length received.
 pub type Told<'a> = (&'a mut usize, &'a mut u8, &'a mut usize);
 
 pub fn decode(request: &Request, reply: &[u8], figures: &mut [u32], (count, result, length): Told) -> u8 {
-    let Request { address, parameter, offset, tariff, detail } = *request;
+    let Request { address, function, parameter, offset, tariff, detail } = *request;
+    let call = if function == READ { c::metlazuel_decode } else { c::metlazuel_decode4 };
     guarded(figures, |figures| unsafe {
         let (bytes, room) = (reply.len(), figures.len());
         let (reply, figures) = (reply.as_ptr(), figures.as_mut_ptr());
-        c::metlazuel_decode(
-            address, parameter, offset, tariff, detail, reply, bytes, figures, room, count, result, length,
-        )
+        call(address, parameter, offset, tariff, detail, reply, bytes, figures, room, count, result, length)
     })
 }
 
@@ -282,6 +306,11 @@ pub fn slice(kept: &mut [u8], store: &mut [u8], key: [u8; 3], counts: [u16; 4]) 
 
 pub fn powers(kept: &mut [u8], parameter: u8, [a, b, c]: [u32; 3]) -> u8 {
     guarded(kept, |kept| unsafe { c::metlazuel_meter_powers(kept.as_mut_ptr(), kept.len(), parameter, a, b, c) })
+}
+
+pub fn ratios(kept: &mut [u8], ratios: Ratios) -> u8 {
+    let Ratios { ki, ku } = ratios;
+    guarded(kept, |kept| unsafe { c::metlazuel_meter_ratios(kept.as_mut_ptr(), kept.len(), ki, ku) })
 }
 
 pub fn mercury_request(address: u32, command: u8, out: &mut [u8]) -> u8 {

@@ -1,9 +1,10 @@
 //! What a meter is made with.
 
 use crate::random::Random;
+use crate::ties::right_ratios;
 use crate::times::{first_time, spoiled};
 use metlazuel_check::model::calendar::Moment;
-use metlazuel_check::model::meter::Telemetry;
+use metlazuel_check::model::meter::{Ratios, Telemetry};
 
 #[derive(Clone, Copy, Debug)]
 pub struct Settings {
@@ -54,7 +55,7 @@ fn bounds(ke: u16) -> (u32, u32) {
     (40_000_u32.div_ceil(u32::from(ke)), 5_000_000 / u32::from(ke))
 }
 
-fn right_k(random: &mut Random, ke: u16) -> u32 {
+pub fn right_k(random: &mut Random, ke: u16) -> u32 {
     let (least, most) = bounds(ke);
     match random.below(3) {
         0 => least,
@@ -87,4 +88,16 @@ pub fn any_telemetry(random: &mut Random, stored: u16) -> Telemetry {
 fn wrapping_k(random: &mut Random, ke: u16, least: u32) -> u32 {
     let turn = ((1_u64 << 32) / u64::from(ke)) as u32;
     turn.wrapping_add(least).wrapping_add(random.within(0, 2).into())
+}
+
+/// In their range most often; else at its bounds and past them, and products past 32 bits that are in range when they are cut.
+pub fn any_ratios(random: &mut Random) -> Ratios {
+    let (ki, ku) = match random.below(8) {
+        0 => (random.below(3) as u32, random.below(3) as u32),
+        1 => random.pick(&[(1_000, 1_000), (1_001, 1_000), (1, 1_000_000), (1_000_001, 1), (2, 500_000), (500_001, 2)]),
+        2 => random.pick(&[(65_536, 65_536), (65_537, 65_536), (u32::MAX, u32::MAX), (1 << 31, 2), (u32::MAX, 1)]),
+        3 => (random.long(), random.long() >> random.below(32)),
+        _ => return right_ratios(random),
+    };
+    Ratios { ki, ku }
 }

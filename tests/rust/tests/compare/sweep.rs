@@ -2,14 +2,14 @@
 //! every length, and right frames with each byte changed to each other value.
 
 use crate::dialogue::{call, new_twin};
-use crate::frames::{CHANGED, PARAMETERS};
+use crate::frames::{CHANGED, PARAMETERS, SLICE};
 use crate::random::Random;
 use crate::run::Group;
 use crate::twin::{Call, Twin};
 use metlazuel_check::model::crc::sealed;
-use metlazuel_check::model::meter::FACTORY_PASSWORD;
+use metlazuel_check::model::meter::{Ratios, FACTORY_PASSWORD};
 
-const FUNCTIONS: [u8; 5] = [3, 16, 30, 31, 32];
+const FUNCTIONS: [u8; 6] = [3, 4, 16, 30, 31, 32];
 const LONGEST_MESSAGE: usize = 66;
 const LEVELS: u64 = 3;
 
@@ -21,6 +21,7 @@ fn meter(group: &mut Group, level: u64) -> Twin {
         call(group, level, &mut twin, &Call::Slice([5, 17, number], [random.word(); 4]));
     }
     call(group, level, &mut twin, &Call::Powers(8, [1.5_f32, -2.25, 1.0e6].map(f32::to_bits)));
+    call(group, level, &mut twin, &Call::Ratios(Ratios { ki: 3, ku: 7 }));
     let unlock = [&[0, 31, 0, 2 - level.max(1) as u8][..], &FACTORY_PASSWORD].concat();
     if level > 0 {
         call(group, level, &mut twin, &frame_call(sealed(unlock)));
@@ -109,16 +110,17 @@ fn right_frames(meter: &Twin) -> Vec<Vec<u8>> {
     let mut commands = vec![vec![32, 0, 0]];
     commands.extend([0, 1].map(|level| [&[31, 0, level][..], &password].concat()));
     commands.extend([27, 28, 36].map(|parameter| vec![30, parameter, 0]));
-    commands.extend(PARAMETERS.map(read));
+    commands.extend(PARAMETERS.map(|parameter| read(3, parameter)));
+    commands.extend([SLICE, 21].map(|parameter| read(4, parameter)));
     commands.extend(CHANGED.map(|parameter| change(parameter, record.telemetry.ke)));
     let by = |address: u8| commands.iter().map(move |command| sealed([&[address], &command[..]].concat()));
     addresses(meter).into_iter().flat_map(by).collect()
 }
 
-fn read(parameter: u8) -> Vec<u8> {
+fn read(function: u8, parameter: u8) -> Vec<u8> {
     match parameter {
-        36 | 40 => vec![3, parameter, 5, 17, 30],
-        _ => vec![3, parameter, 0, 0, 0],
+        36 | 40 => vec![function, parameter, 5, 17, 30],
+        _ => vec![function, parameter, 0, 0, 0],
     }
 }
 

@@ -4,7 +4,8 @@ use crate::layout::{bytes_of, record_of, season_of, RECORD_BYTES};
 use crate::library;
 use crate::run::{same, same_bytes, Answer, Same};
 use crate::settings::Settings;
-use metlazuel_check::model::meter::{answer, empty_store, make, Phases, Record, STORE_BYTES};
+use metlazuel_check::model::meter::{answer, empty_store, make, Phases, Ratios, Record, STORE_BYTES};
+use metlazuel_check::model::reader::{READ, READ_SHOWN};
 use metlazuel_check::model::refusal::Refusal;
 
 #[derive(Clone, Debug)]
@@ -15,6 +16,7 @@ pub enum Call {
     Slice([u8; 3], [u16; 4]),
     /// A parameter and the bits of three floats.
     Powers(u8, [u32; 3]),
+    Ratios(Ratios),
 }
 
 #[derive(Clone)]
@@ -29,8 +31,8 @@ pub struct Twin {
     library_store: Vec<u8>,
 }
 
-/// The function of a read, which changes nothing of the record and so leaves its bytes as they are.
-const READ: u8 = 3;
+/// The functions that read, which change nothing of the record and so leave its bytes as they are.
+const READS: [u8; 2] = [READ, READ_SHOWN];
 
 /// The number of an outcome.
 pub fn number<T>(outcome: &Result<T, Refusal>) -> u8 {
@@ -106,6 +108,7 @@ impl Twin {
             Call::Second => self.second(),
             Call::Slice(key, counts) => self.slice(*key, *counts),
             Call::Powers(parameter, bits) => self.powers(*parameter, *bits),
+            Call::Ratios(ratios) => self.ratios(*ratios),
         }
     }
 
@@ -113,7 +116,7 @@ impl Twin {
     fn frame(&mut self, frame: &[u8], out: &[u8]) -> Answer {
         let (mut ours, mut theirs) = (out.to_vec(), out.to_vec());
         let (outcome, sent) = self.model_answer(frame, &mut ours);
-        if frame.get(1) != Some(&READ) {
+        if !frame.get(1).is_some_and(|function| READS.contains(function)) {
             self.renew(&outcome);
         }
         let mut library_length = usize::MAX;
@@ -167,6 +170,15 @@ impl Twin {
         let outcome = self.sound_record().and_then(|record| record.set_power(parameter, Phases { a, b, c }));
         self.renew(&outcome);
         let theirs = library::powers(&mut self.library_kept, parameter, bits);
+        same("number", number(&outcome), theirs)?;
+        same_bytes("record", &self.kept, &self.library_kept)?;
+        Ok(theirs)
+    }
+
+    fn ratios(&mut self, ratios: Ratios) -> Answer {
+        let outcome = self.sound_record().and_then(|record| record.set_ratios(ratios));
+        self.renew(&outcome);
+        let theirs = library::ratios(&mut self.library_kept, ratios);
         same("number", number(&outcome), theirs)?;
         same_bytes("record", &self.kept, &self.library_kept)?;
         Ok(theirs)

@@ -1,14 +1,14 @@
-//! Read requests and the replies to them, right and damaged, for every parameter.
+//! Read requests of both functions and the replies to them, right and damaged, for every parameter.
 
 use crate::damage::{damaged, damaged_and_sealed};
-use crate::frames::PARAMETERS;
+use crate::frames::{PARAMETERS, SLICE};
 use crate::library;
 use crate::random::Random;
 use crate::run::{same, same_bytes, Answer, Group};
 use crate::sweep::{byte_changes, length_changes};
 use crate::twin::{number, told_length, told_result};
 use metlazuel_check::model::crc::sealed;
-use metlazuel_check::model::reader::{Figures, Request, READ};
+use metlazuel_check::model::reader::{Figures, Request, READ, READ_SHOWN};
 use metlazuel_check::model::refusal::Refusal;
 
 const DECODES: u64 = 3_000_000;
@@ -25,9 +25,9 @@ fn requests() {
     let mut group = Group::new("requests");
     for parameter in 0..=255 {
         let random = &mut Random::of(group.seed, u64::from(parameter));
-        for detail in 0..=255 {
+        for (function, detail) in [READ, READ_SHOWN].iter().flat_map(|f| (0..=255).map(move |detail| (*f, detail))) {
             for (offset, tariff) in [(0, 0), (1, 1), (12, 31), (0, 1), (1, 0), (13, 1), (1, 32), (255, 255)] {
-                let request = Request { address: random.byte(), parameter, offset, tariff, detail };
+                let request = Request { address: random.byte(), function, parameter, offset, tariff, detail };
                 let room = if random.one_in(8) { random.below(20) } else { REQUEST_BYTES };
                 let answer = request_both(&request, room);
                 group.call(u64::from(parameter), answer, || format!("{request:?} into {room}"));
@@ -69,13 +69,16 @@ fn decodes() {
 #[test]
 fn every_byte_of_right_replies() {
     let mut group = Group::new("every byte of right replies");
-    for (case, parameter) in (0..).zip(PARAMETERS) {
+    let kinds = PARAMETERS.iter().map(|parameter| (READ, *parameter)).chain([(READ_SHOWN, SLICE), (READ_SHOWN, 21)]);
+    for (case, (function, parameter)) in (0..).zip(kinds) {
         let random = &mut Random::of(group.seed, case);
         let [offset, tariff, detail] = right_fields(random, parameter);
-        let request = Request { address: 7, parameter, offset, tariff, detail };
-        let right = sealed([&[7, READ, parameter, 0][..], &right_data(random, &request)].concat());
-        let refusal = sealed(vec![7, 0x80 + READ, parameter, 2]);
-        for reply in [right, refusal] {
+        let request = Request { address: 7, function, parameter, offset, tariff, detail };
+        let right = sealed([&[7, function, parameter, 0][..], &right_data(random, &request)].concat());
+        let other =
+            sealed([&[7, function ^ READ ^ READ_SHOWN, parameter, 0][..], &right_data(random, &request)].concat());
+        let refusal = sealed(vec![7, 0x80 + function, parameter, 2]);
+        for reply in [right, other, refusal] {
             decode_each(&mut group, case, &request, byte_changes(&reply).chain(length_changes(&reply)));
         }
     }
@@ -122,6 +125,7 @@ fn numbers(figures: &Figures) -> Vec<u32> {
             vec![u32::from_le_bytes([*a, *b, *c, *d]), u32::from(*tariffs), u32::from(*directions)]
         }
         Figures::Slice(counts) => counts.iter().map(|count| u32::from(*count)).collect(),
+        Figures::SliceShown(energies) => energies.to_vec(),
         Figures::SixSlices(rows) => rows.iter().flatten().map(|count| u32::from(*count)).collect(),
     }
 }
@@ -150,13 +154,18 @@ fn any_room(random: &mut Random, foretold: usize) -> usize {
 
 /// In its range most often.
 fn any_request(random: &mut Random) -> Request {
-    let parameter = if random.one_in(16) { random.byte() } else { random.pick(&PARAMETERS) };
+    let function = random.pick(&[READ, READ, READ_SHOWN]);
+    let parameter = match random.below(16) {
+        0 => random.byte(),
+        1..=12 if function == READ_SHOWN => SLICE,
+        _ => random.pick(&PARAMETERS),
+    };
     let mut fields = right_fields(random, parameter);
     if random.one_in(16) {
         fields[random.below(3)] = random.pick(&[0, 1, 12, 13, 31, 32, 90, 91, 95, 96, 255]);
     }
     let [offset, tariff, detail] = fields;
-    Request { address: random.pick(&[0, 1, 7, 255]), parameter, offset, tariff, detail }
+    Request { address: random.pick(&[0, 1, 7, 255]), function, parameter, offset, tariff, detail }
 }
 
 fn right_fields(random: &mut Random, parameter: u8) -> [u8; 3] {
@@ -170,9 +179,10 @@ fn right_fields(random: &mut Random, parameter: u8) -> [u8; 3] {
 /// Right for the request most often.
 fn any_reply(random: &mut Random, request: &Request) -> Vec<u8> {
     let address = if random.one_in(16) { random.byte() } else { request.address };
-    let right = sealed([&[address, READ, request.parameter, 0][..], &right_data(random, request)].concat());
+    let function = if random.one_in(16) { request.function ^ READ ^ READ_SHOWN } else { request.function };
+    let right = sealed([&[address, function, request.parameter, 0][..], &right_data(random, request)].concat());
     match random.below(12) {
-        0 => sealed(vec![address, 0x80 + READ, request.parameter, random.byte()]),
+        0 => sealed(vec![address, 0x80 + function, request.parameter, random.byte()]),
         1 => damaged(random, right),
         2 => damaged_and_sealed(random, &right),
         3 => {
@@ -186,8 +196,9 @@ fn any_reply(random: &mut Random, request: &Request) -> Vec<u8> {
 /// As many bytes as the parameter has.
 fn right_data(random: &mut Random, request: &Request) -> Vec<u8> {
     match request.parameter {
-        8 | 9 if request.detail == 0 => (0..4).flat_map(|_| any_power(random)).collect(),
-        8 | 9 => any_power(random).to_vec(),
+        _ if request.function == READ_SHOWN => (0..4).flat_map(|_| any_float(random)).collect(),
+        8 | 9 if request.detail == 0 => (0..4).flat_map(|_| any_float(random)).collect(),
+        8 | 9 => any_float(random).to_vec(),
         21 => random.bytes(1),
         24 | 36 => random.bytes(8),
         40 => random.bytes(48),
@@ -196,7 +207,7 @@ fn right_data(random: &mut Random, request: &Request) -> Vec<u8> {
 }
 
 /// Any bits, or those of a float that stands apart.
-fn any_power(random: &mut Random) -> [u8; 4] {
+fn any_float(random: &mut Random) -> [u8; 4] {
     let apart =
         [0.0, -0.0, 1.5, -1.0e6, f32::MAX, f32::MIN_POSITIVE, 1.0e-40, f32::INFINITY, f32::NEG_INFINITY, f32::NAN];
     let bits = if random.one_in(4) { random.pick(&apart).to_bits() } else { random.long() };

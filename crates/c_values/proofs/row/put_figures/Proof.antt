@@ -21,8 +21,8 @@ enum-told-4 c = search needs
 enum-known-d : tie.Need-enum-known-d
 enum-known-d c = search needs
 
-cast-t15 : tie.Need-cast-t15
-cast-t15 c = search needs
+cast-t16 : tie.Need-cast-t16
+cast-t16 c = search needs
 
 slice-aggregate-put-run : tie.Need-slice-aggregate-put-run
 slice-aggregate-put-run c = search needs
@@ -33,11 +33,11 @@ put-run-requires c κs = search needs
 enum-known-d-2 : tie.Need-enum-known-d-2
 enum-known-d-2 c = search needs
 
-cast-t22 : tie.Need-cast-t22
-cast-t22 c = search needs
-
 cast-t23 : tie.Need-cast-t23
 cast-t23 c = search needs
+
+cast-t24 : tie.Need-cast-t24
+cast-t24 c = search needs
 
 slice-aggregate-put-run-2 : tie.Need-slice-aggregate-put-run-2
 slice-aggregate-put-run-2 c = search needs
@@ -54,11 +54,11 @@ put-time-requires c κs = search needs
 enum-known-d-4 : tie.Need-enum-known-d-4
 enum-known-d-4 c = search needs
 
-cast-t33 : tie.Need-cast-t33
-cast-t33 c = search needs
-
 cast-t34 : tie.Need-cast-t34
 cast-t34 c = search needs
+
+cast-t35 : tie.Need-cast-t35
+cast-t35 c = search needs
 
 slice-aggregate-put-run-3 : tie.Need-slice-aggregate-put-run-3
 slice-aggregate-put-run-3 c = search needs
@@ -98,6 +98,12 @@ six-slices-requires c κs = search needs
 
 put-six-requires : tie.Need-put-six-requires
 put-six-requires c κs = search needs
+
+enum-known-d-8 : tie.Need-enum-known-d-8
+enum-known-d-8 c = search needs
+
+put-energies-requires : tie.Need-put-energies-requires
+put-energies-requires c κs = search needs
 
 returns : tie.Need-returns
 unfolding figureRow written
@@ -189,6 +195,15 @@ returns-12 c =
     let at-enum-told5 = at-six-slices .before .before in
     rw (at-enum-told5 .enum-told5 .given .1, sym (at-six-slices .six-slices .ensures)) (c .before .before .put-six .ensures)
 
+same-length-9 : tie.Need-same-length-9
+same-length-9 c = search needs
+
+returns-13 : tie.Need-returns-13
+unfolding figureRow written
+returns-13 c =
+    let d8 = c .before .before .before .before .before .d8 in
+    rw (d8 .given .1) (c .before .before .put-energies .ensures)
+
 pub put-figures-spec : {M : Type 1} → statement M
 put-figures-spec =
     tie.close
@@ -198,19 +213,19 @@ put-figures-spec =
     enum-told-3
     enum-told-4
     enum-known-d
-    cast-t15
+    cast-t16
     slice-aggregate-put-run
     put-run-requires
     enum-known-d-2
-    cast-t22
     cast-t23
+    cast-t24
     slice-aggregate-put-run-2
     put-run-requires-2
     enum-known-d-3
     put-time-requires
     enum-known-d-4
-    cast-t33
     cast-t34
+    cast-t35
     slice-aggregate-put-run-3
     put-run-requires-3
     enum-known-d-5
@@ -224,6 +239,8 @@ put-figures-spec =
     enum-told-5
     six-slices-requires
     put-six-requires
+    enum-known-d-8
+    put-energies-requires
     returns
     returns-2
     returns-3
@@ -243,4 +260,6 @@ put-figures-spec =
     same-length-7
     returns-11
     same-length-8
-    returns-12)
+    returns-12
+    same-length-9
+    returns-13)

@@ -1,4 +1,4 @@
--- `set` meets its contract: `place_of` gives the first word's place among the four names, and each arm is the branch of `setBy` for it, else unread.
+-- `set` meets its contract: `place_of` gives the first word's place among the five names, and each arm is the branch of `setBy` for it, else unread.
 use mathlib.Core.Path.{sym, _∙_}
 use borrow.Author.Tests.{ne-eqb}
 use Rattle.console_setup.specs.Lines.{setLine, setBy}
@@ -27,6 +27,9 @@ slice-requires c κs = search needs
 
 second-requires : tie.Need-second-requires
 second-requires c κs = search needs
+
+ratio-requires : tie.Need-ratio-requires
+ratio-requires c κs = search needs
 
 same-length : tie.Need-same-length
 same-length c = search needs
@@ -65,9 +68,24 @@ returns-4 c =
 returns-5 : tie.Need-returns-5
 unfolding ascii setLine setBy
 returns-5 c =
+    let word = c .before .before .before .before .word in
+    rw (sym (word .ensures), sym (c .before .before .place-of .ensures), c .before .match .keys5, c .ratio .ensures)
+
+returns-6 : tie.Need-returns-6
+unfolding ascii setLine setBy
+returns-6 c =
     let word = c .before .before .before .word in
     let r = c .match .rest in
-    simp (sym (word .ensures), sym (c .before .place-of .ensures), ne-eqb _ _ (r .0 .0 .0 .1), ne-eqb _ _ (r .0 .0 .1), ne-eqb _ _ (r .0 .1), ne-eqb _ _ (r .1))
+    let r-2 = r .0 .0 in
+    simp (
+      sym (word .ensures),
+      sym (c .before .place-of .ensures),
+      ne-eqb _ _ (r-2 .0 .0 .1),
+      ne-eqb _ _ (r-2 .0 .1),
+      ne-eqb _ _ (r-2 .1),
+      ne-eqb _ _ (r .0 .1),
+      ne-eqb _ _ (r .1),
+    )
 
 pub set-spec : {M : Type 1} → statement M
 set-spec =
@@ -80,10 +98,12 @@ set-spec =
     power-requires
     slice-requires
     second-requires
+    ratio-requires
     same-length
     returns
     returns-2
     same-length-2
     returns-3
     returns-4
-    returns-5)
+    returns-5
+    returns-6)

@@ -1,4 +1,4 @@
--- `function_of` meets its contract: at each code of `functionOf` both sides compute, and in the last arm the code differs from all five.
+-- `function_of` meets its contract: at each code of `functionOf` both sides compute, and in the last arm the code differs from all six.
 use borrow.Author.Tests.{ne-eqb}
 use Rattle.frame.specs.Code.{functionOf}
 use Rattle.frame.proofs.code.function_of.Statement.{statement}
@@ -26,10 +26,21 @@ returns-5 c = rw (c .match .keys5)
 
 returns-6 : tie.Need-returns-6
 unfolding functionOf
-returns-6 c =
+returns-6 c = rw (c .match .keys6)
+
+returns-7 : tie.Need-returns-7
+unfolding functionOf
+returns-7 c =
     let r = c .match .rest in
     let r-3 = r .0 .0 .0 in
-    simp (ne-eqb _ _ (r-3 .0 .1), ne-eqb _ _ (r-3 .1), ne-eqb _ _ (r .0 .0 .1), ne-eqb _ _ (r .0 .1), ne-eqb _ _ (r .1))
+    simp (
+      ne-eqb _ _ (r-3 .0 .0 .1),
+      ne-eqb _ _ (r-3 .0 .1),
+      ne-eqb _ _ (r-3 .1),
+      ne-eqb _ _ (r .0 .0 .1),
+      ne-eqb _ _ (r .0 .1),
+      ne-eqb _ _ (r .1),
+    )
 
 pub function-of-spec : {M : Type 1} → statement M
-function-of-spec = tie.close (tie.spec returns returns-2 returns-3 returns-4 returns-5 returns-6)
+function-of-spec = tie.close (tie.spec returns returns-2 returns-3 returns-4 returns-5 returns-6 returns-7)

@@ -1,4 +1,4 @@
--- The row is the table's.
+-- As stored the row is the table's; as displayed the number is fixed.
 use Rattle.frame.specs.Table.{figureCount}
 use borrow.Author.Needs.{needs}
 use Rattle.frame.proofs.table.figure_count.Statement.{statement}
@@ -7,12 +7,24 @@ use Rattle.frame.proofs.table.figure_count.Tie as tie
 row-of-requires : tie.Need-row-of-requires
 row-of-requires c κs = search needs
 
+enum-told : tie.Need-enum-told
+enum-told c = search needs
+
 by-phase-requires : tie.Need-by-phase-requires
 by-phase-requires c κs = search needs
 
+enum-told-2 : tie.Need-enum-told-2
+enum-told-2 c = search needs
+
 returns : tie.Need-returns
 unfolding figureCount
-returns c = simp (c .by-phase .ensures, c .before .row-of .ensures)
+returns c =
+    let arm = c .before in
+    simp (arm .enum-told .given .1, c .by-phase .ensures, arm .before .before .row-of .ensures)
+
+returns-2 : tie.Need-returns-2
+unfolding figureCount
+returns-2 c = simp (c .enum-told2 .given .1)
 
 pub figure-count-spec : {M : Type 1} → statement M
-figure-count-spec = tie.close (tie.spec row-of-requires by-phase-requires returns)
+figure-count-spec = tie.close (tie.spec row-of-requires enum-told by-phase-requires enum-told-2 returns returns-2)

@@ -102,8 +102,8 @@ line-requires-8 c κs = search needs
 enum-told-9 : tie.Need-enum-told-9
 enum-told-9 c = search needs
 
-read-requires-3 : tie.Need-read-requires-3
-read-requires-3 c κs = search needs
+read-both-requires : tie.Need-read-both-requires
+read-both-requires c κs = search needs
 
 fixed-requires-3 : tie.Need-fixed-requires-3
 fixed-requires-3 c κs = search needs
@@ -126,8 +126,8 @@ line-requires-10 c κs = search needs
 enum-told-11 : tie.Need-enum-told-11
 enum-told-11 c = search needs
 
-read-requires-4 : tie.Need-read-requires-4
-read-requires-4 c κs = search needs
+read-requires-3 : tie.Need-read-requires-3
+read-requires-3 c κs = search needs
 
 fixed-requires-4 : tie.Need-fixed-requires-4
 fixed-requires-4 c κs = search needs
@@ -190,7 +190,7 @@ returns-8 c =
 returns-9 : tie.Need-returns-9
 returns-9 c =
     let arm9 = c .before .before .before .enum-told9 in
-    simp (arm9 .given .1, c .line9 .ensures, c .before .fixed3 .ensures, c .before .before .read3 .ensures)
+    simp (arm9 .given .1, c .line9 .ensures, c .before .fixed3 .ensures, c .before .before .read-both .ensures)
 
 returns-10 : tie.Need-returns-10
 returns-10 c =
@@ -200,7 +200,7 @@ returns-10 c =
 returns-11 : tie.Need-returns-11
 returns-11 c =
     let arm11 = c .before .before .before .enum-told11 in
-    simp (arm11 .given .1, c .line11 .ensures, c .before .fixed4 .ensures, c .before .before .read4 .ensures)
+    simp (arm11 .given .1, c .line11 .ensures, c .before .fixed4 .ensures, c .before .before .read3 .ensures)
 
 returns-12 : tie.Need-returns-12
 returns-12 c =
@@ -244,7 +244,7 @@ row-of-spec =
     by-auxiliary-requires-2
     line-requires-8
     enum-told-9
-    read-requires-3
+    read-both-requires
     fixed-requires-3
     line-requires-9
     enum-told-10
@@ -252,7 +252,7 @@ row-of-spec =
     by-main-requires-5
     line-requires-10
     enum-told-11
-    read-requires-4
+    read-requires-3
     fixed-requires-4
     line-requires-11
     enum-told-12

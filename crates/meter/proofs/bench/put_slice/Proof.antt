@@ -23,7 +23,7 @@ same-length c = search needs
 returns : tie.Need-returns
 unfolding slicePut
 returns c =
-    let back = c .before .before .before .before .before .before .before .before .before in
+    let back = c .before .before .before .before .before .before .before .before .before .before in
     let is-sound = back .before .before .before .before .before .before .is-sound in
     let if1 = back .before .before .before .before .before .if1 in
     let slots-of = back .before .before .before .before .slots-of in

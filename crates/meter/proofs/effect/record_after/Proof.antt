@@ -72,7 +72,7 @@ returns-2 c =
 returns-3 : tie.Need-returns-3
 unfolding afterOf
 returns-3 c =
-    let back = c .before .before .before .before .before .before in
+    let back = c .before .before .before .before .before .before .before in
     let function-in = back .before .before .before .before .before .function-in in
     let arm3 = back .before .before .before .enum-told3 in
     let byte-at = back .before .before .byte-at in
@@ -83,7 +83,7 @@ returns-3 c =
 returns-4 : tie.Need-returns-4
 unfolding afterOf
 returns-4 c =
-    let back = c .before .before .before .before .before .before in
+    let back = c .before .before .before .before .before .before .before in
     let function-in = back .before .before .before .function-in in
     let arm4 = back .before .enum-told4 in
     let shut = back .shut in

@@ -8,7 +8,7 @@ opened-requires c κs = search needs
 
 returns : tie.Need-returns
 returns c =
-    let opened = c .before .before .before .before .before .before .opened in
+    let opened = c .before .before .before .before .before .before .before .opened in
     rw (opened .ensures)
 
 pub renewed-spec : {M : Type 1} → statement M

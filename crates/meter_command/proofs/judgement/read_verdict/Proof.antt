@@ -20,6 +20,9 @@ request-in-requires c κs = search needs
 subject-of-requires : tie.Need-subject-of-requires
 subject-of-requires c κs = search needs
 
+opens-to-requires : tie.Need-opens-to-requires
+opens-to-requires c κs = search needs
+
 is-askable-requires : tie.Need-is-askable-requires
 is-askable-requires c κs = search needs
 
@@ -29,10 +32,19 @@ checked-requires c κs = search needs
 returns : tie.Need-returns
 unfolding readVerdict
 returns c =
-    let at = c .before .before .before in
+    let opened = c .before .before in
+    let at = opened .before .before in
     let row = at .before .before .before in
     c .checked .ensures
-    ∙ rw (row .row-of .ensures, row .before .parameter-in .ensures, c .before .is-askable .ensures, at .subject-of .ensures, at .before .request-in .ensures, at .before .before .slots-of .ensures)
+    ∙ rw (
+      opened .opens-to .ensures,
+      row .row-of .ensures,
+      row .before .parameter-in .ensures,
+      c .before .is-askable .ensures,
+      at .subject-of .ensures,
+      at .before .request-in .ensures,
+      at .before .before .slots-of .ensures,
+    )
 
 pub read-verdict-spec : {M : Type 1} → statement M
 read-verdict-spec =
@@ -43,6 +55,7 @@ read-verdict-spec =
     slots-of-requires
     request-in-requires
     subject-of-requires
+    opens-to-requires
     is-askable-requires
     checked-requires
     returns)

@@ -1,8 +1,14 @@
--- `request_in` meets its contract: each field is the byte at the place that `requestIn` names.
+-- `request_in` meets its contract: the reading is that of the function, and each other field the byte at the place that `requestIn` names.
 use Rattle.meter_command.specs.Parts.{requestIn}
 use borrow.Author.Needs.{needs}
 use Rattle.meter_command.proofs.parts.request_in.Statement.{statement}
 use Rattle.meter_command.proofs.parts.request_in.Tie as tie
+
+function-in-requires : tie.Need-function-in-requires
+function-in-requires c κs = search needs
+
+reading-of-requires : tie.Need-reading-of-requires
+reading-of-requires c κs = search needs
 
 byte-at-requires : tie.Need-byte-at-requires
 byte-at-requires c κs = search needs
@@ -22,14 +28,24 @@ byte-at-requires-5 c κs = search needs
 returns : tie.Need-returns
 unfolding requestIn
 returns c =
-    let byte-at = c .before .before .before .before .byte-at in
-    let byte-at2 = c .before .before .before .byte-at2 in
-    rw (byte-at .ensures, byte-at2 .ensures, c .before .before .byte-at3 .ensures, c .before .byte-at4 .ensures, c .byte-at5 .ensures)
+    let second = c .before .before .before in
+    let first = second .before in
+    rw (
+      first .before .reading-of .ensures,
+      first .before .before .function-in .ensures,
+      first .byte-at .ensures,
+      second .byte-at2 .ensures,
+      c .before .before .byte-at3 .ensures,
+      c .before .byte-at4 .ensures,
+      c .byte-at5 .ensures,
+    )
 
 pub request-in-spec : {M : Type 1} → statement M
 request-in-spec =
     tie.close
     (tie.spec
+    function-in-requires
+    reading-of-requires
     byte-at-requires
     byte-at-requires-2
     byte-at-requires-3

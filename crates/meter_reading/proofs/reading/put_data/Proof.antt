@@ -15,8 +15,8 @@ parameter-in-requires c κs = search needs
 request-in-requires : tie.Need-request-in-requires
 request-in-requires c κs = search needs
 
-put-figures-requires : tie.Need-put-figures-requires
-put-figures-requires c κs = search needs
+put-as-requires : tie.Need-put-as-requires
+put-as-requires c κs = search needs
 
 same-length : tie.Need-same-length
 same-length c = search needs
@@ -28,7 +28,7 @@ returns c =
     let if1 = c .before .before .before .before .before .before .if1 in
     let parameter-in = c .before .before .before .before .before .parameter-in in
     let request-in = c .before .before .before .request-in in
-    simp (sym (is-read .ensures) ∙ if1 .taken) (c .before .before .put-figures .ensures ∙ rw (parameter-in .ensures, request-in .ensures))
+    simp (sym (is-read .ensures) ∙ if1 .taken) (c .before .before .put-as .ensures ∙ rw (parameter-in .ensures, request-in .ensures))
 
 returns-2 : tie.Need-returns-2
 unfolding dataOf written
@@ -41,7 +41,7 @@ put-data-spec =
     is-read-requires
     parameter-in-requires
     request-in-requires
-    put-figures-requires
+    put-as-requires
     same-length
     returns
     returns-2)

@@ -17,7 +17,7 @@ next-time-requires c κs = search needs
 returns : tie.Need-returns
 unfolding secondOf
 returns c =
-    let back = c .before .before .before .before .before in
+    let back = c .before .before .before .before .before .before in
     let is-within = back .before .before .before .before .before .is-within in
     let if1 = back .before .before .before .before .if1 in
     let ticked = back .before .ticked in

@@ -7,13 +7,13 @@ use Rattle.meter_record.proofs.power.powers_set.Tie as tie
 returns : tie.Need-returns
 unfolding powersSet
 returns c =
-    let match = c .before .before .before .before .before .before .match in
+    let match = c .before .before .before .before .before .before .before .match in
     rw (match .keys1)
 
 returns-2 : tie.Need-returns-2
 unfolding powersSet
 returns-2 c =
-    let match = c .before .before .before .before .before .before .match in
+    let match = c .before .before .before .before .before .before .before .match in
     rw (match .keys2)
 
 returns-3 : tie.Need-returns-3

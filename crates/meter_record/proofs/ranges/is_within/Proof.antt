@@ -1,4 +1,4 @@
--- `is_within` meets its contract: address, settings and bench are tested in `isWithin`'s order, and the first that fails settles it.
+-- `is_within` meets its contract: address, settings, bench and ratios are tested in `isWithin`'s order, and the first that fails settles it.
 use Rattle.meter_record.specs.Ranges.{isWithin}
 use borrow.Author.Tests.{lt-leb, le-leb}
 use mathlib.Core.Path.{sym, _∙_}
@@ -16,16 +16,45 @@ settings-right-requires c κs = search needs
 bench-right-requires : tie.Need-bench-right-requires
 bench-right-requires c κs = search needs
 
+are-ratios-requires : tie.Need-are-ratios-requires
+are-ratios-requires c κs = search needs
+
 returns-2 : tie.Need-returns-2
 unfolding isWithin
 returns-2 c =
-    let if1 = c .before .before .before .if1 in
-    simp (le-leb _ _ (if1 .left), sym (c .before .before .settings-right .ensures) ∙ c .before .if2 .taken) (c .bench-right .ensures)
+    let bench = c .before .before in
+    let settings = bench .before .before in
+    simp (
+      le-leb _ _ (settings .before .before .if1 .left),
+      sym (settings .settings-right .ensures) ∙ bench .before .if2 .taken,
+      sym (bench .bench-right .ensures) ∙ c .before .if3 .taken,
+    ) (c .are-ratios .ensures)
 
 returns-3 : tie.Need-returns-3
 unfolding isWithin
-returns-3 c = simp (le-leb _ _ (c .before .before .if1 .left), sym (c .before .settings-right .ensures) ∙ c .if2 .left)
+returns-3 c =
+    let bench = c .before in
+    let settings = bench .before .before in
+    simp (
+      le-leb _ _ (settings .before .before .if1 .left),
+      sym (settings .settings-right .ensures) ∙ bench .before .if2 .taken,
+      sym (bench .bench-right .ensures) ∙ c .if3 .left,
+    )
+
+returns-4 : tie.Need-returns-4
+unfolding isWithin
+returns-4 c =
+    let settings = c .before in
+    simp (le-leb _ _ (settings .before .before .if1 .left), sym (settings .settings-right .ensures) ∙ c .if2 .left)
 
 pub is-within-spec : {M : Type 1} → statement M
 is-within-spec =
-    tie.close (tie.spec returns settings-right-requires bench-right-requires returns-2 returns-3)
+    tie.close
+    (tie.spec
+    returns
+    settings-right-requires
+    bench-right-requires
+    are-ratios-requires
+    returns-2
+    returns-3
+    returns-4)

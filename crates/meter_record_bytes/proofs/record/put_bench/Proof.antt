@@ -1,4 +1,4 @@
--- `put_bench` meets its contract: both powers, the interval and the next place, put one behind the other, are `benchBytes` (`onward`).
+-- `put_bench` meets its contract: both powers, the interval, the next place and both ratios, put one behind the other, are `benchBytes` (`onward`).
 use mathlib.Core.Path.{refl}
 use Rattle.figures.specs.Power.{powerBytes}
 use Rattle.words.specs.Number.{bytesOf}
@@ -20,19 +20,30 @@ put-byte-requires c κs = search needs
 put-u16-requires : tie.Need-put-u16-requires
 put-u16-requires c κs = search needs
 
+put-u32-requires : tie.Need-put-u32-requires
+put-u32-requires c κs = search needs
+
+put-u32-requires-2 : tie.Need-put-u32-requires-2
+put-u32-requires-2 c κs = search needs
+
 same-length : tie.Need-same-length
 same-length c = search needs
 
 returns : tie.Need-returns
 unfolding benchBytes powerBytes bytesOf
 returns c =
-    let back = c .before .before .before .before .before .before in
+    let ku = c .before .before in
+    let ki = ku .before .before .before .before in
+    let next = ki .before .before .before .before in
+    let back = next .before .before .before .before in
     let put-phases = back .before .before .before .before .before .before .before .before .put-phases in
     let put-phases2 = back .before .before .before .before .put-phases2 in
     let put-byte = back .put-byte in
     let to-reactive = onward _ _ _ _ _ _ _ (put-phases .ensures) (put-phases2 .ensures) refl in
     let to-minutes = onward _ _ _ _ _ _ _ to-reactive (put-byte .ensures) refl in
-    onward _ _ _ _ _ _ _ to-minutes (c .before .before .put-u16 .ensures) refl
+    let to-next = onward _ _ _ _ _ _ _ to-minutes (next .put-u16 .ensures) refl in
+    let to-ki = onward _ _ _ _ _ _ _ to-next (ki .put-u32 .ensures) refl in
+    onward _ _ _ _ _ _ _ to-ki (ku .put-u322 .ensures) refl
 
 pub put-bench-spec : {M : Type 1} → statement M
 put-bench-spec =
@@ -42,5 +53,7 @@ put-bench-spec =
     put-phases-requires-2
     put-byte-requires
     put-u16-requires
+    put-u32-requires
+    put-u32-requires-2
     same-length
     returns)

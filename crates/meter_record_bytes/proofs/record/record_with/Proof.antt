@@ -31,25 +31,36 @@ byte-at-requires-3 c κs = search needs
 u16-at-requires : tie.Need-u16-at-requires
 u16-at-requires c κs = search needs
 
+u32-at-requires : tie.Need-u32-at-requires
+u32-at-requires c κs = search needs
+
+u32-at-requires-2 : tie.Need-u32-at-requires-2
+u32-at-requires-2 c κs = search needs
+
 returns : tie.Need-returns
 unfolding recordWith
 returns c =
-    let byte-at = c .before .before .before .before .before .before .before .before .byte-at in
-    let byte-at2 = c .before .before .before .before .before .before .before .byte-at2 in
-    let passwords-in = c .before .before .before .before .before .before .passwords-in in
-    let tail = c .before .before .before .before .before .tail in
-    let telemetry-of = c .before .before .before .before .telemetry-of in
-    let tail2 = c .before .before .before .tail2 in
+    let next = c .before .before in
+    let shown = next .before .before .before in
+    let told = shown .before .before .before in
+    let byte-at2 = told .before .byte-at2 in
+    let byte-at = told .before .before .byte-at in
+    let passwords-in = told .passwords-in in
+    let tail = shown .before .before .tail in
+    let telemetry-of = shown .before .telemetry-of in
+    let tail2 = shown .tail2 in
     rw (
       byte-at .ensures,
       byte-at2 .ensures,
       passwords-in .ensures,
       telemetry-of .ensures,
       tail .ensures,
-      c .before .before .display-mask .ensures,
+      next .before .before .display-mask .ensures,
       tail2 .ensures,
-      c .before .byte-at3 .ensures,
-      c .u16-at .ensures,
+      next .before .byte-at3 .ensures,
+      next .u16-at .ensures,
+      c .before .u32-at .ensures,
+      c .u32-at2 .ensures,
     )
 
 pub record-with-spec : {M : Type 1} → statement M
@@ -65,4 +76,6 @@ record-with-spec =
     display-mask-requires
     byte-at-requires-3
     u16-at-requires
+    u32-at-requires
+    u32-at-requires-2
     returns)

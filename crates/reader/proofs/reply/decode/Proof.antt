@@ -21,6 +21,9 @@ add-full c =
     let subject-of = c .before .before .before .subject-of in
     omega (arith, dataBytes-small (subject-of .result), c .data-bytes .ensures)
 
+reading-code-requires : tie.Need-reading-code-requires
+reading-code-requires c κs = search needs
+
 form-of-requires : tie.Need-form-of-requires
 form-of-requires c κs = search needs
 
@@ -36,22 +39,35 @@ enum-known-fault c = search needs
 returns : tie.Need-returns
 unfolding decodedOf
 returns c =
-    let subject-of = c .before .before .before .before .before .before .before .subject-of in
-    let is-askable = c .before .before .before .before .before .before .is-askable in
-    let if1 = c .before .before .before .before .before .if1 in
-    let data-bytes = c .before .before .before .before .data-bytes in
-    let form-of = c .before .before .before .form-of in
-    simp (sym (subject-of .ensures), sym (is-askable .ensures) ∙ if1 .taken, sym (data-bytes .ensures), sym (form-of .ensures) ∙ c .before .enum-told .given .1, c .replied .ensures)
+    let formed = c .before .before .before in
+    let code = formed .before .reading-code in
+    let sized = formed .before .before in
+    let asked = sized .before .before in
+    let subject-of = asked .before .subject-of in
+    simp (
+      sym (subject-of .ensures),
+      sym (asked .is-askable .ensures) ∙ sized .before .if1 .taken,
+      sym (sized .data-bytes .ensures),
+      sym (code .ensures),
+      sym (formed .form-of .ensures) ∙ c .before .enum-told .given .1,
+      c .replied .ensures,
+    )
 
 returns-2 : tie.Need-returns-2
 unfolding decodedOf
 returns-2 c =
-    let subject-of = c .before .before .before .before .before .before .before .subject-of in
-    let is-askable = c .before .before .before .before .before .before .is-askable in
-    let if1 = c .before .before .before .before .before .if1 in
-    let data-bytes = c .before .before .before .before .data-bytes in
-    let form-of = c .before .before .before .form-of in
-    simp (sym (subject-of .ensures), sym (is-askable .ensures) ∙ if1 .taken, sym (data-bytes .ensures), sym (form-of .ensures) ∙ c .before .fault .given .1)
+    let formed = c .before .before .before in
+    let code = formed .before .reading-code in
+    let sized = formed .before .before in
+    let asked = sized .before .before in
+    let subject-of = asked .before .subject-of in
+    simp (
+      sym (subject-of .ensures),
+      sym (asked .is-askable .ensures) ∙ sized .before .if1 .taken,
+      sym (sized .data-bytes .ensures),
+      sym (code .ensures),
+      sym (formed .form-of .ensures) ∙ c .before .fault .given .1,
+    )
 
 returns-3 : tie.Need-returns-3
 unfolding decodedOf
@@ -65,6 +81,7 @@ decode-spec =
     is-askable-requires
     data-bytes-requires
     add-full
+    reading-code-requires
     form-of-requires
     enum-told
     replied-requires

@@ -4,7 +4,7 @@ use Rattle.words.specs.Place.{written}
 use Rattle.refusal.specs.Outcome.{outcome}
 use Rattle.request.specs.Request.{requested, requestFrame}
 use Rattle.request.specs.Subject.{askable}
-use Rattle.frame.specs.Sealing.{sealed}
+use Rattle.frame.specs.Sealing.{framed, sealed}
 use Rattle.frame.proofs.SealingLaws.{sealed-written}
 use borrow.Author.Tests.{lt-ltb, le-ltb}
 use native.Mathlib.Omega.{arith}
@@ -25,6 +25,9 @@ subject-of-requires c κs = search needs
 is-askable-requires : tie.Need-is-askable-requires
 is-askable-requires c κs = search needs
 
+reading-code-requires : tie.Need-reading-code-requires
+reading-code-requires c κs = search needs
+
 slice-aggregate-put-bytes : tie.Need-slice-aggregate-put-bytes
 slice-aggregate-put-bytes c = search needs
 
@@ -40,19 +43,22 @@ same-length c = search needs
 returns-2 : tie.Need-returns-2
 unfolding requested requestFrame
 returns-2 c =
-    let back = c .before .before .before .before .before .before .before .before .before in
+    let coded = c .before .before .before .before .before .before .before .before .before in
+    let back = coded .before in
     let if1 = back .before .before .before .if1 in
     let subject-of = back .before .before .subject-of in
     let is-askable = back .before .is-askable in
     let if2 = back .if2 in
     let put-bytes = c .before .before .before .before .before .before .put-bytes in
     let seal = c .before .before .seal in
-    let s = c .before .before .before .before .before .before .before .before .before .before .before .before .before .before .args .out .now in
-    let q = c .before .before .before .before .before .before .before .before .before .before .before .before .before .before .args .q in
-    let body = q .address ∷ 3 ∷ q .parameter ∷ q .offset ∷ q .tariff ∷ q .detail ∷ [] in
+    let args = back .before .before .before .before .before .args in
+    let s = args .out .now in
+    let q = args .q in
+    let body : ℕ → List ℕ = λ n. q .address ∷ n ∷ q .parameter ∷ q .offset ∷ q .tariff ∷ q .detail ∷ [] in
     let made : seal .last .0 ≡ written s 0 (requestFrame q) = seal .ensures
     ∙ ap (λ (l : List ℕ). sealed l 6) (put-bytes .ensures)
-    ∙ sealed-written s body (omega (arith, if1 .left)) in
+    ∙ sealed-written s (body (coded .reading-code .result)) (omega (arith, if1 .left))
+    ∙ ap (λ (n : ℕ). written s 0 (framed (body n))) (coded .reading-code .ensures) in
     simp (le-ltb _ _ (if1 .left), ap askable (sym (subject-of .ensures)) ∙ sym (is-askable .ensures) ∙ if2 .taken)
     (ap (outcome Done) made)
 
@@ -69,6 +75,7 @@ put-request-spec =
     returns
     subject-of-requires
     is-askable-requires
+    reading-code-requires
     slice-aggregate-put-bytes
     put-bytes-requires
     seal-requires

@@ -11,22 +11,41 @@ parameter-of-requires c κs = search needs
 row-of-requires : tie.Need-row-of-requires
 row-of-requires c κs = search needs
 
+opens-to-requires : tie.Need-opens-to-requires
+opens-to-requires c κs = search needs
+
 fields-fit-requires : tie.Need-fields-fit-requires
 fields-fit-requires c κs = search needs
 
 returns : tie.Need-returns
 unfolding subjectOf subjectFor
-returns c = let row = c .before .before .before in
-    simp (sym (row .before .parameter-of .ensures), sym (row .row-of .ensures), c .before .before .if1 .taken, sym (c .before .fields-fit .ensures) ∙ c .if2 .taken)
+returns c =
+    let opened = c .before .before .before in
+    let row = opened .before in
+    simp (
+      sym (row .before .parameter-of .ensures),
+      sym (row .row-of .ensures),
+      sym (opened .opens-to .ensures) ∙ c .before .before .if1 .taken,
+      sym (c .before .fields-fit .ensures) ∙ c .if2 .taken,
+    )
 
 returns-2 : tie.Need-returns-2
 unfolding subjectOf subjectFor
-returns-2 c = let row = c .before .before .before in
-    simp (sym (row .before .parameter-of .ensures), sym (row .row-of .ensures), c .before .before .if1 .taken, sym (c .before .fields-fit .ensures) ∙ c .if2 .left)
+returns-2 c =
+    let opened = c .before .before .before in
+    let row = opened .before in
+    simp (
+      sym (row .before .parameter-of .ensures),
+      sym (row .row-of .ensures),
+      sym (opened .opens-to .ensures) ∙ c .before .before .if1 .taken,
+      sym (c .before .fields-fit .ensures) ∙ c .if2 .left,
+    )
 
 returns-3 : tie.Need-returns-3
 unfolding subjectOf subjectFor
-returns-3 c = simp (sym (c .before .before .parameter-of .ensures), sym (c .before .row-of .ensures), c .if1 .left)
+returns-3 c =
+    let row = c .before .before in
+    simp (sym (row .before .parameter-of .ensures), sym (row .row-of .ensures), sym (c .before .opens-to .ensures) ∙ c .if1 .left)
 
 pub subject-of-spec : {M : Type 1} → statement M
 subject-of-spec =
@@ -34,6 +53,7 @@ subject-of-spec =
     (tie.spec
     parameter-of-requires
     row-of-requires
+    opens-to-requires
     fields-fit-requires
     returns
     returns-2

@@ -1,13 +1,13 @@
-//! A frame on the wire and the meter's answer to it (01, "Frames", "Refusal numbers"; 02, CR 6).
+//! A frame on the wire and the meter's answer to it (01, "Frames", "Refusal numbers"; 02, CR 3 and CR 6).
 
 use super::protection::Level;
 use super::{season, store, Phases, Protection, Record, Telemetry, STORE_BYTES};
 use crate::model::calendar::Moment;
 use crate::model::crc::{checks, crc16};
+use crate::model::reader::{READ, READ_SHOWN};
 use crate::model::refusal::Refusal::{self, *};
 use crate::model::{count_bytes, key_legal, slots, word};
 
-const READ: u8 = 3;
 const CHANGE: u8 = 16;
 const ZERO: u8 = 30;
 const UNLOCK: u8 = 31;
@@ -76,7 +76,7 @@ fn reply(frame: &[u8], result: u8, data: &[u8], out: &mut [u8]) -> usize {
 /// 0 for an unknown function and for a command without a parameter, as 31 and 32 are.
 fn reply_parameter(frame: &[u8]) -> u8 {
     match frame[1] {
-        READ | CHANGE | ZERO => parameter(&frame[2..frame.len() - 2]),
+        READ | READ_SHOWN | CHANGE | ZERO => parameter(&frame[2..frame.len() - 2]),
         _ => 0,
     }
 }
@@ -90,6 +90,7 @@ fn parameter(message: &[u8]) -> u8 {
 fn obey(record: &mut Record, store: &mut [u8], met: Met, function: u8, message: &[u8]) -> Result<Vec<u8>, Refusal> {
     match function {
         READ => read(record, store, message),
+        READ_SHOWN => read_shown(record, store, message),
         CHANGE => change(record, met, message).map(|()| vec![]),
         ZERO => zero(record, store, met, message).map(|()| vec![]),
         UNLOCK => unlock(record, message).map(|()| vec![]),
@@ -103,8 +104,8 @@ fn check_parameter(function: u8, parameter: u8) -> Result<(), Refusal> {
     let open = match parameter {
         8 | 9 | 40 => function == READ,
         21 | 24 | 32 | 35 => function == READ || function == CHANGE,
-        27 | 28 => true,
-        36 => function == READ || function == ZERO,
+        27 | 28 => function != READ_SHOWN,
+        36 => function != CHANGE,
         37 => function == CHANGE,
         _ => return Err(UnknownParameter),
     };
@@ -159,6 +160,16 @@ fn read_slice(record: &Record, store: &[u8], key: [u8; 3]) -> Result<Vec<u8>, Re
     let [month, day, number] = key;
     require(key_legal(month, day, number, record.minutes), WrongArgument)?;
     Ok(count_bytes(store::get(store, key)).to_vec())
+}
+
+/// Function 4: of slices alone, and with the same fields (02, CR 3). Four floats in kilowatt-hours.
+fn read_shown(record: &Record, store: &[u8], message: &[u8]) -> Result<Vec<u8>, Refusal> {
+    check_parameter(READ_SHOWN, parameter(message))?;
+    require(message.len() == 4, WrongLength)?;
+    let key = [message[1], message[2], message[3]];
+    require(key_legal(key[0], key[1], key[2], record.minutes), WrongArgument)?;
+    let energies = store::get(store, key).map(|counts| record.as_shown(counts));
+    Ok(energies.iter().flat_map(|bits| bits.to_le_bytes()).collect())
 }
 
 /// The named slice and the five after it; the number is at most 42 or 90 (01, "Six slices").
@@ -327,7 +338,7 @@ fn lock(record: &mut Record, message: &[u8]) -> Result<(), Refusal> {
 mod tests {
     use super::*;
     use crate::model::crc::sealed;
-    use crate::model::meter::{empty_store, make, Season, FACTORY_PASSWORD};
+    use crate::model::meter::{empty_store, make, Ratios, Season, FACTORY_PASSWORD};
 
     const NEW_YEAR: Moment = Moment { year: 0, month: 1, day: 1, hour: 0, minute: 0, second: 0 };
 
@@ -482,5 +493,66 @@ mod tests {
         assert_eq!((outcome, length), (Ok(()), 7));
         assert_eq!(out[..7], sealed(vec![1, 3, 21, 0, 1]));
         assert!(out[7..].iter().all(|byte| *byte == 0xEE));
+    }
+
+    #[test]
+    fn function_4_answers_the_slice_in_kilowatt_hours() {
+        let (mut record, mut store) = (meter(400, 100), empty_store());
+        record.put_slice(&mut store, 5, 17, 0, [12, 0, 3, 0]).expect("a legal key");
+        let command = [1, 4, 0x24, 5, 0x11, 0];
+        assert_eq!(sealed(command.to_vec())[6..], [0xE6, 0xAB]);
+        let floats = [0x52, 0x49, 0x9D, 0x3A, 0, 0, 0, 0, 0x52, 0x49, 0x9D, 0x39, 0, 0, 0, 0, 0x8F, 0xA4];
+        let expected = [&[1, 4, 0x24, 0][..], &floats].concat();
+        assert_eq!(said(&mut record, &mut store, &command), (0, expected));
+        let (number, by_zero) = said(&mut record, &mut store, &[0, 4, 0x24, 5, 0x11, 0]);
+        assert_eq!((number, &by_zero[..2], &by_zero[4..20]), (0, &[0, 4][..], &floats[..16]), "by address 0");
+        let absent = sealed([&[1, 4, 36, 0][..], &[0; 16]].concat());
+        assert_eq!(said(&mut record, &mut store, &[1, 4, 36, 2, 30, 47]), (0, absent));
+        record.set_ratios(Ratios { ki: 1_000, ku: 1_000 }).expect("in range");
+        let (_, reply) = said(&mut record, &mut store, &command);
+        assert_eq!(reply[4..8], 1_200_f32.to_le_bytes());
+        assert_eq!(said(&mut record, &mut store, &[1, 3, 0x24, 5, 0x11, 0]).1[4..12], [12, 0, 0, 0, 3, 0, 0, 0]);
+    }
+
+    /// 11 for what is unknown and for 4 bytes, 12 for every other known parameter in every length, 13, 15.
+    #[test]
+    fn function_4_reads_slices_alone() {
+        assert_eq!(sealed(vec![1, 4])[2..], [0x01, 0xE3]);
+        let (mut record, mut store) = (meter(400, 100), empty_store());
+        let answer = said(&mut record, &mut store, &[1, 4]);
+        assert_eq!(answer, (11, vec![0x01, 0x84, 0x00, 0x02, 0xC0, 0x30]));
+        for (parameter, length) in (0..=255).flat_map(|parameter| (1..=61).map(move |length| (parameter, length))) {
+            let mut message = vec![1, 4, parameter, 5, 17, 0];
+            message.resize(2 + length.max(4), 0);
+            message.truncate(2 + length);
+            let (number, reply) = said(&mut record, &mut store, &message);
+            let (expected, result) = match parameter {
+                36 if length == 4 => (0, 0),
+                36 if length < 61 => (13, 3),
+                8 | 9 | 21 | 24 | 27 | 28 | 32 | 35 | 37 | 40 if length < 61 => (12, 3),
+                _ if length < 61 => (11, 2),
+                _ => (2, 0),
+            };
+            assert_eq!(number, expected, "{message:?}");
+            if result > 0 {
+                assert_eq!(reply, sealed(vec![1, 0x84, parameter, result]));
+            }
+        }
+        for (month, day, number) in [(0, 17, 0), (13, 17, 0), (5, 0, 0), (5, 32, 0), (5, 17, 48), (5, 17, 255)] {
+            let answer = said(&mut record, &mut store, &[1, 4, 36, month, day, number]);
+            assert_eq!(answer, (15, sealed(vec![1, 0x84, 36, 3])));
+        }
+    }
+
+    #[test]
+    fn ratios_outside_their_range_are_28() {
+        let wrong = [(0, 1), (1, 0), (1_001, 1_000), (65_536, 65_536)];
+        for ratios in wrong.map(|(ki, ku)| Ratios { ki, ku }) {
+            let mut record = meter(400, 100);
+            assert_eq!(record.set_ratios(ratios), Err(OutOfRange));
+            assert_eq!(record, meter(400, 100));
+            record.ratios = ratios;
+            assert_eq!(said(&mut record, &mut empty_store(), &[1, 3, 21, 0, 0, 0]), (28, vec![]));
+        }
     }
 }
