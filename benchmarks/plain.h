@@ -42,8 +42,10 @@ uint16_t c_crc_appendix(const uint8_t *p, size_t n);
 uint16_t c_crc_words(const uint8_t *p, size_t n);
 uint16_t c_crc_fold(const uint8_t *p, size_t n);
 
-uint8_t c_read_file(const uint8_t *f, size_t n, uint8_t *out, size_t room, size_t *length);
-uint8_t c_write_file(const uint8_t *log, size_t n, uint8_t *out, size_t room, size_t *length);
+typedef uint16_t c_crc(const uint8_t *p, size_t n);
+
+uint8_t c_read_file(c_crc *crc, const uint8_t *f, size_t n, uint8_t *out, size_t room, size_t *length);
+uint8_t c_write_file(c_crc *crc, const uint8_t *log, size_t n, uint8_t *out, size_t room, size_t *length);
 uint8_t c_day_report(const uint8_t *log, size_t n, uint8_t day, uint32_t *row, size_t room);
 uint8_t c_take(uint8_t *log, size_t n, uint8_t *ask, size_t size, const uint8_t *reply, size_t bytes, uint8_t *result,
                size_t *length);

@@ -94,7 +94,7 @@ static void same_read(size_t n, size_t room)
     size_t ours = 7, c = 7;
     memset(ours_out, 0xEE, sizeof ours_out);
     memset(c_out, 0xEE, sizeof c_out);
-    uint8_t a = metlazuel_read_file(file, n, ours_out, room, &ours), b = c_read_file(file, n, c_out, room, &c);
+    uint8_t a = metlazuel_read_file(file, n, ours_out, room, &ours), b = c_read_file(c_crc_appendix, file, n, c_out, room, &c);
     if (a != b || ours != c || memcmp(ours_out, c_out, sizeof c_out) != 0)
         differ("read");
     compared++;
@@ -221,7 +221,7 @@ static void same_write(size_t n, size_t room)
     size_t ours = 7, c = 7;
     memset(ours_out, 0xEE, sizeof ours_out);
     memset(c_out, 0xEE, sizeof c_out);
-    uint8_t a = metlazuel_write_file(file, n, ours_out, room, &ours), b = c_write_file(file, n, c_out, room, &c);
+    uint8_t a = metlazuel_write_file(file, n, ours_out, room, &ours), b = c_write_file(c_crc_fold, file, n, c_out, room, &c);
     if (a != b || ours != c || memcmp(ours_out, c_out, sizeof c_out) != 0)
         differ("write");
     compared++;
@@ -376,9 +376,11 @@ static void ours_short(void) { sink += metlazuel_crc16(file, 14); }
 static void appendix_short(void) { sink += c_crc_appendix(file, 14); }
 static void fold_short(void) { sink += c_crc_fold(file, 14); }
 static void ours_read(void) { sink += metlazuel_read_file(file, FULL, ours_out, FULL, &length); }
-static void plain_read(void) { sink += c_read_file(file, FULL, c_out, FULL, &length); }
+static void plain_read(void) { sink += c_read_file(c_crc_appendix, file, FULL, c_out, FULL, &length); }
+static void fold_read(void) { sink += c_read_file(c_crc_fold, file, FULL, c_out, FULL, &length); }
 static void ours_write(void) { sink += metlazuel_write_file(file, IMAGE, ours_out, FULL, &length); }
-static void plain_write(void) { sink += c_write_file(file, IMAGE, c_out, FULL, &length); }
+static void plain_write(void) { sink += c_write_file(c_crc_appendix, file, IMAGE, c_out, FULL, &length); }
+static void fold_write(void) { sink += c_write_file(c_crc_fold, file, IMAGE, c_out, FULL, &length); }
 static void ours_report(void) { sink += metlazuel_day_report(file, IMAGE, 30, row, 7); }
 static void plain_report(void) { sink += c_day_report(file, IMAGE, 30, row, 7); }
 
@@ -438,8 +440,10 @@ static const struct row rows[] = {
     ROW("CRC of 53,582 bytes, C by the same fold", ours_crc, fold_crc, 20),
     ROW("CRC of 14 bytes, C by 002's two tables", ours_short, appendix_short, 5000),
     ROW("CRC of 14 bytes, C by the same fold", ours_short, fold_short, 5000),
-    ROW("file of 62 days of 15 minutes read", ours_read, plain_read, 20),
-    ROW("file of 62 days of 15 minutes written", ours_write, plain_write, 20),
+    ROW("file of 5,952 cells read, C by 002's tables", ours_read, plain_read, 20),
+    ROW("file of 5,952 cells read, C by the same fold", ours_read, fold_read, 20),
+    ROW("file of 5,952 cells written, C by 002's tables", ours_write, plain_write, 20),
+    ROW("file of 5,952 cells written, C by the same fold", ours_write, fold_write, 20),
     ROW("report of a day of 96 slots", ours_report, plain_report, 5000),
     ROW("reply to an ask taken into the log", ours_take, plain_take, 5000),
     ROW("meter: the clock read", ours_clock, plain_clock, 5000),

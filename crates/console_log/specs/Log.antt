@@ -12,6 +12,7 @@ use Rattle.log.specs.declared.fresh.FreshAnswer.{FreshAnswer}
 use Rattle.log.specs.declared.fresh.FreshAnswer.the-variants as fresh
 use Rattle.logfile.specs.declared.read.ReadAnswer.{ReadAnswer}
 use Rattle.logfile.specs.Read.{ifRead}
+use Rattle.log.specs.View.{viewOf}
 use Rattle.logger.specs.Ask.{asked}
 use Rattle.logger.specs.Held.{lapsed}
 use Rattle.logger.specs.Take.{taken}
@@ -68,7 +69,7 @@ freshLine line image kept =
 -- the ask of an address, a day and a slot; its frame is printed
 unfoldable pub askedFor : List ℕ → Kept → ℕ → ℕ → ℕ → Kept
 askedFor image kept address day slot =
-    withAsk kept (asked (partOf (kept .length) image) (kept .held) address day slot (replicate readSize 0) .result .held)
+    withAsk kept (asked (viewOf (partOf (kept .length) image)) (kept .held) address day slot (replicate readSize 0) .result .held)
 
 -- ADDRESS DAY SLOT
 unfoldable pub askLine : List ℕ → List ℕ → Kept → Kept

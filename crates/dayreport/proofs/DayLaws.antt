@@ -11,7 +11,6 @@ use Rattle.calendar.specs.declared.date.Date.{Date}
 use Rattle.dayreport.specs.declared.report.ReportAnswer.{ReportAnswer}
 use Rattle.calendar.specs.Date.{dayNumber, dateOf}
 use Rattle.case_laws.proofs.Test.{either}
-use Rattle.words.specs.Number.{Bytes}
 use Rattle.slots.specs.Day.{slotsOf}
 use Rattle.slots.proofs.DayLaws.{slotsMost, slots-at-most}
 use borrow.Author.Tests.{le-ltb}
@@ -22,14 +21,15 @@ use Rattle.log.specs.declared.interval.DayAnswer.the-variants.{On, Outside}
 use Rattle.log.specs.declared.header.Lent.the-variants.{Sound}
 use Rattle.log.proofs.HeaderLaws.{header-ranges, sound-log, by-sound}
 use Rattle.log.specs.Image.{imageOf, allGood, goods, AllCells}
-use Rattle.log.proofs.ImageLaws.{sound-image}
+use Rattle.log.specs.View.{View, viewOf}
+use Rattle.log.proofs.ViewLaws.{AreCells, view-image}
 use Rattle.log.proofs.IntervalLaws.{day-on}
 use Rattle.dayreport.specs.Tallies.{AtMost, talliesOf, rowOf}
 use Rattle.dayreport.specs.declared.tallies.Tallies.{Tallies}
 use Rattle.dayreport.specs.Report.{figures, dayCells, reportIn, reportOf}
 use Rattle.dayreport.proofs.TalliesLaws.{at-most-more, cells-most}
 use Rattle.dayreport.proofs.TextLaws.{line-most, Never, text-fits}
-use Rattle.dayreport.proofs.ReportLaws.{report-image}
+use Rattle.dayreport.proofs.ReportLaws.{report-seen}
 use Rattle.log.specs.declared.header.Header.{Header}
 use Rattle.log.specs.declared.cell.Cell.{Cell}
 use Rattle.dayreport.specs.Day.{reportedText, datedText, zeros, dayOnText, dayText}
@@ -45,11 +45,11 @@ dated-by date a b row out o p q =
 -- the line of a day has the day's date, and the figures of that day's cells
 pub day-text-image : (h : Header) (cs : List Cell) (d : ℕ) (out : List ℕ) → isHeader h ≡ true → length cs ≡ cellsOf h → AllCells cs
     → d < h .days
-    → dayText (imageOf h cs) d out
+    → dayText (viewOf (imageOf h cs)) d out
     ≡ putText (lineText (dateOf (dayNumber (h .start) + d)) (figures (take (slotsOf (h .minutes)) (drop (d * slotsOf (h .minutes)) cs)))) out
 unfolding dayText dayOnText datedText reportedText
 day-text-image h cs d out e l k day =
-    simp (sound-image h cs e l, day-on h d e day, report-image h cs d zeros e l k day (omega arith), append-nil)
+    ap (λ (v : View). dayText v d out) (view-image h cs e l k) ∙ simp (day-on h d e day, report-seen h cs d zeros l day (omega arith), append-nil)
 
 -- ---- past the most days that a log has
 
@@ -60,7 +60,7 @@ day-past s h d p l =
     simp (le-ltb d (h .days) (omega arith))
 
 -- there is no line
-pub line-past : (s : List ℕ) (d : ℕ) (out : List ℕ) → daysMost ≤ d → Never 0 (dayText s d out)
+pub line-past : (s : List ℕ) (d : ℕ) (out : List ℕ) → daysMost ≤ d → Never 0 (dayText (viewOf s) d out)
 unfolding dayText dayOnText
 line-past s d out l =
     by-sound (Never 0) (soundOf s)
@@ -91,36 +91,34 @@ row-below t a =
     let empties = more-below (t .empties) (t .measured ∷ t .ep ∷ t .em ∷ t .rp ∷ t .rm ∷ []) (omega arith) measured in
     more-below (t .gaps) (t .empties ∷ t .measured ∷ t .ep ∷ t .em ∷ t .rp ∷ t .rm ∷ []) (omega arith) empties
 
-day-at-most : (s : List ℕ) (h : Header) (d : ℕ) → Bytes s → AtMost (65535 * slotsMost) (talliesOf (goods (dayCells s h d)))
-unfolding dayCells
-day-at-most s h d bytes =
-    let n = slotsOf (h .minutes) in
-    at-most-more (65535 * n) (65535 * slotsMost) _ (omega (arith, slots-at-most (h .minutes))) (cells-most s bytes (d * n) n)
+module _ (v : View) (are : AreCells (v .cell)) (d : ℕ) (out : List ℕ) (room : lineMost ≤ length out) where
+  day-at-most : (h : Header) → AtMost (65535 * slotsMost) (talliesOf (goods (dayCells (v .cell) h d)))
+  unfolding dayCells
+  day-at-most h =
+      let n = slotsOf (h .minutes) in
+      at-most-more (65535 * n) (65535 * slotsMost) _ (omega (arith, slots-at-most (h .minutes))) (cells-most (v .cell) are (d * n) n)
 
-figures-room : (date : Date) (s : List ℕ) (h : Header) (d : ℕ) → Bytes s → length (lineText date (figures (goods (dayCells s h d)))) ≤ lineMost
-unfolding figures rowOf
-figures-room date s h d bytes = line-most date (figures (goods (dayCells s h d))) refl (row-below (talliesOf (goods (dayCells s h d))) (day-at-most s h d bytes))
+  figures-room : (date : Date) (h : Header) → length (lineText date (figures (goods (dayCells (v .cell) h d)) ++ [])) ≤ length out
+  unfolding figures rowOf
+  figures-room date h =
+      let cells = goods (dayCells (v .cell) h d) in
+      rw append-nil (omega (arith, line-most date (figures cells) refl (row-below (talliesOf cells) (day-at-most h))))
 
-dated-line : (date : Date) (s : List ℕ) (h : Header) (d : ℕ) (out : List ℕ) → Bytes s → soundOf s ≡ Sound h → lineMost ≤ length out
-    → Never 1 (datedText date (reportOf s d zeros) out)
-unfolding datedText reportedText reportOf reportIn
-dated-line date s h d out bytes p l =
-    let reported : Outcome ReportAnswer (List ℕ) → Type 0 = λ o. Never 1 (reportedText (o .result) date (o .left) out) in
-    let row = figures (goods (dayCells s h d)) in
-    let short : length (lineText date (row ++ [])) ≤ length out = rw append-nil (omega (arith, figures-room date s h d bytes)) in
-    rw p (either reported (ltb d (h .days))
-    (either reported (allGood (dayCells s h d)) (text-fits (lineText date (row ++ [])) out short) (λ e. omega (arith, e)))
-    (λ e. omega (arith, e)))
+  dated-line : (date : Date) → Never 1 (datedText date (reportOf v d zeros) out)
+  unfolding datedText reportedText reportOf reportIn
+  dated-line date =
+      let reported : Outcome ReportAnswer (List ℕ) → Type 0 = λ o. Never 1 (reportedText (o .result) date (o .left) out) in
+      by-sound reported (v .lent) (λ p e. omega (arith, e)) (λ h p.
+      either reported (ltb d (h .days))
+      (either reported (allGood (dayCells (v .cell) h d)) (text-fits _ out (figures-room date h)) (λ e. omega (arith, e)))
+      (λ e. omega (arith, e)))
 
-on-line : (a : DayAnswer) (s : List ℕ) (h : Header) (d : ℕ) (out : List ℕ) → Bytes s → soundOf s ≡ Sound h → lineMost ≤ length out
-    → Never 1 (dayOnText a s d out)
-unfolding dayOnText
-on-line Outside s h d out bytes p l = λ e. omega (arith, e)
-on-line (On date) s h d out bytes p l = dated-line date s h d out bytes p l
+  on-line : (a : DayAnswer) → Never 1 (dayOnText a v d out)
+  unfolding dayOnText
+  on-line Outside = λ e. omega (arith, e)
+  on-line (On date) = dated-line date
 
--- the room of the longest line is enough for each
-pub line-room : (s : List ℕ) (d : ℕ) (out : List ℕ) → Bytes s → lineMost ≤ length out → Never 1 (dayText s d out)
-unfolding dayText
-line-room s d out bytes l =
-    by-sound (Never 1) (soundOf s)
-    (λ p e. omega (arith, e)) (λ h p. on-line (dayDate h d) s h d out bytes p l)
+  -- the room of the longest line is enough for each
+  pub line-room : Never 1 (dayText v d out)
+  unfolding dayText
+  line-room = by-sound (Never 1) (v .lent) (λ p e. omega (arith, e)) (λ h p. on-line (dayDate h d))

@@ -17,8 +17,8 @@ use Rattle.text.proofs.DateTextLaws.{length-dateText}
 use Rattle.slots.specs.Day.{slotsOf}
 use Rattle.slots.proofs.DayLaws.{slotsMost, slots-at-most}
 use Rattle.log.specs.Header.{daysMost, cellsOf, isHeader, soundOf}
-use Rattle.log.specs.Image.{imageOf, cellAt, cellsFrom, allGood, goods, AllCells}
-use Rattle.log.proofs.ImageLaws.{sound-image}
+use Rattle.log.specs.Image.{imageOf, allGood, goods, AllCells}
+use Rattle.log.specs.View.{View, viewOf, seenFrom}
 use Rattle.log.specs.Interval.{dayDate}
 use Rattle.log.proofs.HeaderLaws.{by-sound}
 use Rattle.log.proofs.IntervalLaws.{day-on}
@@ -32,10 +32,10 @@ use Rattle.dayreport.specs.Report.{dayCells}
 use Rattle.dayreport.specs.Text.{space, lineFeed, dateSize, putText}
 use Rattle.dayreport.specs.Strip.{mark, marksAt, stripOf, stripDated, stripOn, stripText}
 use Rattle.dayreport.specs.declared.answer.TextAnswer.the-variants.{Unsound}
-use Rattle.dayreport.proofs.TalliesLaws.{next-cell}
+use Rattle.log.proofs.ViewLaws.{length-seenFrom, seen-next, view-image}
 use Rattle.dayreport.proofs.TextLaws.{Never, text-fits}
 use Rattle.dayreport.proofs.DayLaws.{day-past}
-use Rattle.dayreport.proofs.ReportLaws.{length-cellsFrom, length-goods, all-good, good-cells, day-image}
+use Rattle.dayreport.proofs.ReportLaws.{length-goods, all-good, good-cells, day-seen}
 
 -- ---- how long a strip is
 
@@ -44,8 +44,8 @@ unfolding stripOf
 length-strip d cs = simp (length-append, length-dateText, length-map) (omega arith)
 
 -- the cells of so many slots are as many, where all are good
-pub as-many : (s : List ℕ) (i n : ℕ) → allGood (cellsFrom s i n) ≡ true → length (goods (cellsFrom s i n)) ≡ n
-as-many s i n e = length-goods (cellsFrom s i n) e ∙ length-cellsFrom s i n
+pub as-many : (cell : ℕ → CellAnswer) (i n : ℕ) → allGood (seenFrom cell i n) ≡ true → length (goods (seenFrom cell i n)) ≡ n
+as-many cell i n e = length-goods (seenFrom cell i n) e ∙ length-seenFrom cell i n
 
 -- no strip is longer
 abbrev pub stripMost : ℕ
@@ -53,26 +53,26 @@ stripMost = marksAt + slotsMost + 1
 
 -- ---- the walk over the cells
 
-module _ (s : List ℕ) (first i n : ℕ) (l : i < n) where
+module _ (cell : ℕ → CellAnswer) (first i n : ℕ) (l : i < n) where
   abbrev left : List CellAnswer
-  left = cellsFrom s (first + i) (n - i)
+  left = seenFrom cell (first + i) (n - i)
 
   abbrev after : List CellAnswer
-  after = cellsFrom s (first + (i + 1)) (n - (i + 1))
+  after = seenFrom cell (first + (i + 1)) (n - (i + 1))
 
-  good-left : (c : Cell) → cellAt s (first + i) ≡ Good c → left ≡ Good c ∷ after
-  good-left c p = next-cell s first i n l ∙ ap (λ (a : CellAnswer). a ∷ after) p
+  good-left : (c : Cell) → cell (first + i) ≡ Good c → left ≡ Good c ∷ after
+  good-left c p = seen-next cell first i n l ∙ ap (λ (a : CellAnswer). a ∷ after) p
 
-  pub marks-stop : cellAt s (first + i) ≡ Bad → allGood left ≡ false
+  pub marks-stop : cell (first + i) ≡ Bad → allGood left ≡ false
   unfolding allGood
-  marks-stop p = ap allGood (next-cell s first i n l ∙ ap (λ (a : CellAnswer). a ∷ after) p)
+  marks-stop p = ap allGood (seen-next cell first i n l ∙ ap (λ (a : CellAnswer). a ∷ after) p)
 
-  pub marks-good : (c : Cell) → cellAt s (first + i) ≡ Good c → allGood after ≡ allGood left
+  pub marks-good : (c : Cell) → cell (first + i) ≡ Good c → allGood after ≡ allGood left
   unfolding allGood
   marks-good c p = sym (ap allGood (good-left c p))
 
   -- the cell's own mark, and behind it those that are left
-  pub marks-on : (c : Cell) (line : List ℕ) → cellAt s (first + i) ≡ Good c
+  pub marks-on : (c : Cell) (line : List ℕ) → cell (first + i) ≡ Good c
       → written (written line (marksAt + i) (mark c ∷ [])) (marksAt + (i + 1)) (map mark (goods after)) ≡ written line (marksAt + i) (map mark (goods left))
   unfolding goods
   marks-on c line p =
@@ -80,11 +80,6 @@ module _ (s : List ℕ) (first i n : ℕ) (l : i < n) where
       ap (λ (k : ℕ). written (written line (marksAt + i) (mark c ∷ [])) k (map mark (goods after))) e
       ∙ sym (written-append line (marksAt + i) (mark c ∷ []) (map mark (goods after)))
       ∙ sym (ap (λ (read : List CellAnswer). written line (marksAt + i) (map mark (goods read))) (good-left c p))
-
--- past the last slot none is left
-pub marks-end : (s : List ℕ) (k n : ℕ) → n ≡ 0 → cellsFrom s k n ≡ []
-unfolding cellsFrom
-marks-end s k n e = rw e refl
 
 -- ---- a strip's parts, written one behind the other
 
@@ -105,9 +100,9 @@ written-strip s d cs n e =
 -- ---- from the walk's answer to the strip
 
 -- a day's cells are those of its slots, as many as were found for the interval
-pub day-cells : (s : List ℕ) (h : Header) (d n : ℕ) → n ≡ slotsOf (h .minutes) → dayCells s h d ≡ cellsFrom s (d * n) n
+pub day-cells : (cell : ℕ → CellAnswer) (h : Header) (d n : ℕ) → n ≡ slotsOf (h .minutes) → dayCells cell h d ≡ seenFrom cell (d * n) n
 unfolding dayCells
-day-cells s h d n e = sym (ap (λ (k : ℕ). cellsFrom s (d * k) k) e)
+day-cells cell h d n e = sym (ap (λ (k : ℕ). seenFrom cell (d * k) k) e)
 
 pub strip-good : (date : Date) (read : List CellAnswer) (out : List ℕ) → allGood read ≡ true
     → putText (stripOf date (goods read)) out ≡ stripDated date read out
@@ -122,16 +117,16 @@ strip-bad date read out e = simp e
 
 -- the strip of a day has the day's date, and a mark for each of that day's cells
 pub strip-image : (h : Header) (cs : List Cell) (d : ℕ) (out : List ℕ) → isHeader h ≡ true → length cs ≡ cellsOf h → AllCells cs → d < h .days
-    → stripText (imageOf h cs) d out
+    → stripText (viewOf (imageOf h cs)) d out
     ≡ putText (stripOf (dateOf (dayNumber (h .start) + d)) (take (slotsOf (h .minutes)) (drop (d * slotsOf (h .minutes)) cs))) out
 unfolding stripText stripOn stripDated
 strip-image h cs d out e l k day =
-    simp (sound-image h cs e l, day-on h d e day, day-image h cs d l k day, all-good, good-cells)
+    ap (λ (v : View). stripText v d out) (view-image h cs e l k) ∙ simp (day-on h d e day, day-seen h cs d l day, all-good, good-cells)
 
 -- ---- where there is no strip, and that there is always room
 
 -- past the most days that a log has there is none
-pub strip-past : (s : List ℕ) (d : ℕ) (out : List ℕ) → daysMost ≤ d → Never 0 (stripText s d out)
+pub strip-past : (s : List ℕ) (d : ℕ) (out : List ℕ) → daysMost ≤ d → Never 0 (stripText (viewOf s) d out)
 unfolding stripText stripOn
 strip-past s d out l =
     by-sound (Never 0) (soundOf s)
@@ -152,13 +147,13 @@ unfolding stripOn
 on-room day.Outside read out n l e = omega (arith, e)
 on-room (day.On date) read out n l e = dated-room date read out n l e
 
-day-most : (s : List ℕ) (h : Header) (d : ℕ) → length (dayCells s h d) ≤ slotsMost
+day-most : (cell : ℕ → CellAnswer) (h : Header) (d : ℕ) → length (dayCells cell h d) ≤ slotsMost
 unfolding dayCells
-day-most s h d = rw length-cellsFrom (slots-at-most (h .minutes))
+day-most cell h d = rw length-seenFrom (slots-at-most (h .minutes))
 
 -- the room of the longest strip is enough for each
-pub strip-room : (s : List ℕ) (d : ℕ) (out : List ℕ) → stripMost ≤ length out → Never 1 (stripText s d out)
+pub strip-room : (v : View) (d : ℕ) (out : List ℕ) → stripMost ≤ length out → Never 1 (stripText v d out)
 unfolding stripText
-strip-room s d out l =
-    by-sound (Never 1) (soundOf s)
-    (λ p e. omega (arith, e)) (λ h p. on-room (dayDate h d) (dayCells s h d) out (day-most s h d) l)
+strip-room v d out l =
+    by-sound (Never 1) (v .lent)
+    (λ p e. omega (arith, e)) (λ h p. on-room (dayDate h d) (dayCells (v .cell) h d) out (day-most (v .cell) h d) l)

@@ -5,7 +5,8 @@ use lib.ListN.{replicate}
 use Rattle.refusal.specs.Outcome.{Outcome, outcome}
 use Rattle.dayreport.specs.declared.answer.TextAnswer.{TextAnswer}
 use Rattle.calendar.specs.declared.date.Date.{Date}
-use Rattle.log.specs.Header.{soundOf, ifSound}
+use Rattle.log.specs.Header.{ifSound}
+use Rattle.log.specs.View.{View}
 use Rattle.log.specs.Interval.{dayDate}
 use Rattle.dayreport.specs.Report.{rowNumbers, reportOf}
 use Rattle.log.specs.declared.interval.DayAnswer.{DayAnswer}
@@ -31,10 +32,10 @@ unfoldable pub datedText : Date → Outcome ReportAnswer (List ℕ) → List ℕ
 datedText date o out = reportedText (o .result) date (o .left) out
 
 -- 22: "report day not in the log"
-unfoldable pub dayOnText : DayAnswer → List ℕ → ℕ → List ℕ → Outcome TextAnswer (List ℕ)
-dayOnText day.Outside s d out = outcome NotInLog out
-dayOnText (day.On date) s d out = datedText date (reportOf s d zeros) out
+unfoldable pub dayOnText : DayAnswer → View → ℕ → List ℕ → Outcome TextAnswer (List ℕ)
+dayOnText day.Outside v d out = outcome NotInLog out
+dayOnText (day.On date) v d out = datedText date (reportOf v d zeros) out
 
 -- the line of a day of a lent log; 28: "lent log with a wrong header, length"
-unfoldable pub dayText : List ℕ → ℕ → List ℕ → Outcome TextAnswer (List ℕ)
-dayText s d out = ifSound (soundOf s) (outcome Unsound out) (λ h. dayOnText (dayDate h d) s d out)
+unfoldable pub dayText : View → ℕ → List ℕ → Outcome TextAnswer (List ℕ)
+dayText v d out = ifSound (v .lent) (outcome Unsound out) (λ h. dayOnText (dayDate h d) v d out)

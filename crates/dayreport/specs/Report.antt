@@ -6,8 +6,9 @@ use lib.Dec.{ltb, leb}
 use lib.ListN.{length, drop}
 use Rattle.refusal.specs.Outcome.{Outcome, outcome, check}
 use Rattle.slots.specs.Day.{slotsOf}
-use Rattle.log.specs.Header.{soundOf, ifSound}
-use Rattle.log.specs.Image.{cellsFrom, allGood, goods}
+use Rattle.log.specs.Header.{ifSound}
+use Rattle.log.specs.Image.{allGood, goods}
+use Rattle.log.specs.View.{View, seenFrom}
 use Rattle.log.specs.declared.header.Header.{Header}
 use Rattle.log.specs.declared.cell.Cell.{Cell}
 use Rattle.log.specs.declared.cell.CellAnswer.{CellAnswer}
@@ -32,21 +33,21 @@ unfolding talliesOf
 figures cs = rowOf (talliesOf cs)
 
 -- a day's cells, in time order
-unfoldable pub dayCells : List ℕ → Header → ℕ → List CellAnswer
-dayCells s h d = cellsFrom s (d * slotsOf (h .minutes)) (slotsOf (h .minutes))
+unfoldable pub dayCells : (ℕ → CellAnswer) → Header → ℕ → List CellAnswer
+dayCells cell h d = seenFrom cell (d * slotsOf (h .minutes)) (slotsOf (h .minutes))
 
 -- ---- the report: "1", "28 stands right after 1 (for a cell: just before it is used)", 22
 
 -- 22: "report day not in the log"; 28 for a cell, else the row's first numbers
-unfoldable pub reportIn : Header → List ℕ → ℕ → List ℕ → Outcome ReportAnswer (List ℕ)
-reportIn h s d row =
+unfoldable pub reportIn : Header → (ℕ → CellAnswer) → ℕ → List ℕ → Outcome ReportAnswer (List ℕ)
+reportIn h cell d row =
     check (ltb d (h .days)) (outcome NotInLog row) (
-    check (allGood (dayCells s h d)) (outcome Unsound row) (
-    outcome Done (figures (goods (dayCells s h d)) ++ drop rowNumbers row)))
+    check (allGood (dayCells cell h d)) (outcome Unsound row) (
+    outcome Done (figures (goods (dayCells cell h d)) ++ drop rowNumbers row)))
 
 -- 1: "lent output too short"; 28: "lent log with a wrong header, length"
-unfoldable pub reportOf : List ℕ → ℕ → List ℕ → Outcome ReportAnswer (List ℕ)
-reportOf s d row =
+unfoldable pub reportOf : View → ℕ → List ℕ → Outcome ReportAnswer (List ℕ)
+reportOf v d row =
     check (leb rowNumbers (length row)) (outcome TooShort row) (
-    ifSound (soundOf s) (outcome Unsound row) (λ h.
-    reportIn h s d row))
+    ifSound (v .lent) (outcome Unsound row) (λ h.
+    reportIn h (v .cell) d row))

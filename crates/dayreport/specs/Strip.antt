@@ -6,9 +6,10 @@ use mathlib.Core.List.{List, [], _∷_, _++_, map}
 use Rattle.refusal.specs.Outcome.{Outcome, outcome, check}
 use Rattle.calendar.specs.declared.date.Date.{Date}
 use Rattle.text.specs.DateText.{dateText}
-use Rattle.log.specs.Header.{soundOf, ifSound}
+use Rattle.log.specs.Header.{ifSound}
 use Rattle.log.specs.Image.{allGood, goods}
 use Rattle.log.specs.Interval.{dayDate}
+use Rattle.log.specs.View.{View}
 use Rattle.log.specs.declared.cell.Cell.{Cell}
 use Rattle.log.specs.declared.cell.Cell.the-variants.{Gap, Empty, Measured}
 use Rattle.log.specs.declared.cell.CellAnswer.{CellAnswer}
@@ -43,5 +44,5 @@ stripOn day.Outside read out = outcome NotInLog out
 stripOn (day.On date) read out = stripDated date read out
 
 -- the strip of a day of a lent log; 28: "lent log with a wrong header, length"
-unfoldable pub stripText : List ℕ → ℕ → List ℕ → Outcome TextAnswer (List ℕ)
-stripText s d out = ifSound (soundOf s) (outcome Unsound out) (λ h. stripOn (dayDate h d) (dayCells s h d) out)
+unfoldable pub stripText : View → ℕ → List ℕ → Outcome TextAnswer (List ℕ)
+stripText v d out = ifSound (v .lent) (outcome Unsound out) (λ h. stripOn (dayDate h d) (dayCells (v .cell) h d) out)

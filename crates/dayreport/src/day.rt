@@ -1,6 +1,7 @@
 // The line of a day of a lent log.
 ghost use mathlib.Core.Path.{_≡_};
 ghost use Rattle.refusal.specs.Outcome.{outcome};
+ghost use Rattle.log.specs.View.{viewOf};
 ghost use Rattle.dayreport.specs.Report.{reportOf};
 ghost use Rattle.dayreport.specs.Day.{zeros, datedText, dayOnText, dayText};
 use crate::answer::TextAnswer;
@@ -10,7 +11,7 @@ use log::DayAnswer;
 use log::Lent;
 
 pub fn put_day(log: &[u8], day: u8, out: &mut [u8]) -> TextAnswer
-    ensures { λ r. ⌜ outcome r (now (out .exit)) ≡ dayText (now (log .entry)) day (now (out .entry)) ⌝ }
+    ensures { λ r. ⌜ outcome r (now (out .exit)) ≡ dayText (viewOf (now (log .entry))) day (now (out .entry)) ⌝ }
 {
     match log::sound(log) {
         Lent::Sound(h) => put_day_on(log, log::date_of(h, day), day, out),
@@ -19,7 +20,7 @@ pub fn put_day(log: &[u8], day: u8, out: &mut [u8]) -> TextAnswer
 }
 
 fn put_day_on(log: &[u8], on: DayAnswer, day: u8, out: &mut [u8]) -> TextAnswer
-    ensures { λ r. ⌜ outcome r (now (out .exit)) ≡ dayOnText on (now (log .entry)) day (now (out .entry)) ⌝ }
+    ensures { λ r. ⌜ outcome r (now (out .exit)) ≡ dayOnText on (viewOf (now (log .entry))) day (now (out .entry)) ⌝ }
 {
     match on {
         DayAnswer::On(date) => put_dated(log, date, day, out),
@@ -28,7 +29,7 @@ fn put_day_on(log: &[u8], on: DayAnswer, day: u8, out: &mut [u8]) -> TextAnswer
 }
 
 fn put_dated(log: &[u8], date: Date, day: u8, out: &mut [u8]) -> TextAnswer
-    ensures { λ r. ⌜ outcome r (now (out .exit)) ≡ datedText date (reportOf (now (log .entry)) day zeros) (now (out .entry)) ⌝ }
+    ensures { λ r. ⌜ outcome r (now (out .exit)) ≡ datedText date (reportOf (viewOf (now (log .entry))) day zeros) (now (out .entry)) ⌝ }
 {
     let mut row = [0u32; crate::report::REPORT_NUMBERS];
     match crate::report::day_report(log, day, &mut row) {

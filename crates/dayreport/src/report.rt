@@ -4,6 +4,8 @@ ghost use Prim.Native.Nat.{_≤_};
 ghost use mathlib.Core.List.{_++_};
 ghost use lib.ListN.{length, drop};
 ghost use Rattle.refusal.specs.Outcome.{outcome};
+ghost use Rattle.log.specs.Image.{cellAt};
+ghost use Rattle.log.specs.View.{viewOf};
 ghost use Rattle.dayreport.specs.Report.{rowNumbers, reportNumber, reportOf, reportIn};
 ghost use Rattle.dayreport.specs.Tallies.{rowOf};
 use crate::tallies::Tallied;
@@ -38,7 +40,7 @@ pub const REPORT_NUMBERS: usize = 7;
 
 // Sets the row's first numbers; a refusal leaves it as it was.
 pub fn day_report(log: &[u8], day: u8, row: &mut [u32]) -> ReportAnswer
-    ensures { λ r. ⌜ outcome r (now (row .exit)) ≡ reportOf (now (log .entry)) day (now (row .entry)) ⌝ }
+    ensures { λ r. ⌜ outcome r (now (row .exit)) ≡ reportOf (viewOf (now (log .entry))) day (now (row .entry)) ⌝ }
 {
     if row.len() < REPORT_NUMBERS {
         return ReportAnswer::TooShort;
@@ -51,7 +53,7 @@ pub fn day_report(log: &[u8], day: u8, row: &mut [u32]) -> ReportAnswer
 
 fn report_in(log: &[u8], h: Header, day: u8, row: &mut [u32]) -> ReportAnswer
     requires { ⌜ rowNumbers ≤ length (now row) ⌝ }
-    ensures { λ r. ⌜ outcome r (now (row .exit)) ≡ reportIn h (now (log .entry)) day (now (row .entry)) ⌝ }
+    ensures { λ r. ⌜ outcome r (now (row .exit)) ≡ reportIn h (cellAt (now (log .entry))) day (now (row .entry)) ⌝ }
 {
     if h.days <= day {
         return ReportAnswer::NotInLog;

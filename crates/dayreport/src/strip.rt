@@ -4,7 +4,8 @@ ghost use mathlib.Core.Bool.{true};
 ghost use mathlib.Core.List.{map};
 ghost use Rattle.refusal.specs.Outcome.{outcome};
 ghost use Rattle.words.specs.Place.{written};
-ghost use Rattle.log.specs.Image.{cellsFrom, allGood, goods};
+ghost use Rattle.log.specs.Image.{cellAt, allGood, goods};
+ghost use Rattle.log.specs.View.{viewOf, seenFrom};
 ghost use Rattle.dayreport.specs.Report.{dayCells};
 ghost use Rattle.dayreport.specs.Strip.{mark, marksAt, stripOf, stripDated, stripOn, stripText};
 use crate::answer::TextAnswer;
@@ -25,7 +26,7 @@ const MARKS: usize = DATE_BYTES + 1;
 pub const STRIP_MOST: usize = MARKS + slots::SLOTS_MOST as usize + 1;
 
 pub fn put_strip(log: &[u8], day: u8, out: &mut [u8]) -> TextAnswer
-    ensures { λ r. ⌜ outcome r (now (out .exit)) ≡ stripText (now (log .entry)) day (now (out .entry)) ⌝ }
+    ensures { λ r. ⌜ outcome r (now (out .exit)) ≡ stripText (viewOf (now (log .entry))) day (now (out .entry)) ⌝ }
 {
     match log::sound(log) {
         Lent::Sound(h) => put_on(log, h, log::date_of(h, day), day, out),
@@ -34,7 +35,7 @@ pub fn put_strip(log: &[u8], day: u8, out: &mut [u8]) -> TextAnswer
 }
 
 fn put_on(log: &[u8], h: Header, on: DayAnswer, day: u8, out: &mut [u8]) -> TextAnswer
-    ensures { λ r. ⌜ outcome r (now (out .exit)) ≡ stripOn on (dayCells (now (log .entry)) h day) (now (out .entry)) ⌝ }
+    ensures { λ r. ⌜ outcome r (now (out .exit)) ≡ stripOn on (dayCells (cellAt (now (log .entry))) h day) (now (out .entry)) ⌝ }
 {
     match on {
         DayAnswer::On(date) => put_dated(log, h, date, day, out),
@@ -43,7 +44,7 @@ fn put_on(log: &[u8], h: Header, on: DayAnswer, day: u8, out: &mut [u8]) -> Text
 }
 
 fn put_dated(log: &[u8], h: Header, date: Date, day: u8, out: &mut [u8]) -> TextAnswer
-    ensures { λ r. ⌜ outcome r (now (out .exit)) ≡ stripDated date (dayCells (now (log .entry)) h day) (now (out .entry)) ⌝ }
+    ensures { λ r. ⌜ outcome r (now (out .exit)) ≡ stripDated date (dayCells (cellAt (now (log .entry))) h day) (now (out .entry)) ⌝ }
 {
     // A bad cell shows only once it is met, and a refusal leaves what is lent as it was.
     let mut line = [0u8; STRIP_MOST];
@@ -56,8 +57,8 @@ fn put_dated(log: &[u8], h: Header, date: Date, day: u8, out: &mut [u8]) -> Text
 
 // Whether all the slots' cells are good; only then the line is whole.
 fn write_strip(line: &mut [u8], date: Date, log: &[u8], first: u16, slots: u8) -> bool
-    ensures { λ r. ⌜ (r ≡ allGood (cellsFrom (now (log .entry)) first slots))
-        × (r ≡ true → now (line .exit) ≡ written (now (line .entry)) 0 (stripOf date (goods (cellsFrom (now (log .entry)) first slots)))) ⌝ }
+    ensures { λ r. ⌜ (r ≡ allGood (seenFrom (cellAt (now (log .entry))) first slots))
+        × (r ≡ true → now (line .exit) ≡ written (now (line .entry)) 0 (stripOf date (goods (seenFrom (cellAt (now (log .entry))) first slots)))) ⌝ }
 {
     text::put_date(line, 0, date);
     words::put_byte(line, DATE_BYTES, SPACE);
@@ -68,8 +69,8 @@ fn write_strip(line: &mut [u8], date: Date, log: &[u8], first: u16, slots: u8) -
 
 // Stops at the first bad cell.
 fn write_marks(line: &mut [u8], log: &[u8], first: u16, slots: u8) -> bool
-    ensures { λ r. ⌜ (r ≡ allGood (cellsFrom (now (log .entry)) first slots))
-        × (r ≡ true → now (line .exit) ≡ written (now (line .entry)) marksAt (map mark (goods (cellsFrom (now (log .entry)) first slots)))) ⌝ }
+    ensures { λ r. ⌜ (r ≡ allGood (seenFrom (cellAt (now (log .entry))) first slots))
+        × (r ≡ true → now (line .exit) ≡ written (now (line .entry)) marksAt (map mark (goods (seenFrom (cellAt (now (log .entry))) first slots)))) ⌝ }
 {
     let mut i: u8 = 0;
     while i < slots {

@@ -1,10 +1,10 @@
 -- Demand 1, call by call: each definition ends in one of its answers, and all but 0 hand back what was lent.
-use mathlib.Core.Path.{_≡_, refl}
+use mathlib.Core.Path.{_≡_, refl, _∙_}
 use mathlib.Core.Bool.{Bool, true, false, cond, _&&_}
 use mathlib.Core.List.{List}
 use Prim.Native.Nat.{ℕ}
 use lib.Dec.{eqb, leb, ltb}
-use lib.ListN.{length, take}
+use lib.ListN.{length}
 use Rattle.case_laws.proofs.Test.{either}
 use Rattle.refusal.specs.Outcome.{Outcome, check}
 use Rattle.frame.specs.Layout.{readSize}
@@ -31,6 +31,7 @@ use Rattle.meter.specs.Reply.{isSound}
 use Rattle.log.specs.Fresh as fresh
 use Rattle.log.specs.Header.{headerSize, isHeader, cellsOf, lengthOf, markRight, versionRight, headerOf, ifRight, soundOf}
 use Rattle.log.specs.Image.{applied, allGood}
+use Rattle.log.specs.View.{View, viewOf, seenFrom}
 use Rattle.log.proofs.HeaderLaws.{by-sound}
 use Rattle.log.specs.Interval.{intervalOf, dayDate}
 use Rattle.log.proofs.IntervalLaws.{by-at}
@@ -49,15 +50,16 @@ use Rattle.logfile.specs.Read as reading
 use Rattle.logfile.specs.Write as writing
 use Rattle.logger.specs.Ask as asking
 use Rattle.logger.specs.Book as book
-use Rattle.logger.specs.Reply.{rowOf}
 use Rattle.logger.specs.Run.{State, step}
 use Rattle.logger.specs.Take as taking
-use Rattle.logger.proofs.TakeLaws.{by-none, taken-cases, update-cases}
+use Rattle.logger.proofs.TakeLaws.{by-none, isClosing, decided-ways}
 use Rattle.logger.specs.declared.held.OpenAsk.{OpenAsk}
 use Rattle.logger.specs.declared.held.OpenAsk.the-variants.{Closed}
 use Rattle.logger.specs.declared.ask.Asked.{Asked}
 use Rattle.logger.specs.declared.take.Decision.{Decision}
 use Rattle.logger.specs.declared.take.Taken.{Taken}
+use Rattle.logger.specs.declared.take.TakeAnswer.{TakeAnswer}
+use Rattle.logger.specs.declared.take.TakeAnswer.the-variants as answer
 use Rattle.demands.specs.Demand1.{inTable, Ends, EndsBy, closes}
 
 -- 0, whatever was done
@@ -134,20 +136,20 @@ fresh-log h out =
 
 -- ---- day reports and their text
 
-pub day-report : (s : List ℕ) (d : ℕ) (row : List ℕ) → EndsBy report.reportNumber row (report.reportOf s d row)
+pub day-report : (v : View) (d : ℕ) (row : List ℕ) → EndsBy report.reportNumber row (report.reportOf v d row)
 unfolding report.reportOf report.reportIn inTable
-day-report s d row =
+day-report v d row =
     let P = EndsBy report.reportNumber row in
     by-check P (leb report.rowNumbers (length row)) (stays 1 row refl) (
-    by-sound P (soundOf s) (λ e. stays 28 row refl) (λ h e.
+    by-sound P (v .lent) (λ e. stays 28 row refl) (λ h e.
     by-check P (ltb d (h .days)) (stays 22 row refl) (
-    by-check P (allGood (report.dayCells s h d)) (stays 28 row refl) (done row _))))
+    by-check P (allGood (report.dayCells (v .cell) h d)) (stays 28 row refl) (done row _))))
 
 pub put-text : (line out : List ℕ) → EndsBy text.textNumber out (text.putText line out)
 unfolding text.putText inTable
 put-text line out = either (EndsBy text.textNumber out) (leb (length line) (length out)) (done out _) (stays 1 out refl)
 
-module _ (s : List ℕ) (d : ℕ) (out : List ℕ) where
+module _ (v : View) (d : ℕ) (out : List ℕ) where
   reported-put : (a : ReportAnswer) (date : Date) (row : List ℕ) → EndsBy text.textNumber out (day.reportedText a date row out)
   unfolding day.reportedText inTable
   reported-put reported.Done date row = put-text (text.lineText date row) out
@@ -155,19 +157,19 @@ module _ (s : List ℕ) (d : ℕ) (out : List ℕ) where
   reported-put reported.Unsound date row = stays 28 out refl
   reported-put reported.NotInLog date row = stays 22 out refl
 
-  dated-put : (a : DayAnswer) → EndsBy text.textNumber out (day.dayOnText a s d out)
+  dated-put : (a : DayAnswer) → EndsBy text.textNumber out (day.dayOnText a v d out)
   unfolding day.dayOnText day.datedText inTable
   dated-put on-day.Outside = stays 22 out refl
   dated-put (on-day.On date) = reported-put _ date _
 
-  pub put-day : EndsBy text.textNumber out (day.dayText s d out)
+  pub put-day : EndsBy text.textNumber out (day.dayText v d out)
   unfolding day.dayText inTable
-  put-day = by-sound (EndsBy text.textNumber out) (soundOf s) (λ e. stays 28 out refl) (λ h e. dated-put (dayDate h d))
+  put-day = by-sound (EndsBy text.textNumber out) (v .lent) (λ e. stays 28 out refl) (λ h e. dated-put (dayDate h d))
 
 -- ---- files
 
 pub read-file : (f out : List ℕ) → EndsBy reading.readNumber out (reading.readFile f out)
-unfolding reading.readFile reading.readFields reading.readImage inTable
+unfolding reading.readFile reading.readFields reading.readCells inTable
 read-file f out =
     let P = EndsBy reading.readNumber out in
     by-check P (leb reading.markSize (length f) && markRight f) (stays 30 out refl) (
@@ -176,27 +178,27 @@ read-file f out =
     by-right P (headerOf f) (stays 32 out refl) (λ h.
     by-check P (eqb (length f) (fileLength h)) (stays 33 out refl) (
     by-check P (crcFits f) (stays 34 out refl) (
-    by-check P (cellsGood (take (lengthOf h) f) (cellsOf h)) (stays 35 out refl) (
-    by-check P (leb (length (take (lengthOf h) f)) (length out)) (stays 1 out refl) (done out _))))))))
+    by-check P (cellsGood f (cellsOf h)) (stays 35 out refl) (
+    by-check P (leb (lengthOf h) (length out)) (stays 1 out refl) (done out _))))))))
 
-pub write-file : (s out : List ℕ) → EndsBy writing.writeNumber out (writing.writtenFile s out)
+pub write-file : (v : View) (out : List ℕ) → EndsBy writing.writeNumber out (writing.writtenFile v out)
 unfolding writing.writtenFile inTable
-write-file s out =
+write-file v out =
     let P = EndsBy writing.writeNumber out in
-    by-sound P (soundOf s) (λ e. stays 28 out refl) (λ h e.
+    by-sound P (v .lent) (λ e. stays 28 out refl) (λ h e.
     by-check P (leb (fileLength h) (length out)) (stays 1 out refl) (
-    by-check P (cellsGood s (cellsOf h)) (stays 28 out refl) (done out _)))
+    by-check P (allGood (seenFrom (v .cell) 0 (cellsOf h))) (stays 28 out refl) (done out _)))
 
 -- ---- asks, lapses and replies
 
-pub put-ask : (s : List ℕ) (held : OpenAsk) (address day slot : ℕ) (out : List ℕ) → let o = asking.asked s held address day slot out in
+pub put-ask : (v : View) (held : OpenAsk) (address day slot : ℕ) (out : List ℕ) → let o = asking.asked v held address day slot out in
     Ends {A = OpenAsk × List ℕ} (asking.numberOf (o .result .answer)) (held, out) (o .result .held, o .left)
 unfolding asking.asked inTable
-put-ask s held address day slot out =
+put-ask v held address day slot out =
     let P : Outcome Asked (List ℕ) → Type 0 =
     λ o. Ends {A = OpenAsk × List ℕ} (asking.numberOf (o .result .answer)) (held, out) (o .result .held, o .left) in
     either P (ltb (length out) readSize) (record { in-table = refl; unchanged = λ n. refl }) (
-    by-sound P (soundOf s) (λ e. record { in-table = refl; unchanged = λ n. refl }) (λ h e.
+    by-sound P (v .lent) (λ e. record { in-table = refl; unchanged = λ n. refl }) (λ h e.
     by-none P held (λ a d t o. record { in-table = refl; unchanged = λ n. refl }) (λ o.
     by-at P (intervalOf h day slot) (λ n. record { in-table = refl; unchanged = λ n. refl }) (λ i n.
     record { in-table = refl; unchanged = λ n. absurd (n refl) }))))
@@ -210,6 +212,16 @@ record TakenEnds (s : List ℕ) (held : OpenAsk) (o : Outcome Taken (List ℕ)) 
   log : Ends (taking.numberOf (o .result .answer)) s (o .left)
   ask : o .result .held ≡ cond (closes (taking.numberOf (o .result .answer))) Closed held
 
+answer-in-table : (a : TakeAnswer) → inTable (taking.numberOf a) ≡ true
+unfolding inTable
+answer-in-table answer.Done = refl
+answer-in-table answer.NoAskOpen = refl
+answer-in-table answer.NotInLog = refl
+answer-in-table (answer.Malformed f) = fault-in-table f
+answer-in-table (answer.MeterRefused result) = refl
+answer-in-table answer.OtherCounts = refl
+answer-in-table answer.Unsound = refl
+
 -- a reply that is not well formed leaves the ask open
 fault-open : (f : Fault) → closes (faultNumber f) ≡ false
 fault-open (fault.Length n) = refl
@@ -218,20 +230,23 @@ fault-open fault.Address = refl
 fault-open fault.Function = refl
 fault-open fault.Parameter = refl
 
+-- the numbers tell which answers close it
+pub number-closes : (a : TakeAnswer) → closes (taking.numberOf a) ≡ isClosing a
+number-closes answer.Done = refl
+number-closes answer.NoAskOpen = refl
+number-closes answer.NotInLog = refl
+number-closes (answer.Malformed f) = fault-open f
+number-closes (answer.MeterRefused result) = refl
+number-closes answer.OtherCounts = refl
+number-closes answer.Unsound = refl
+
 taken-ends : (s : List ℕ) (held : OpenAsk) (y : List ℕ) → TakenEnds s held (taking.taken s held y)
-unfolding taking.taken applied inTable
+unfolding taking.taken applied
 taken-ends s held y =
-    let P : Decision → Type 0 = λ d. TakenEnds s held (taking.done d s) in
-    taken-cases P s held y (λ e. record { log = stays 28 s refl; ask = refl }) (λ h e.
-    record {
-      no-ask = λ o. record { log = stays 20 s refl; ask = refl };
-      outside = λ a d t o n. record { log = stays 22 s refl; ask = refl };
-      malformed = λ i o f n. record { log = stays (faultNumber f) s (fault-in-table f); ask = rw fault-open };
-      refused = λ i o r. record { log = stays 24 s refl; ask = refl };
-      bad-cell = λ i o b. record { log = stays 28 s refl; ask = refl };
-      counted = λ i o r c g.
-          update-cases P (taking.updateOf c (rowOf y)) i (λ new. record { log = done s _; ask = refl }) (record { log = done s s; ask = refl })
-          (record { log = stays 25 s refl; ask = refl });
+    decided-ways (λ (d : Decision). TakenEnds s held (taking.done d s)) (viewOf s) held y (record {
+      kept-open = λ a n. record { log = stays (taking.numberOf a) s (answer-in-table a); ask = rw (number-closes a ∙ n) };
+      closed = λ a n. record { log = stays (taking.numberOf a) s (answer-in-table a); ask = rw (number-closes a ∙ n) };
+      put = λ h i c e o is. record { log = done s _; ask = refl };
     })
 
 pub take-reply : (s : List ℕ) (held : OpenAsk) (y : List ℕ) → let o = taking.taken s held y in Ends (taking.numberOf (o .result .answer)) s (o .left)

@@ -34,13 +34,14 @@ use Rattle.reader.specs.declared.form.Form.the-variants.{WellFormed, Faulty}
 use Rattle.reader.specs.declared.reply.Decoded.{Decoded}
 use Rattle.reader.specs.declared.reply.Decoded.the-variants as decoded
 use Rattle.reader.proofs.FormLaws.{length-told}
+use Rattle.log.specs.View.{viewOf}
 use Rattle.logger.specs.Reply.{sliceForm, rowOf}
 use Rattle.logger.specs.Take as Take
 use Rattle.logger.specs.declared.held.OpenAsk.{OpenAsk}
 use Rattle.logger.specs.declared.take.Decision.{Decision}
 use Rattle.logger.specs.declared.take.TakeAnswer.{TakeAnswer}
 use Rattle.logger.specs.declared.take.TakeAnswer.the-variants as answer
-use Rattle.logger.proofs.TakeLaws.{taken-cases, update-cases}
+use Rattle.logger.proofs.TakeLaws.{decided-cases, update-cases}
 use Rattle.demands.specs.Demand1.{inTable}
 
 pub gone : (n : ℕ) → inTable n ≡ true → n ≡ 23 → ⊥
@@ -169,14 +170,14 @@ module _ (s : List ℕ) (held : OpenAsk) (y : List ℕ) where
   unfolding Take.taken toldTaken
   taken-told =
       let P : Decision → Type 0 = λ d. toldTaken (length y) (d .taken .answer) ≡ length y in
-      taken-cases P s held y (λ u. refl) (λ h u.
+      decided-cases P (viewOf s) held y (λ u. refl) (λ h u.
       record {
         no-ask = λ o. refl;
         outside = λ a d t o n. refl;
         malformed = λ i o f e. form-told (o .address) 3 36 14 y f e;
         refused = λ i o r. refl;
         bad-cell = λ i o b. refl;
-        counted = λ i o r c g. update-cases P (Take.updateOf c (rowOf y)) i (λ new. refl) refl refl;
+        counted = λ i o r c g. update-cases P (Take.updateOf c (rowOf y)) i (λ new q. refl) refl refl;
       })
 
   pub take-length : (n : ℕ) → (Take.taken s held y) .result .answer ≡ answer.Malformed (fault.Length n) → n ≡ length y

@@ -5,46 +5,42 @@ use mathlib.Core.List.{List, [], _∷_, _++_}
 use Prim.Native.Nat.{ℕ, _+_, _<_, _≤_}
 use native.Mathlib.Nat.{zero-add}
 use native.Mathlib.Omega.{arith}
-use borrow.Author.Tests.{leb-true, leb-false, ltb-true, ltb-false}
+use borrow.Author.Tests.{leb-true, ltb-true, ltb-false}
 use lib.Dec.{leb, ltb}
 use lib.ListN.{length, take, drop, getD, List·getD-eq-default}
-use lib.Seq.{ext-getD, length-take-le, take-all, take-at}
+use lib.Seq.{ext-getD, take-at}
 use Rattle.case_laws.proofs.Test.{chosen}
 use Rattle.refusal.specs.Outcome.{Outcome, outcome}
-use Rattle.frame.specs.Layout.{crcSize}
-use Rattle.frame.proofs.SealingLaws.{length-framed}
 use Rattle.words.specs.Number.{Bytes}
 use Rattle.words.specs.Place.{byteAt}
-use Rattle.words.proofs.PlaceLaws.{byteAt-kept}
-use Rattle.log.specs.Cell.{isCell, noCounts, cellBytes, IsCell}
-use Rattle.log.proofs.CellLaws.{length-cellBytes, gap-is-cell}
+use Rattle.log.specs.Cell.{isCell, noCounts, IsCell}
+use Rattle.log.proofs.CellLaws.{gap-is-cell}
 use Rattle.log.specs.Fresh.{freshImage, freshNumber, freshOf, gaps}
 use Rattle.log.specs.declared.fresh.FreshAnswer.{FreshAnswer}
 use Rattle.log.specs.declared.fresh.FreshAnswer.the-variants as made
 use Rattle.log.proofs.FreshLaws.{length-gaps, length-freshImage, gap-at, fresh-front}
 use Rattle.log.specs.Header.{isHeader, cellsOf, lengthOf, soundOf}
-use Rattle.log.specs.Image.{cellStart, putCell, applied, imageOf, AllCells}
-use Rattle.log.proofs.ImageLaws.{length-putCell, sound-image}
+use Rattle.log.specs.Image.{applied, imageOf, AllCells}
+use Rattle.log.specs.View.{viewOf}
+use Rattle.log.proofs.ViewLaws as layout
+use Rattle.log.proofs.ViewLaws.{length-applied}
 use Rattle.log.specs.declared.cell.Cell.{Cell}
 use Rattle.log.specs.declared.cell.Cell.the-variants.{Gap, Empty, Measured}
 use Rattle.log.specs.declared.header.Header.{Header}
 use Rattle.log.specs.declared.header.Lent.the-variants.{Sound}
-use Rattle.logger.specs.Held.{OpenFor}
-use Rattle.logger.specs.Reply.{rowOf}
 use Rattle.logger.specs.Take as Take
-use Rattle.logger.proofs.TakeLaws.{taken-cases, update-cases}
+use Rattle.logger.proofs.TakeLaws.{decided-ways}
 use Rattle.logger.specs.Book.{Call, ask, lapse, reply, Answer, Book, isZero, counts, firstOf, byFirst, afresh, cameFirst, startBook, bookStep, runOf, bookRun, workedOut, AllBytes}
 use Rattle.logger.proofs.BookLaws.{Fitting, length-workedOut, workedOut-at}
 use Rattle.logger.specs.Run.{State, step, run}
 use Rattle.logger.proofs.StepLaws.{stateOf, Sane, step-agrees, step-sane}
 use Rattle.logger.specs.declared.held.OpenAsk.{OpenAsk}
 use Rattle.logger.specs.declared.take.Decision.{Decision}
-use Rattle.logfile.specs.File.{fileOf, cellsGood}
+use Rattle.logfile.specs.File.{fileBytes}
 use Rattle.logfile.specs.Read.{readFile}
 use Rattle.logfile.specs.declared.read.ReadAnswer.{ReadAnswer}
 use Rattle.logfile.specs.declared.read.ReadAnswer.the-variants as read
-use Rattle.logfile.proofs.FileLaws.{Accepted, accepted, accepted-image, read-written}
-use Rattle.logfile.proofs.WalkLaws.{good-image}
+use Rattle.logfile.proofs.FileLaws.{length-image, accepted, read-written}
 use Rattle.polling.specs.Reached.{Polled}
 use Rattle.demands.specs.Demand3.{Start, begin, ran, booked, logAfresh, Elsewhere}
 
@@ -116,31 +112,14 @@ start-state h cells e k = ap (λ (l : List Cell). begin (imageOf h l)) (start-ce
 
 -- ---- what a call leaves alone
 
--- a taken reply leaves the log, or puts the cell whose ask was open: what holds of both logs holds of the log after it
-pub taken-has : (P : List ℕ → Type 0) (s : List ℕ) (held : OpenAsk) (y : List ℕ) → P s
-    → ((h : Header) (i : ℕ) (c : Cell) → soundOf s ≡ Sound h → OpenFor h held i → P (putCell s i c)) → P (Take.taken s held y .left)
-unfolding Take.taken applied
-taken-has P s held y stays puts =
-    let Q : Decision → Type 0 = λ d. P (applied (d .change) s) in
-    taken-cases Q s held y (λ e. stays) (λ h e.
-    record {
-      no-ask = λ o. stays;
-      outside = λ a d t o n. stays;
-      malformed = λ i o fault n. stays;
-      refused = λ i o r. stays;
-      bad-cell = λ i o b. stays;
-      counted = λ i o r c g. update-cases Q (Take.updateOf c (rowOf y)) i (λ new. puts h i new e (o .ask)) stays stays;
-    })
-
 byte-stays : (s : State) (y : List ℕ) (j : ℕ) → Elsewhere s j → byteAt (Take.taken (s .log) (s .held) y .left) j ≡ byteAt (s .log) j
-unfolding putCell
+unfolding Take.taken applied
 byte-stays s y j k =
-    taken-has (λ (l : List ℕ). byteAt l j ≡ byteAt (s .log) j) (s .log) (s .held) y refl
-    (λ h i c e o. byteAt-kept (s .log) (cellStart i) (cellBytes c) j (rw length-cellBytes (k h i e o)))
-
-length-stays : (s : State) (y : List ℕ) → length (Take.taken (s .log) (s .held) y .left) ≡ length (s .log)
-length-stays s y =
-    taken-has (λ (l : List ℕ). length l ≡ length (s .log)) (s .log) (s .held) y refl (λ h i c e o. length-putCell (s .log) i c)
+    decided-ways (λ (d : Decision). byteAt (applied (d .change) (s .log)) j ≡ byteAt (s .log) j) (viewOf (s .log)) (s .held) y (record {
+      kept-open = λ a n. refl;
+      closed = λ a n. refl;
+      put = λ h i c e o is. layout.elsewhere (s .log) i c j (k h i e o);
+    })
 
 pub elsewhere : (s : State) (c : Call) (j : ℕ) → Elsewhere s j → byteAt (step s c .left .log) j ≡ byteAt (s .log) j
 unfolding step
@@ -149,10 +128,10 @@ elsewhere s lapse j k = refl
 elsewhere s (reply y) j k = byte-stays s y j k
 
 pub as-long : (s : State) (c : Call) → length (step s c .left .log) ≡ length (s .log)
-unfolding step
+unfolding step Take.taken
 as-long s (ask address day slot out) = refl
 as-long s lapse = refl
-as-long s (reply y) = length-stays s y
+as-long s (reply y) = length-applied (Take.decided (viewOf (s .log)) (s .held) y .change) (s .log)
 
 -- ---- from every start
 
@@ -184,40 +163,27 @@ fresh h out n p =
     let front : take n y ≡ freshImage h = ap (take n) given ∙ take-at (freshImage h) (drop (lengthOf h) out) n (length-freshImage h ∙ k) in
     subst Start (sym front) (fresh-start h (r .0))
 
--- an accepted file is longer than its image
-image-size : (f out y : List ℕ) (n : ℕ) → Accepted f out y n → length (take n f) ≡ n
-image-size f out y n a = go (leb n (length f)) refl
-  where
-    go : (b : Bool) → leb n (length f) ≡ b → length (take n f) ≡ n
-    go true e = length-take-le n f (leb-true _ _ e)
-    go false e =
-        let short : length f < n = leb-false n (length f) e in
-        let whole : length (take n f) ≡ length f = ap length (take-all n f (omega arith)) in
-        let more : length f ≡ length (take n f) + crcSize = ap length (a .file) ∙ length-framed (take n f) in
-        omega arith
-
 pub file : (f out : List ℕ) (n : ℕ) → Bytes f → readFile f out .result ≡ read.Done n → Start (take n (readFile f out .left))
 file f out n k p =
     let y = readFile f out .left in
-    let a = accepted f out y n k (ap (λ (r : ReadAnswer). outcome r y) p) in
-    let i = accepted-image f out y n k a in
-    let front : take n y ≡ take n f = ap (take n) (a .given) ∙ take-at (take n f) (drop n out) n (image-size f out y n a) in
-    subst Start (sym front) (record { header = a .header; cells = i .cells; right = i .header; count = i .count; each = i .each; image = i .image })
-
-start-sound : (s : List ℕ) (start : Start s) → soundOf s ≡ Sound (start .header)
-start-sound s start = ap soundOf (start .image) ∙ sound-image (start .header) (start .cells) (start .right) (start .count)
-
-start-good : (s : List ℕ) (start : Start s) → cellsGood s (cellsOf (start .header)) ≡ true
-start-good s start =
-    ap (λ (x : List ℕ). cellsGood x (cellsOf (start .header))) (start .image) ∙ good-image (start .header) (start .cells) (start .each) (start .count)
+    let a = accepted f k out y n (ap (λ (r : ReadAnswer). outcome r y) p) in
+    let s = imageOf (a .header) (a .cells) in
+    let front : take n y ≡ s = ap (take n) (a .given) ∙ take-at s (drop n out) n (a .size) in
+    let w = a .whole in
+    subst Start (sym front) (record { header = a .header; cells = a .cells; right = w .right; count = w .count; each = w .each; image = refl })
 
 pub fresh-had : (h : Header) (out : List ℕ) → isHeader h ≡ true → lengthOf h ≤ length out
     → freshOf h out ≡ outcome (made.Done (lengthOf h)) (freshImage h ++ drop (lengthOf h) out)
 fresh-had h out e l = fresh-front h out e l
 
-pub file-had : (s out : List ℕ) → Start s → Bytes s → length s ≤ length out
-    → readFile (fileOf s) out ≡ outcome (read.Done (length s)) (s ++ drop (length s) out)
-file-had s out start k l = read-written s out (start .header) k (start-sound s start) (start-good s start) l
+pub file-had : (s out : List ℕ) (start : Start s) → length s ≤ length out
+    → readFile (fileBytes (start .header) (start .cells)) out ≡ outcome (read.Done (length s)) (s ++ drop (length s) out)
+file-had s out start l =
+    let h = start .header in
+    let cs = start .cells in
+    let size : length s ≡ lengthOf h = ap length (start .image) ∙ length-image h cs (start .count) in
+    read-written h cs (record { right = start .right; count = start .count; each = start .each }) out (omega arith)
+    ∙ ap₂ (λ (k : ℕ) (x : List ℕ). outcome (read.Done k) (x ++ drop k out)) (sym size) (sym (start .image))
 
 module _ (s : List ℕ) (start : Start s) (calls : List Call) (k : AllBytes calls) where
   b : Book

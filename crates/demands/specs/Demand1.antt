@@ -27,6 +27,7 @@ use Rattle.meter.specs.Bench as bench
 use Rattle.meter.specs.Reply as meter
 use Rattle.meter_inquiry.specs.Inquiry as inquiry
 use Rattle.log.specs.Fresh as fresh
+use Rattle.log.specs.View.{View}
 use Rattle.log.specs.declared.header.Header.{Header}
 use Rattle.dayreport.specs.Report as report
 use Rattle.dayreport.specs.Text as text
@@ -82,15 +83,15 @@ pub record Demand1 : Type 0 where
       o .result .held ≡ cond (closes (taking.numberOf (o .result .answer))) Closed held
   pub lapse : (s : State) → EndsBy (λ (a : book.Answer). a .number) s (step s book.lapse)
   -- "and writes nothing into a lent buffer": an ask, which is lent the log only to be read; requests, fresh logs, reports, texts and files
-  pub put-ask : (s : List ℕ) (held : OpenAsk) (address day slot : ℕ) (out : List ℕ) → let o = asking.asked s held address day slot out in
+  pub put-ask : (v : View) (held : OpenAsk) (address day slot : ℕ) (out : List ℕ) → let o = asking.asked v held address day slot out in
       Ends {A = OpenAsk × List ℕ} (asking.numberOf (o .result .answer)) (held, out) (o .result .held, o .left)
   pub put-request : (q : Request) (out : List ℕ) → EndsBy request.numberOf out (request.requested q out)
   pub fresh-log : (h : Header) (out : List ℕ) → EndsBy fresh.freshNumber out (fresh.freshOf h out)
-  pub day-report : (s : List ℕ) (d : ℕ) (row : List ℕ) → EndsBy report.reportNumber row (report.reportOf s d row)
+  pub day-report : (v : View) (d : ℕ) (row : List ℕ) → EndsBy report.reportNumber row (report.reportOf v d row)
   pub put-text : (line out : List ℕ) → EndsBy text.textNumber out (text.putText line out)
-  pub put-day : (s : List ℕ) (d : ℕ) (out : List ℕ) → EndsBy text.textNumber out (day.dayText s d out)
+  pub put-day : (v : View) (d : ℕ) (out : List ℕ) → EndsBy text.textNumber out (day.dayText v d out)
   pub read-file : (f out : List ℕ) → EndsBy reading.readNumber out (reading.readFile f out)
-  pub write-file : (s out : List ℕ) → EndsBy writing.writeNumber out (writing.writtenFile s out)
+  pub write-file : (v : View) (out : List ℕ) → EndsBy writing.writeNumber out (writing.writtenFile v out)
   -- "but the short refusal frame where the table gives one": what a refused command leaves in the output, how many bytes of it are the reply
   pub answer-output : (r : Record) (s f out : List ℕ) → let o = meter.answerOf r s f out in (answerNumber o ≡ 0 → ⊥)
       → o .out ≡ cond (givesFrame (answerNumber o)) (written out 0 (framed (meter.headOf (o .answer .verdict) f))) out

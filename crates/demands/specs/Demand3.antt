@@ -10,16 +10,15 @@ use Prim.Native.Nat.{ℕ, _≤_}
 use lib.ListN.{length, take, drop}
 use Rattle.refusal.specs.Outcome.{Outcome, outcome}
 use Rattle.words.specs.Number.{Bytes}
-use Rattle.words.specs.Place.{Apart, byteAt}
-use Rattle.log.specs.Cell.{cellSize}
+use Rattle.words.specs.Place.{byteAt}
 use Rattle.log.specs.Fresh.{freshImage, freshOf}
 use Rattle.log.specs.declared.fresh.FreshAnswer.the-variants as made
 use Rattle.log.specs.Header.{isHeader, cellsOf, lengthOf, soundOf}
-use Rattle.log.specs.Image.{cellStart, imageOf, AllCells}
+use Rattle.log.specs.Image.{OutsideCell, imageOf, AllCells}
 use Rattle.log.specs.declared.cell.Cell.{Cell}
 use Rattle.log.specs.declared.header.Header.{Header}
 use Rattle.log.specs.declared.header.Lent.the-variants.{Sound}
-use Rattle.logfile.specs.File.{fileOf}
+use Rattle.logfile.specs.File.{fileBytes}
 use Rattle.logfile.specs.Read.{readFile}
 use Rattle.logfile.specs.declared.read.ReadAnswer.the-variants as read
 use Rattle.logger.specs.Book.{Call, Answer, Book, startBook, bookRun, workedOut, AllBytes}
@@ -51,9 +50,9 @@ booked start calls = bookRun (start .header) (startBook (start .cells)) calls
 abbrev pub logAfresh : {s : List ℕ} → Start s → List Call → List ℕ
 logAfresh start calls = imageOf (start .header) (workedOut (booked start calls .left .kept) 0 (cellsOf (start .header)))
 
--- place j lies outside the cell whose ask is open, if one is
+-- byte j lies outside the cell whose ask is open, if one is
 abbrev pub Elsewhere : State → ℕ → Type 0
-Elsewhere s j = (h : Header) (i : ℕ) → soundOf (s .log) ≡ Sound h → OpenFor h (s .held) i → Apart j 1 (cellStart i) cellSize
+Elsewhere s j = (h : Header) (i : ℕ) → soundOf (s .log) ≡ Sound h → OpenFor h (s .held) i → OutsideCell i j
 
 pub record Demand3 : Type 0 where
   -- "Take a fresh log, or one read from a file": what `fresh_log` and `read_file` say is done stands at the front of the lent bytes and is a
@@ -62,8 +61,8 @@ pub record Demand3 : Type 0 where
   pub file : (f out : List ℕ) (n : ℕ) → Bytes f → readFile f out .result ≡ read.Done n → Start (take n (readFile f out .left))
   pub fresh-had : (h : Header) (out : List ℕ) → isHeader h ≡ true → lengthOf h ≤ length out
       → freshOf h out ≡ outcome (made.Done (lengthOf h)) (freshImage h ++ drop (lengthOf h) out)
-  pub file-had : (s out : List ℕ) → Start s → Bytes s → length s ≤ length out
-      → readFile (fileOf s) out ≡ outcome (read.Done (length s)) (s ++ drop (length s) out)
+  pub file-had : (s out : List ℕ) (start : Start s) → length s ≤ length out
+      → readFile (fileBytes (start .header) (start .cells)) out ≡ outcome (read.Done (length s)) (s ++ drop (length s) out)
   -- "After every such list the log is byte for byte the one worked out afresh from that history."
   pub log : (s : List ℕ) (start : Start s) (calls : List Call) → AllBytes calls → ran s calls .left .log ≡ logAfresh start calls
   -- "Every answer, and the ask left open, are those of document 01's plain book."

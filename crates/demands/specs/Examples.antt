@@ -4,12 +4,15 @@ use mathlib.Core.Bool.{Bool, true, false, not, _&&_}
 use mathlib.Core.List.{List, [], _∷_, _++_, map}
 use Prim.Native.Nat.{ℕ, zero, suc}
 use lib.Dec.{eqb}
-use lib.ListN.{take, drop, replicate}
+use lib.ListN.{replicate}
 use Rattle.refusal.specs.Outcome.{Outcome}
 use Rattle.words.specs.Number.{bytesOf}
 use Rattle.frame.specs.Sealing.{framed}
 use Rattle.log.specs.Fresh.{freshImage}
-use Rattle.log.specs.Image.{cellStart}
+use Rattle.log.specs.View.{viewOf}
+use Rattle.log.specs.declared.cell.Cell.the-variants.{Gap, Empty, Measured}
+use Rattle.log.specs.declared.cell.CellAnswer.{CellAnswer}
+use Rattle.log.specs.declared.cell.CellAnswer.the-variants.{Good, Bad}
 use Rattle.logger.specs.Ask.{asked}
 use Rattle.logger.specs.Book.{Call, ask, reply, Answer}
 use Rattle.logger.specs.Run.{State, run}
@@ -55,6 +58,13 @@ three-replies : Outcome (List Answer) State
 three-replies =
     run (record { log = fresh-log; held = Closed }) (first-slot ∷ reply (slice-reply 0 0) ∷ first-slot ∷ reply (slice-reply 12 3) ∷ first-slot ∷ reply (slice-reply 13 3) ∷ [])
 
+-- the counts of a measured cell
+countsOf : CellAnswer → List ℕ
+countsOf (Good (Measured e+ e- r+ r-)) = e+ ∷ e- ∷ r+ ∷ r- ∷ []
+countsOf (Good Gap) = []
+countsOf (Good Empty) = []
+countsOf Bad = []
+
 -- P5, P6: the number that a change of the telemetry gets, by a meter with that Ke and main access
 meterWith : ℕ → Record
 meterWith ke =
@@ -73,14 +83,14 @@ quiet zero p = p
 quiet (suc n) p = quiet n (quietSecond p)
 
 unfoldable pub examples : List Bool
-unfolding same three-replies change-gets quiet
+unfolding same three-replies countsOf change-gets quiet
 examples =
     -- P1, P2, P3: the CRC of three frames
     same (framed (0x01 ∷ 0x66 ∷ [])) (0x01 ∷ 0x66 ∷ 0x80 ∷ 0x0A ∷ [])
     ∷ same (framed (0x01 ∷ 0x03 ∷ 0x00 ∷ 0x04 ∷ 0x00 ∷ 0x06 ∷ [])) (0x01 ∷ 0x03 ∷ 0x00 ∷ 0x04 ∷ 0x00 ∷ 0x06 ∷ 0x84 ∷ 0x09 ∷ [])
     ∷ same (framed (0x00 ∷ 0x00 ∷ 0x04 ∷ 0xD2 ∷ 0x27 ∷ [])) (0x00 ∷ 0x00 ∷ 0x04 ∷ 0xD2 ∷ 0x27 ∷ 0x79 ∷ 0x7B ∷ [])
     -- P4: ask address 1, 17 May, slot 0: what an ask for the log's first interval puts into eight lent bytes
-    ∷ same (asked fresh-log Closed 1 0 0 (replicate 8 0) .left) (0x01 ∷ 0x03 ∷ 0x24 ∷ 0x05 ∷ 0x11 ∷ 0x00 ∷ 0x53 ∷ 0x6B ∷ [])
+    ∷ same (asked (viewOf fresh-log) Closed 1 0 0 (replicate 8 0) .left) (0x01 ∷ 0x03 ∷ 0x24 ∷ 0x05 ∷ 0x11 ∷ 0x00 ∷ 0x53 ∷ 0x6B ∷ [])
     -- P5: Ke 20, P6: Ke 100
     ∷ same (map (change-gets 20) (2000 ∷ 250000 ∷ 1999 ∷ 250001 ∷ [])) (0 ∷ 0 ∷ 15 ∷ 15 ∷ [])
     ∷ same (map (change-gets 100) (400 ∷ 50000 ∷ [])) (0 ∷ 0 ∷ [])
@@ -89,7 +99,7 @@ examples =
     ∷ same (map (lastSunday 24) (3 ∷ 10 ∷ [])) (31 ∷ 27 ∷ [])
     -- P9: answers 0, 0, 25, each after its ask, and the cell 12 0 3 0
     ∷ same (map (λ (a : Answer). a .number) (three-replies .result)) (0 ∷ 0 ∷ 0 ∷ 0 ∷ 0 ∷ 25 ∷ [])
-    ∷ same (take 9 (drop (cellStart 0) (three-replies .left .log))) (2 ∷ 12 ∷ 0 ∷ 0 ∷ 0 ∷ 3 ∷ 0 ∷ 0 ∷ 0 ∷ [])
+    ∷ same (countsOf (viewOf (three-replies .left .log) .cell 0)) (12 ∷ 0 ∷ 3 ∷ 0 ∷ [])
     -- P10: 239 quiet seconds keep the level, the 240th ends it
     ∷ isMain ((quiet 239 (opened Main)) .level)
     ∷ not (isOpen ((quiet 240 (opened Main)) .level))

@@ -1,8 +1,9 @@
 -- A part of a byte list, one byte at a time.
 use mathlib.Core.Path.{_≡_, refl, ap, _∙_}
-use mathlib.Core.List.{List, [], _∷_}
+use mathlib.Core.List.{List, [], _∷_, _++_}
 use mathlib.Core.Bool.{Bool, true, false}
 use Prim.Native.Nat.{ℕ, zero, suc, _+_, _*_, _/_, _%_, _≤_, _<_}
+use native.Mathlib.Nat.{zero-lt-suc}
 use native.Mathlib.Omega.{arith}
 use lib.Dec.{ltb}
 use lib.ListN.{length, getD, take, drop, length-take, List·getD-eq-default}
@@ -39,6 +40,19 @@ low-of s i n h e = low s h i ∙ ap (λ (x : ℕ). x % 256) e
 
 pub high-of : (s : List ℕ) (i n : ℕ) → Bytes s → numberAt s i 2 ≡ n → byteAt s (i + 1) ≡ n / 256 % 256
 high-of s i n h e = high s h i ∙ ap (λ (x : ℕ). x / 256 % 256) e
+
+-- bytes one behind the other are bytes
+pub bytes-nil : Bytes []
+bytes-nil i = zero-lt-suc 255
+
+pub bytes-cons : (x : ℕ) (xs : List ℕ) → x < 256 → Bytes xs → Bytes (x ∷ xs)
+bytes-cons x xs h k zero = h
+bytes-cons x xs h k (suc i) = k i
+
+pub bytes-append : (xs ys : List ℕ) → Bytes xs → Bytes ys → Bytes (xs ++ ys)
+bytes-append [] ys h k i = k i
+bytes-append (x ∷ xs) ys h k zero = h 0
+bytes-append (x ∷ xs) ys h k (suc i) = bytes-append xs ys (λ j. h (suc j)) k i
 
 -- a part of bytes is bytes
 pub bytes-part : (s : List ℕ) (a k : ℕ) → Bytes s → Bytes (take k (drop a s))

@@ -1,18 +1,19 @@
 -- What follows from the definition of a cell: a cell and its nine bytes say the same.
 use Prim.Native.Nat.{ℕ, _+_, _*_, _/_, _%_, _<_}
 use native.Mathlib.Omega.{arith}
-use mathlib.Core.Path.{_≡_, refl, sym, ap, _∙_}
+use mathlib.Core.Path.{_≡_, refl, sym, ap, subst, _∙_}
 use mathlib.Core.Bool.{Bool, true, false, cond, not}
-use mathlib.Core.List.{List}
+use mathlib.Core.List.{List, _++_}
 use lib.Dec.{eqb}
 use lib.ListN.{length}
 use lib.Seq.{take-all}
-use borrow.Author.Tests.{eqb-true, not-true}
+use borrow.Author.Tests.{eqb-true, eqb-false, ltb-true, not-true}
 use Rattle.words.specs.Number.{number, bytesOf, Bytes}
 use Rattle.words.specs.Place.{byteAt, numberAt}
 use Rattle.case_laws.proofs.Test.{both, chosen}
-use Rattle.log.proofs.ByteLaws.{run, take-run, two, low, high}
-use Rattle.log.specs.Cell.{cellSize, noCounts, isCell, kindBytes, cellBytes, kindCell, cellOf, ifGood, CountsFit, CellFits, IsCell}
+use Rattle.words.proofs.NumberLaws.{bytes-bytesOf}
+use Rattle.log.proofs.ByteLaws.{run, take-run, two, low, high, bytes-cons, bytes-append}
+use Rattle.log.specs.Cell.{cellSize, noCounts, isCell, kindBytes, cellBytes, kindFits, cellBy, kindCell, cellOf, ifGood, CountsFit, CellFits, IsCell}
 use Rattle.log.specs.declared.cell.Cell.{Cell}
 use Rattle.log.specs.declared.cell.Cell.the-variants.{Gap, Empty, Measured}
 use Rattle.log.specs.declared.cell.CellAnswer.{CellAnswer}
@@ -34,11 +35,28 @@ length-cellBytes Gap = refl
 length-cellBytes Empty = refl
 length-cellBytes (Measured e+ e- r+ r-) = refl
 
+bytes-kind : (kind e+ e- r+ r- : ℕ) → kind < 256 → Bytes (kindBytes kind e+ e- r+ r-)
+unfolding kindBytes
+bytes-kind kind e+ e- r+ r- k =
+    let c = bytesOf 2 r+ ++ bytesOf 2 r- in
+    let b = bytesOf 2 e- ++ c in
+    let a = bytesOf 2 e+ ++ b in
+    bytes-cons kind a k
+    (bytes-append (bytesOf 2 e+) b (bytes-bytesOf 2 e+)
+    (bytes-append (bytesOf 2 e-) c (bytes-bytesOf 2 e-)
+    (bytes-append (bytesOf 2 r+) (bytesOf 2 r-) (bytes-bytesOf 2 r+) (bytes-bytesOf 2 r-))))
+
+pub bytes-cell : (c : Cell) → Bytes (cellBytes c)
+unfolding cellBytes
+bytes-cell Gap = bytes-kind 0 0 0 0 0 (omega arith)
+bytes-cell Empty = bytes-kind 1 0 0 0 0 (omega arith)
+bytes-cell (Measured e+ e- r+ r-) = bytes-kind 2 e+ e- r+ r- (omega arith)
+
 low-high : (n : ℕ) → n < 65536 → (0 * 256 + n / 256 % 256) * 256 + n % 256 ≡ n
 low-high n h = omega arith
 
 pub cellOf-bytes : (c : Cell) → IsCell c → cellOf (cellBytes c) ≡ Good c
-unfolding cellOf cellBytes kindBytes kindCell isCell noCounts bytesOf numberAt number
+unfolding cellOf cellBytes kindBytes kindCell kindFits cellBy isCell noCounts bytesOf numberAt number
 cellOf-bytes Gap i = refl
 cellOf-bytes Empty i = refl
 cellOf-bytes (Measured e+ e- r+ r-) i =
@@ -55,43 +73,34 @@ record Kind (kind e+ e- r+ r- : ℕ) (c : Cell) : Type 0 where
 pub bad≢good : (c : Cell) → Bad ≡ Good c → ⊥
 bad≢good c p = let z : _≡_ {A = ℕ} 0 1 = cc in omega arith
 
-module _ (kind e+ e- r+ r- : ℕ) (c : Cell) where
-  gap-kind : noCounts e+ e- r+ r- ≡ true → eqb kind 0 ≡ true → Good Gap ≡ Good c → Kind kind e+ e- r+ r- c
-  unfolding noCounts isCell cellBytes
-  gap-kind z k p =
+module _ (kind e+ e- r+ r- : ℕ) where
+  no-kind : (c : Cell) (k : ℕ) → kind ≡ k → noCounts e+ e- r+ r- ≡ true → isCell c ≡ true → CellFits c → cellBytes c ≡ kindBytes k 0 0 0 0 → Kind kind e+ e- r+ r- c
+  unfolding noCounts
+  no-kind c k e z right fits bytes =
       let a = both _ _ z in
       let b = both _ _ (a .0) in
       let d = both _ _ (b .0) in
-      let q : Gap ≡ c = cc in
-      rw (← q) (record { right = refl; fits = λ f. tt; bytes = simp (eqb-true kind 0 k, eqb-true e+ 0 (d .0), eqb-true e- 0 (d .1), eqb-true r+ 0 (b .1), eqb-true r- 0 (a .1)) })
+      record { right = right; fits = λ f. fits; bytes = bytes ∙ sym (simp (e, eqb-true e+ 0 (d .0), eqb-true e- 0 (d .1), eqb-true r+ 0 (b .1), eqb-true r- 0 (a .1))) }
 
-  empty-kind : noCounts e+ e- r+ r- ≡ true → eqb kind 1 ≡ true → Good Empty ≡ Good c → Kind kind e+ e- r+ r- c
-  unfolding noCounts isCell cellBytes
-  empty-kind z k p =
-      let a = both _ _ z in
-      let b = both _ _ (a .0) in
-      let d = both _ _ (b .0) in
-      let q : Empty ≡ c = cc in
-      rw (← q) (record { right = refl; fits = λ f. tt; bytes = simp (eqb-true kind 1 k, eqb-true e+ 0 (d .0), eqb-true e- 0 (d .1), eqb-true r+ 0 (b .1), eqb-true r- 0 (a .1)) })
-
-  measured-kind : noCounts e+ e- r+ r- ≡ false → eqb kind 2 ≡ true → Good (Measured e+ e- r+ r-) ≡ Good c → Kind kind e+ e- r+ r- c
-  unfolding isCell cellBytes
-  measured-kind z k p =
-      let q : Measured e+ e- r+ r- ≡ c = cc in
-      rw (← q) (record { right = ap not z; fits = λ f. f; bytes = simp (eqb-true kind 2 k) })
-
-  kind-of : kindCell kind e+ e- r+ r- ≡ Good c → Kind kind e+ e- r+ r- c
-  unfolding kindCell
-  kind-of p = go (noCounts e+ e- r+ r-) refl (eqb kind 0) refl (eqb kind 1) refl (eqb kind 2) refl p
+  fit-kind : (n : Bool) → noCounts e+ e- r+ r- ≡ n → kindFits kind n ≡ true → Kind kind e+ e- r+ r- (cellBy kind e+ e- r+ r-)
+  unfolding kindFits cellBy isCell cellBytes
+  fit-kind true z p = go (eqb kind 0) refl (eqb kind 1) refl
     where
-      go : (n : Bool) → noCounts e+ e- r+ r- ≡ n → (g : Bool) → eqb kind 0 ≡ g → (m : Bool) → eqb kind 1 ≡ m → (t : Bool) → eqb kind 2 ≡ t
-          → cond n (cond g (Good Gap) (cond m (Good Empty) Bad)) (cond t (Good (Measured e+ e- r+ r-)) Bad) ≡ Good c
-          → Kind kind e+ e- r+ r- c
-      go true z true k m _ t _ q = gap-kind z k q
-      go true z false _ true k t _ q = empty-kind z k q
-      go true z false _ false _ t _ q = absurd (bad≢good c q)
-      go false z g _ m _ true k q = measured-kind z k q
-      go false z g _ m _ false _ q = absurd (bad≢good c q)
+      go : (g : Bool) → eqb kind 0 ≡ g → (m : Bool) → eqb kind 1 ≡ m → Kind kind e+ e- r+ r- (cond g Gap (cond m Empty (Measured e+ e- r+ r-)))
+      go true k m _ = no-kind Gap 0 (eqb-true kind 0 k) z refl tt refl
+      go false _ true k = no-kind Empty 1 (eqb-true kind 1 k) z refl tt refl
+      go false k false l = absurd (omega (arith, ltb-true kind 2 p, eqb-false kind 0 k, eqb-false kind 1 l))
+  fit-kind false z p =
+      let e : kind ≡ 2 = eqb-true kind 2 p in
+      rw e (record { right = ap not z; fits = λ f. f; bytes = refl })
+
+  kind-of : (c : Cell) → kindCell kind e+ e- r+ r- ≡ Good c → Kind kind e+ e- r+ r- c
+  unfolding kindCell
+  kind-of c p =
+      let n = noCounts e+ e- r+ r- in
+      let a = chosen (kindFits kind n) (Good (cellBy kind e+ e- r+ r-)) Bad p (bad≢good c) in
+      let q : cellBy kind e+ e- r+ r- ≡ c = cc (a .1) in
+      subst (Kind kind e+ e- r+ r-) q (fit-kind n refl (a .0))
 
 -- nine bytes that are a cell
 record Nine (bs : List ℕ) (c : Cell) : Type 0 where

@@ -9,13 +9,12 @@ use lib.ListN.{length, getD, drop, length-replicate, getD-replicate}
 use borrow.Author.Tests.{le-leb}
 use Rattle.refusal.specs.Outcome.{outcome}
 use Rattle.words.specs.Place.{written}
-use Rattle.words.proofs.PlaceLaws.{written-fits, onward}
+use Rattle.words.proofs.PlaceLaws.{written-fits}
 use Rattle.log.specs.Header.{headerSize, cellsOf, lengthOf, isHeader, headerBytes, soundOf}
-use Rattle.log.proofs.HeaderLaws.{length-headerBytes}
-use Rattle.log.specs.Cell.{cellSize, cellBytes, IsCell}
-use Rattle.log.proofs.CellLaws.{length-cellBytes, gap-is-cell}
-use Rattle.log.specs.Image.{cellStart, cellAt, putCell, cellsBytes, imageOf}
-use Rattle.log.proofs.ImageLaws.{sound-image, cellAt-image, length-imageOf}
+use Rattle.log.specs.Cell.{cellSize, IsCell}
+use Rattle.log.proofs.CellLaws.{gap-is-cell}
+use Rattle.log.specs.Image.{cellAt, putCell, putCells, imageOf}
+use Rattle.log.proofs.ImageLaws.{sound-image, cellAt-image, length-imageOf, image-put}
 use Rattle.log.specs.Fresh.{gaps, freshImage, freshOf}
 use Rattle.log.specs.declared.header.Header.{Header}
 use Rattle.log.specs.declared.header.Lent.the-variants.{Sound}
@@ -54,16 +53,14 @@ fresh-front h s e l =
     simp (e, le-leb _ _ l) (ap (outcome _) (f ∙ rw (zero-add, length-freshImage)))
 
 -- one gap more
-pub gap-put : (s : List ℕ) (i n : ℕ) → written (putCell s i Gap) (cellStart (i + 1)) (cellsBytes (gaps n)) ≡ written s (cellStart i) (cellsBytes (gaps (suc n)))
-unfolding putCell gaps cellsBytes
+pub gap-put : (s : List ℕ) (i n : ℕ) → putCells (putCell s i Gap) (i + 1) (gaps n) ≡ putCells s i (gaps (suc n))
+unfolding putCells gaps
 gap-put s i n =
-    let e : cellStart i + length (cellBytes Gap) ≡ cellStart (i + 1) = omega (arith, length-cellBytes Gap) in
-    onward s _ _ (cellStart i) (cellStart (i + 1)) (cellBytes Gap) (cellsBytes (gaps n)) refl refl e
+    let e : i + 1 ≡ suc i = omega arith in
+    ap (λ (k : ℕ). putCells (putCell s i Gap) k (gaps n)) e
 
 -- the header, and behind it the gaps
-pub fresh-written : (s t u : List ℕ) (h : Header) (n : ℕ) → n ≡ cellsOf h → t ≡ written s 0 (headerBytes h) → u ≡ written t headerSize (cellsBytes (gaps n))
+pub fresh-written : (s t u : List ℕ) (h : Header) (n : ℕ) → n ≡ cellsOf h → t ≡ written s 0 (headerBytes h) → u ≡ putCells t 0 (gaps n)
     → u ≡ written s 0 (freshImage h)
-unfolding freshImage imageOf
-fresh-written s t u h n e p q =
-    onward s t u 0 headerSize (headerBytes h) (cellsBytes (gaps n)) p q (zero-add (length (headerBytes h)) ∙ length-headerBytes h)
-    ∙ ap (λ (k : ℕ). written s 0 (headerBytes h ++ cellsBytes (gaps k))) e
+unfolding freshImage
+fresh-written s t u h n e p q = image-put s t u h (gaps n) p q ∙ ap (λ (k : ℕ). written s 0 (imageOf h (gaps k))) e

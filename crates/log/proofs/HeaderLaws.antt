@@ -3,32 +3,30 @@ use Prim.Native.Nat.{ℕ, _+_, _*_, _-_, _/_, _%_, _≤_, _<_}
 use native.Mathlib.Nat.{mul-le-mul}
 use native.Mathlib.Omega.{arith}
 use mathlib.Core.Path.{_≡_, refl, sym, ap, _∙_}
-use mathlib.Core.Bool.{Bool, true, false, cond, _&&_}
-use mathlib.Core.List.{List, _++_}
+use mathlib.Core.Bool.{Bool, true, false, cond, _&&_, _||_, false≢true}
+use mathlib.Core.List.{List, [], _∷_, _++_}
 use lib.Dec.{ltb, eqb}
 use lib.ListN.{length, take}
 use borrow.Author.Tests.{ltb-true, leb-true, eqb-true, eq-eqb}
 use Rattle.slots.proofs.DayLaws.{slotsMost, slots-at-most}
 use Rattle.words.specs.Number.{number, bytesOf, Bytes}
 use Rattle.words.specs.Place.{byteAt, numberAt}
+use Rattle.words.proofs.NumberLaws.{bytes-bytesOf}
 use Rattle.case_laws.proofs.Test.{both, chosen}
 use Rattle.slots.specs.Day.{isMinutes}
 use Rattle.calendar.specs.Date.{isDate, dayNumber, dateOn, daysLater, dateOf, centuryDays}
+use Rattle.calendar.proofs.DateLaws.{ranges, month-length}
 use Rattle.calendar.specs.declared.date.Date.{Date}
 use Rattle.calendar.specs.declared.date.DateAnswer.{DateAnswer}
 use Rattle.calendar.specs.declared.date.DateAnswer.the-variants.{On, NotADate, OutOfRange}
 use Rattle.log.specs.Cell.{cellSize}
-use Rattle.log.specs.Header.{headerSize, daysMost, version, ifSound, cellsOf, lengthOf, daysRight, isHeader, dateBytes, headerBytes, headerAt, markRight, versionRight, fieldsRight, headerOf}
-use Rattle.log.specs.Header.{fittedTo, soundOf}
-use Rattle.log.proofs.ByteLaws.{run, take-run, low, high, low-of, high-of}
+use Rattle.log.specs.Header.{headerSize, daysMost, cellsMost, imageMost, version, ifSound, cellsOf, lengthOf, daysRight, isHeader, dateBytes, headerBytes, headerAt}
+use Rattle.log.specs.Header.{markRight, versionRight, fieldsRight, headerOf, fittedTo, soundOf}
+use Rattle.log.proofs.ByteLaws.{run, take-run, low, high, low-of, high-of, bytes-cons, bytes-append}
 use Rattle.log.specs.declared.header.Header.{Header}
 use Rattle.log.specs.declared.header.HeaderAnswer.the-variants.{Right, Wrong}
 use Rattle.log.specs.declared.header.Lent.{Lent}
 use Rattle.log.specs.declared.header.Lent.the-variants.{Sound, Unsound}
-
--- the longest: the file has two bytes more, "At most 53,584 bytes"
-abbrev pub imageMost : ℕ
-imageMost = headerSize + cellSize * (daysMost * slotsMost)
 
 -- a header's bytes hold no more cells than this, right or not
 pub cells-at-most : (h : Header) → h .days < 256 → cellsOf h ≤ 255 * slotsMost
@@ -94,13 +92,13 @@ headerAt-bytes h rest k =
     let e : (0 * 256 + h .ke / 256 % 256) * 256 + h .ke % 256 ≡ h .ke = omega arith in
     rw e
 
--- what begins with a header's bytes and is as long as it says is a log with this header
+-- bytes that begin with a header's are read as that header
 module _ (h : Header) (rest : List ℕ) where
-  mark-right : markRight (headerBytes h ++ rest) ≡ true
+  pub mark-right : markRight (headerBytes h ++ rest) ≡ true
   unfolding markRight headerBytes dateBytes bytesOf
   mark-right = refl
 
-  version-right : versionRight (headerBytes h ++ rest) ≡ true
+  pub version-right : versionRight (headerBytes h ++ rest) ≡ true
   unfolding versionRight headerBytes dateBytes bytesOf numberAt number
   version-right = refl
 
@@ -108,10 +106,44 @@ module _ (h : Header) (rest : List ℕ) where
   unfolding headerBytes dateBytes bytesOf numberAt number
   zeros-right = refl
 
+  pub header-right : isHeader h ≡ true → headerOf (headerBytes h ++ rest) ≡ Right h
+  unfolding headerOf fieldsRight
+  header-right e = simp (headerAt-bytes h rest (header-ranges h e .ke-to), e, zeros-right)
+
+  -- and where they are as long as it says, they are a log
   pub sound-bytes : isHeader h ≡ true → length (headerBytes h ++ rest) ≡ lengthOf h → soundOf (headerBytes h ++ rest) ≡ Sound h
-  unfolding soundOf headerOf fieldsRight fittedTo
-  sound-bytes e l =
-      simp (mark-right, version-right, headerAt-bytes h rest (header-ranges h e .ke-to), e, zeros-right, eq-eqb _ _ l)
+  unfolding soundOf fittedTo
+  sound-bytes e l = simp (mark-right, version-right, header-right e, eq-eqb _ _ l)
+
+minutes-byte : (m : ℕ) → isMinutes m ≡ true → m < 256
+unfolding isMinutes
+minutes-byte m e = go (eqb m 15) refl (eqb m 30) refl e
+  where
+    go : (a : Bool) → eqb m 15 ≡ a → (b : Bool) → eqb m 30 ≡ b → (a || b) ≡ true → m < 256
+    go true p b q e = omega (arith, eqb-true m 15 p)
+    go false p true q e = omega (arith, eqb-true m 30 q)
+    go false p false q e = absurd (false≢true e)
+
+-- a right header's bytes are bytes
+pub bytes-header : (h : Header) → isHeader h ≡ true → Bytes (headerBytes h)
+unfolding headerBytes dateBytes
+bytes-header h e =
+    let r = header-ranges h e in
+    let d = ranges (h .start) (r .start) in
+    let m = month-length (h .start .year) (h .start .month) (record { year-below = d .year-below; month-from = d .month-from; month-to = d .month-to }) in
+    let ke = bytesOf 2 (h .ke) ++ bytesOf 2 0 in
+    let length = h .days ∷ h .minutes ∷ ke in
+    let start = h .start .year ∷ h .start .month ∷ h .start .day ∷ length in
+    let versioned = bytesOf 2 version ++ start in
+    three 71 69 76 versioned (omega arith) (omega arith) (omega arith)
+    (bytes-append (bytesOf 2 version) start (bytes-bytesOf 2 version)
+    (three (h .start .year) (h .start .month) (h .start .day) length (omega (arith, d .year-below)) (omega (arith, d .month-to)) (omega (arith, d .day-to, m .at-most))
+    (bytes-cons (h .days) (h .minutes ∷ ke) (omega (arith, r .days-to))
+    (bytes-cons (h .minutes) ke (minutes-byte (h .minutes) (r .minutes))
+    (bytes-append (bytesOf 2 (h .ke)) (bytesOf 2 0) (bytes-bytesOf 2 (h .ke)) (bytes-bytesOf 2 0))))))
+  where
+    three : (a b c : ℕ) (xs : List ℕ) → a < 256 → b < 256 → c < 256 → Bytes xs → Bytes (a ∷ b ∷ c ∷ xs)
+    three a b c xs x y z k = bytes-cons a (b ∷ c ∷ xs) x (bytes-cons b (c ∷ xs) y (bytes-cons c xs z k))
 
 -- ---- what a sound log has
 
@@ -150,13 +182,31 @@ sound-log s h p =
       size = eqb-true _ _ (c .0) ∙ ap lengthOf e;
     }
 
--- its first fourteen bytes are its header's
-header-listed : (s : List ℕ) (h : Header) → Bytes s → SoundLog s h → run s 0 headerSize ≡ headerBytes (headerAt s)
+-- ---- what bytes have that are read as a header
+
+pub record RightHeader (s : List ℕ) (h : Header) : Type 0 where
+  pub zeros : numberAt s 12 2 ≡ 0
+  pub header : headerAt s ≡ h
+  pub ranges : isHeader h ≡ true
+
+wrong≢right : (h : Header) → Wrong ≡ Right h → ⊥
+wrong≢right h p = let z : _≡_ {A = ℕ} 0 1 = cc in omega arith
+
+pub right-header : (s : List ℕ) (h : Header) → headerOf s ≡ Right h → RightHeader s h
+unfolding headerOf fieldsRight
+right-header s h p =
+    let a = chosen (isHeader (headerAt s) && eqb (numberAt s 12 2) 0) (Right (headerAt s)) Wrong p (wrong≢right h) in
+    let b = both _ _ (a .0) in
+    let e : headerAt s ≡ h = cc (a .1) in
+    record { zeros = eqb-true _ _ (b .1); header = e; ranges = sym (ap isHeader e) ∙ b .0 }
+
+-- their first fourteen are its
+header-listed : (s : List ℕ) (h : Header) → Bytes s → markRight s ≡ true → versionRight s ≡ true → RightHeader s h → run s 0 headerSize ≡ headerBytes (headerAt s)
 unfolding run headerBytes dateBytes headerAt bytesOf markRight versionRight
-header-listed s h bytes l =
-    let m = both _ _ (l .mark) in
+header-listed s h bytes mark right l =
+    let m = both _ _ mark in
     let n = both _ _ (m .0) in
-    let v = eqb-true (numberAt s 3 2) version (l .version) in
+    let v = eqb-true (numberAt s 3 2) version right in
     simp (
       eqb-true (byteAt s 0) 71 (n .0),
       eqb-true (byteAt s 1) 69 (n .1),
@@ -169,21 +219,32 @@ header-listed s h bytes l =
       high-of s 12 0 bytes (l .zeros),
     )
 
+pub header-front : (s : List ℕ) (h : Header) → Bytes s → markRight s ≡ true → versionRight s ≡ true → RightHeader s h → headerSize ≤ length s
+    → take headerSize s ≡ headerBytes h
+header-front s h bytes mark right l long = take-run headerSize 0 s long ∙ header-listed s h bytes mark right l ∙ ap headerBytes (l .header)
+
 pub sound-long : (s : List ℕ) (h : Header) → soundOf s ≡ Sound h → headerSize ≤ length s
 unfolding lengthOf
 sound-long s h p = omega (arith, sound-log s h p .size)
 
--- "At most 53,584 bytes", of which the file's CRC has two
+-- no right header has more cells, or a longer image
+pub cells-most : (h : Header) → isHeader h ≡ true → cellsOf h ≤ cellsMost
+unfolding cellsOf
+cells-most h e = mul-le-mul (header-ranges h e .days-to) (slots-at-most (h .minutes))
+
+pub image-most : (h : Header) → isHeader h ≡ true → lengthOf h ≤ imageMost
+unfolding lengthOf
+image-most h e = omega (arith, cells-most h e)
+
 pub image-at-most : (s : List ℕ) (h : Header) → soundOf s ≡ Sound h → length s ≤ imageMost
-unfolding lengthOf cellsOf
 image-at-most s h p =
     let l = sound-log s h p in
-    omega (arith, l .size, mul-le-mul (header-ranges h (l .ranges) .days-to) (slots-at-most (h .minutes)))
+    omega (arith, l .size, image-most h (l .ranges))
 
 pub sound-front : (s : List ℕ) (h : Header) → Bytes s → soundOf s ≡ Sound h → take headerSize s ≡ headerBytes h
 sound-front s h bytes p =
     let l = sound-log s h p in
-    take-run headerSize 0 s (sound-long s h p) ∙ header-listed s h bytes l ∙ ap headerBytes (l .header)
+    header-front s h bytes (l .mark) (l .version) (record { zeros = l .zeros; header = l .header; ranges = l .ranges }) (sound-long s h p)
 
 -- what holds of both values holds of the one that is chosen
 pub by-sound : {A : Type 0} (P : A → Type 0) (l : Lent) {x : A} {f : Header → A}

@@ -13,14 +13,15 @@ use lib.Seq.{take-at, drop-at, drop-nil, drop-cons, drop-drop, drop-append-add}
 use borrow.Author.Tests.{ltb-true, ltb-false, ne-eqb}
 use Rattle.words.specs.Number.{Bytes}
 use Rattle.words.specs.Place.{byteAt, numberAt, written}
-use Rattle.words.proofs.PlaceLaws.{length-written, written-fits, written-past, part-kept, part-written, byteAt-kept, numberAt-kept}
-use Rattle.words.proofs.Part.{written-from, written-rest}
-use Rattle.log.proofs.ByteLaws.{bytes-part}
+use Rattle.words.proofs.PlaceLaws.{onward, length-written, written-fits, written-past, part-kept, part-written, byteAt-kept, numberAt-kept}
+use Rattle.words.proofs.Part.{written-from, written-part, written-rest}
+use Rattle.log.proofs.ByteLaws.{bytes-part, bytes-nil, bytes-append}
 use Rattle.log.specs.Header.{headerSize, cellsOf, lengthOf, isHeader, headerBytes, headerAt, markRight, versionRight, fieldsRight, headerOf, soundOf}
-use Rattle.log.proofs.HeaderLaws.{length-headerBytes, sound-bytes, sound-log, sound-front}
+use Rattle.log.proofs.HeaderLaws.{length-headerBytes, bytes-header, sound-bytes, sound-log, sound-front}
 use Rattle.log.specs.Cell.{cellSize, cellOf, cellBytes, IsCell}
-use Rattle.log.proofs.CellLaws.{length-cellBytes, cellOf-bytes, good-bytes, good-is-cell}
-use Rattle.log.specs.Image.{cellStart, cellAt, putCell, cellsBytes, imageOf, cellsFrom, AllCells}
+use Rattle.log.proofs.CellLaws.{length-cellBytes, bytes-cell, cellOf-bytes, good-bytes, good-is-cell}
+use Rattle.log.specs.Image.{cellStart, cellAt, putCell, putCells, cellsBytes, imageOf, AllCells}
+use Rattle.log.specs.View.{seenFrom}
 use Rattle.log.specs.declared.header.Header.{Header}
 use Rattle.log.specs.declared.header.Lent.the-variants.{Sound}
 use Rattle.log.specs.declared.cell.Cell.{Cell}
@@ -75,11 +76,6 @@ cellAt-put s i c k h =
     ∙ ap cellOf (part-written s (cellStart i) (cellBytes c) (rw length-cellBytes h))
     ∙ cellOf-bytes c k
 
--- a cell that was put into a sound log is read there
-pub cellAt-put-sound : (s : List ℕ) (h : Header) (i : ℕ) (c : Cell) → soundOf s ≡ Sound h → i < cellsOf h → IsCell c
-    → cellAt (putCell s i c) i ≡ Good c
-cellAt-put-sound s h i c p l k = cellAt-put s i c k (cell-within s h i p l)
-
 -- every other cell stays
 pub cellAt-put-other : (s : List ℕ) (i j : ℕ) (c : Cell) → (j ≡ i → ⊥) → cellAt (putCell s i c) j ≡ cellAt s j
 unfolding cellAt putCell
@@ -102,6 +98,16 @@ length-cellsBytes (c ∷ cs) = length-append (cellBytes c) (cellsBytes cs) ∙ o
 pub length-imageOf : (h : Header) (cs : List Cell) → length (imageOf h cs) ≡ headerSize + cellSize * length cs
 unfolding imageOf
 length-imageOf h cs = length-append (headerBytes h) (cellsBytes cs) ∙ omega (arith, length-headerBytes h, length-cellsBytes cs)
+
+-- it is bytes
+bytes-cells : (cs : List Cell) → Bytes (cellsBytes cs)
+unfolding cellsBytes
+bytes-cells [] = bytes-nil
+bytes-cells (c ∷ cs) = bytes-append (cellBytes c) (cellsBytes cs) (bytes-cell c) (bytes-cells cs)
+
+pub bytes-image : (h : Header) (cs : List Cell) → isHeader h ≡ true → Bytes (imageOf h cs)
+unfolding imageOf
+bytes-image h cs e = bytes-append (headerBytes h) (cellsBytes cs) (bytes-header h e) (bytes-cells cs)
 
 -- it is a log
 pub sound-image : (h : Header) (cs : List Cell) → isHeader h ≡ true → length cs ≡ cellsOf h → soundOf (imageOf h cs) ≡ Sound h
@@ -135,16 +141,6 @@ cellAt-image h cs i l k =
     ∙ ap cellOf (take-at (cellBytes (getD cs i Gap)) (cellsBytes (drop (suc i) cs)) cellSize (length-cellBytes (getD cs i Gap)))
     ∙ cellOf-bytes (getD cs i Gap) k
 
--- its cells, read in a row, are its cells
-pub cellsFrom-image : (h : Header) (cs : List Cell) → AllCells cs → (i n : ℕ) → i + n ≤ length cs
-    → cellsFrom (imageOf h cs) i n ≡ map Good (take n (drop i cs))
-unfolding cellsFrom
-cellsFrom-image h cs k i zero l = refl
-cellsFrom-image h cs k i (suc n) l =
-    let here : i < length cs = omega arith in
-    ap₂ (λ (a : CellAnswer) (x : List CellAnswer). a ∷ x) (cellAt-image h cs i here (k i here)) (cellsFrom-image h cs k (suc i) n (omega arith))
-    ∙ sym (ap (λ (x : List Cell). map Good (take (suc n) x)) (drop-cons cs i Gap here))
-
 put-cells : (cs : List Cell) (i : ℕ) (c : Cell) → written (cellsBytes cs) (cellSize * i) (cellBytes c) ≡ cellsBytes (set cs i c)
 unfolding cellsBytes
 put-cells [] i c = written-past [] (cellSize * i) (cellBytes c) (omega arith)
@@ -162,6 +158,20 @@ put-cells (x ∷ cs) (suc i) c =
     ∙ ap₂ (λ (a b : List ℕ). a ++ written b (cellSize * i) (cellBytes c))
     (take-at (cellBytes x) (cellsBytes cs) cellSize (length-cellBytes x)) (drop-at (cellBytes x) (cellsBytes cs) cellSize (length-cellBytes x))
     ∙ ap (λ (l : List ℕ). cellBytes x ++ l) (put-cells cs i c)
+
+-- cells put one behind the other
+putCells-written : (s : List ℕ) (i : ℕ) (cs : List Cell) → putCells s i cs ≡ written s (cellStart i) (cellsBytes cs)
+unfolding putCells putCell cellsBytes written
+putCells-written s i [] = refl
+putCells-written s i (c ∷ cs) =
+    let e : cellStart i + length (cellBytes c) ≡ cellStart (suc i) = omega (arith, length-cellBytes c) in
+    putCells-written (putCell s i c) (suc i) cs ∙ onward s _ _ (cellStart i) (cellStart (suc i)) (cellBytes c) (cellsBytes cs) refl refl e
+
+-- a header, and behind it all the cells that it says, are the image
+pub image-put : (s t u : List ℕ) (h : Header) (cs : List Cell) → t ≡ written s 0 (headerBytes h) → u ≡ putCells t 0 cs → u ≡ written s 0 (imageOf h cs)
+unfolding imageOf
+image-put s t u h cs p q =
+    onward s t u 0 headerSize (headerBytes h) (cellsBytes cs) p (q ∙ putCells-written t 0 cs) (zero-add (length (headerBytes h)) ∙ length-headerBytes h)
 
 -- a put into an image is a put into its cells; past the end neither changes
 pub putCell-image : (h : Header) (cs : List Cell) (i : ℕ) (c : Cell) → putCell (imageOf h cs) i c ≡ imageOf h (set cs i c)
@@ -189,30 +199,31 @@ module _ (s : List ℕ) (bytes : Bytes s) where
       (sym (good-bytes (take cellSize (drop (cellStart i) s)) c (bytes-part s (cellStart i) cellSize bytes) p))
       (drop-drop cellSize (cellStart i) s ∙ ap (λ (n : ℕ). drop n s) e)
 
-  cells-read : (n i : ℕ) (cs : List Cell) → length s ≡ headerSize + cellSize * (i + n) → cellsFrom s i n ≡ map Good cs → drop (cellStart i) s ≡ cellsBytes cs
-  unfolding cellsFrom cellsBytes
+  cells-read : (n i : ℕ) (cs : List Cell) → length s ≡ headerSize + cellSize * (i + n) → seenFrom (cellAt s) i n ≡ map Good cs → drop (cellStart i) s ≡ cellsBytes cs
+  unfolding seenFrom cellsBytes
   cells-read zero i [] l p = drop-of-length-le s {i = cellStart i} (omega arith)
   cells-read zero i (c ∷ cs) l p = let z : _≡_ {A = ℕ} 0 1 = cc in absurd (omega arith)
   cells-read (suc n) i [] l p = let z : _≡_ {A = ℕ} 0 1 = cc in absurd (omega arith)
   cells-read (suc n) i (c ∷ cs) l p =
       let first : cellAt s i ≡ Good c = cc in
-      let others : cellsFrom s (suc i) n ≡ map Good cs = cc in
+      let others : seenFrom (cellAt s) (suc i) n ≡ map Good cs = cc in
       cell-read i c first ∙ ap (λ (x : List ℕ). cellBytes c ++ x) (cells-read n (suc i) cs (l ∙ omega arith) others)
 
-  pub image-of-log : (h : Header) (cs : List Cell) → soundOf s ≡ Sound h → cellsFrom s 0 (cellsOf h) ≡ map Good cs → s ≡ imageOf h cs
+  pub image-of-log : (h : Header) (cs : List Cell) → soundOf s ≡ Sound h → seenFrom (cellAt s) 0 (cellsOf h) ≡ map Good cs → s ≡ imageOf h cs
   unfolding imageOf lengthOf
   image-of-log h cs p q =
       let l = sound-log s h p in
       sym (take-append-drop headerSize s)
       ∙ ap₂ (λ (a b : List ℕ). a ++ b) (sound-front s h bytes p) (cells-read (cellsOf h) 0 cs (l .size ∙ omega arith) q)
 
--- ---- what `&mut s[start..]` leaves of s
+-- ---- what `&mut s[a..a + k]` and `&mut s[a..]` leave of s where bytes were written to the front of the part
 
-pub putCell-part : (s : List ℕ) (i : ℕ) (c : Cell) (part : List ℕ)
-    → part ≡ written (take (length s - cellStart i) (drop (cellStart i) s)) 0 (cellBytes c)
-    → take (cellStart i) s ++ (part ++ drop (length s - cellStart i) (drop (cellStart i) s)) ≡ putCell s i c
-unfolding putCell
-putCell-part s i c part p =
-    ap (λ (x : List ℕ). take (cellStart i) s ++ (x ++ drop (length s - cellStart i) (drop (cellStart i) s))) p
-    ∙ written-rest (cellStart i) s 0 (cellBytes c)
-    ∙ ap (λ (n : ℕ). written s n (cellBytes c)) (add-zero (cellStart i))
+module _ (s : List ℕ) (a : ℕ) (bs part : List ℕ) where
+  pub part-put : (k : ℕ) → length bs ≤ k → part ≡ written (take k (drop a s)) 0 bs → take a s ++ (part ++ drop k (drop a s)) ≡ written s a bs
+  part-put k l p =
+      let fits : 0 + length bs ≤ k = omega arith in
+      ap (λ (x : List ℕ). take a s ++ (x ++ drop k (drop a s))) p ∙ written-part a k s 0 bs fits ∙ ap (λ (n : ℕ). written s n bs) (add-zero a)
+
+  pub rest-put : part ≡ written (take (length s - a) (drop a s)) 0 bs → take a s ++ (part ++ drop (length s - a) (drop a s)) ≡ written s a bs
+  rest-put p =
+      ap (λ (x : List ℕ). take a s ++ (x ++ drop (length s - a) (drop a s))) p ∙ written-rest a s 0 bs ∙ ap (λ (n : ℕ). written s n bs) (add-zero a)

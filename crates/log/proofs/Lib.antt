@@ -2,7 +2,7 @@ pub mod ByteLaws
 pub mod HeaderLaws
 pub mod CellLaws
 pub mod ImageLaws
+pub mod ViewLaws
 pub mod IntervalLaws
 pub mod FreshLaws
 pub mod Examples
-pub mod FrontLaws

@@ -2,7 +2,7 @@
 use Prim.Native.Nat.{ℕ, _<_}
 use mathlib.Core.Bool.{Bool, true, cond, not, _&&_}
 use mathlib.Core.List.{List, [], _∷_, _++_}
-use lib.Dec.{eqb}
+use lib.Dec.{ltb, eqb}
 use lib.ListN.{length}
 use mathlib.Core.Path.{_≡_}
 use Rattle.words.specs.Number.{bytesOf}
@@ -30,18 +30,48 @@ isCell (Measured e+ e- r+ r-) = not (noCounts e+ e- r+ r-)
 unfoldable pub kindBytes : ℕ → ℕ → ℕ → ℕ → ℕ → List ℕ
 kindBytes kind e+ e- r+ r- = kind ∷ [] ++ (bytesOf 2 e+ ++ (bytesOf 2 e- ++ (bytesOf 2 r+ ++ bytesOf 2 r-)))
 
--- "0 gap, 1 empty, 2 measured, and four counts .., all 0 unless measured"
+-- "0 gap, 1 empty, 2 measured"
+abbrev pub kindOf : Cell → ℕ
+kindOf Gap = 0
+kindOf Empty = 1
+kindOf (Measured e+ e- r+ r-) = 2
+
+-- "four counts .., all 0 unless measured"
+abbrev pub e+Of : Cell → ℕ
+e+Of Gap = 0
+e+Of Empty = 0
+e+Of (Measured e+ e- r+ r-) = e+
+
+abbrev pub e-Of : Cell → ℕ
+e-Of Gap = 0
+e-Of Empty = 0
+e-Of (Measured e+ e- r+ r-) = e-
+
+abbrev pub r+Of : Cell → ℕ
+r+Of Gap = 0
+r+Of Empty = 0
+r+Of (Measured e+ e- r+ r-) = r+
+
+abbrev pub r-Of : Cell → ℕ
+r-Of Gap = 0
+r-Of Empty = 0
+r-Of (Measured e+ e- r+ r-) = r-
+
+-- a cell's nine bytes
 unfoldable pub cellBytes : Cell → List ℕ
-cellBytes Gap = kindBytes 0 0 0 0 0
-cellBytes Empty = kindBytes 1 0 0 0 0
-cellBytes (Measured e+ e- r+ r-) = kindBytes 2 e+ e- r+ r-
+cellBytes c = kindBytes (kindOf c) (e+Of c) (e-Of c) (r+Of c) (r-Of c)
+
+-- "0 gap, 1 empty, 2 measured", with no count above zero or with some
+unfoldable pub kindFits : ℕ → Bool → Bool
+kindFits kind none = cond none (ltb kind 2) (eqb kind 2)
+
+-- the cell that a kind names
+unfoldable pub cellBy : ℕ → ℕ → ℕ → ℕ → ℕ → Cell
+cellBy kind e+ e- r+ r- = cond (eqb kind 0) Gap (cond (eqb kind 1) Empty (Measured e+ e- r+ r-))
 
 -- the cell of a kind and four counts, where there is one
 unfoldable pub kindCell : ℕ → ℕ → ℕ → ℕ → ℕ → CellAnswer
-kindCell kind e+ e- r+ r- =
-    cond (noCounts e+ e- r+ r-)
-    (cond (eqb kind 0) (Good Gap) (cond (eqb kind 1) (Good Empty) Bad))
-    (cond (eqb kind 2) (Good (Measured e+ e- r+ r-)) Bad)
+kindCell kind e+ e- r+ r- = cond (kindFits kind (noCounts e+ e- r+ r-)) (Good (cellBy kind e+ e- r+ r-)) Bad
 
 -- the cell that nine bytes are
 unfoldable pub cellOf : List ℕ → CellAnswer

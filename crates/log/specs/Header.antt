@@ -28,6 +28,14 @@ version = 1
 abbrev pub daysMost : ℕ
 daysMost = 62
 
+-- "1 to 62 days", "Every day has 48 or 96 slots": the most cells that a log has
+abbrev pub cellsMost : ℕ
+cellsMost = daysMost * 96
+
+-- the longest image
+abbrev pub imageMost : ℕ
+imageMost = headerSize + cellSize * cellsMost
+
 -- the log's cells: the slots of all its days
 unfoldable pub cellsOf : Header → ℕ
 cellsOf h = h .days * slotsOf (h .minutes)

@@ -3,7 +3,7 @@ use Prim.Native.Nat.{ℕ, zero, suc, _+_, _*_, _<_}
 use mathlib.Core.Bool.{Bool, true, false}
 use mathlib.Core.List.{List, [], _∷_, _++_}
 use lib.ListN.{take, drop, length, getD}
-use Rattle.words.specs.Place.{written}
+use Rattle.words.specs.Place.{Apart, written}
 use Rattle.log.specs.Header.{headerSize, headerBytes}
 use Rattle.log.specs.Cell.{cellSize, cellOf, cellBytes, IsCell}
 use Rattle.log.specs.declared.header.Header.{Header}
@@ -18,6 +18,10 @@ use Rattle.log.specs.declared.cell.Cell.the-variants.{Gap}
 abbrev pub cellStart : ℕ → ℕ
 cellStart i = headerSize + cellSize * i
 
+-- byte j is none of cell i's nine
+abbrev pub OutsideCell : ℕ → ℕ → Type 0
+OutsideCell i j = Apart j 1 (cellStart i) cellSize
+
 -- the cell with index i, read
 unfoldable pub cellAt : List ℕ → ℕ → CellAnswer
 cellAt s i = cellOf (take cellSize (drop (cellStart i) s))
@@ -25,6 +29,11 @@ cellAt s i = cellOf (take cellSize (drop (cellStart i) s))
 -- the image with another cell at index i
 unfoldable pub putCell : List ℕ → ℕ → Cell → List ℕ
 putCell s i c = written s (cellStart i) (cellBytes c)
+
+-- the image with other cells from index i on
+unfoldable pub putCells : List ℕ → ℕ → List Cell → List ℕ
+putCells s i [] = s
+putCells s i (c ∷ cs) = putCells (putCell s i c) (suc i) cs
 
 -- the image after a change
 unfoldable pub applied : Change → List ℕ → List ℕ
@@ -39,11 +48,6 @@ cellsBytes (c ∷ cs) = cellBytes c ++ cellsBytes cs
 -- the image of a header and its cells
 unfoldable pub imageOf : Header → List Cell → List ℕ
 imageOf h cs = headerBytes h ++ cellsBytes cs
-
--- the n cells from index i on, read
-unfoldable pub cellsFrom : List ℕ → ℕ → ℕ → List CellAnswer
-cellsFrom s i zero = []
-cellsFrom s i (suc n) = cellAt s i ∷ cellsFrom s (suc i) n
 
 -- whether all that was read are cells
 unfoldable pub allGood : List CellAnswer → Bool

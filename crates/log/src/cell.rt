@@ -1,7 +1,7 @@
 // A cell of the log: what is known of one interval, in nine bytes.
 ghost use mathlib.Core.Path.{_≡_};
 ghost use Rattle.words.specs.Place.{written};
-ghost use Rattle.log.specs.Cell.{cellOf, cellBytes, kindBytes, kindCell, noCounts};
+ghost use Rattle.log.specs.Cell.{cellOf, cellBytes, kindBytes, kindCell, kindFits, cellBy, noCounts, kindOf, e+Of, e-Of, r+Of, r-Of};
 
 pub enum Cell {
     // No well-formed reply with result 0 came.
@@ -46,19 +46,34 @@ pub fn cell_of(bytes: &[u8]) -> CellAnswer
 fn kind_cell(kind: u8, ep: u16, em: u16, rp: u16, rm: u16) -> CellAnswer
     ensures { λ r. ⌜ r ≡ kindCell kind ep em rp rm ⌝ }
 {
-    if no_counts(ep, em, rp, rm) {
-        if kind == GAP {
-            return CellAnswer::Good(Cell::Gap);
-        }
-        if kind == EMPTY {
-            return CellAnswer::Good(Cell::Empty);
-        }
-        return CellAnswer::Bad;
-    }
-    if kind == MEASURED {
-        return CellAnswer::Good(Cell::Measured(ep, em, rp, rm));
+    // Whether it is one comes first, and is nearly always so; what it is comes then, with nothing left to guess.
+    if kind_fits(kind, no_counts(ep, em, rp, rm)) {
+        return CellAnswer::Good(cell_by(kind, ep, em, rp, rm));
     }
     CellAnswer::Bad
+}
+
+// Whether a kind goes with its counts: none of them above zero, or some.
+fn kind_fits(kind: u8, none: bool) -> bool
+    ensures { λ r. ⌜ r ≡ kindFits kind none ⌝ }
+{
+    if none {
+        return kind < MEASURED;
+    }
+    kind == MEASURED
+}
+
+// The cell that a kind names.
+fn cell_by(kind: u8, ep: u16, em: u16, rp: u16, rm: u16) -> Cell
+    ensures { λ r. ⌜ r ≡ cellBy kind ep em rp rm ⌝ }
+{
+    if kind == GAP {
+        return Cell::Gap;
+    }
+    if kind == EMPTY {
+        return Cell::Empty;
+    }
+    Cell::Measured(ep, em, rp, rm)
 }
 
 // Whether none of four counts is above zero.
@@ -81,10 +96,64 @@ pub fn no_counts(ep: u16, em: u16, rp: u16, rm: u16) -> bool
 pub fn write_cell(out: &mut [u8], c: Cell)
     ensures { λ _. ⌜ now (out .exit) ≡ written (now (out .entry)) 0 (cellBytes c) ⌝ }
 {
+    // Each part by itself: kinds come in no order that a processor could guess, and so nothing branches on them.
+    write_kind(
+        out,
+        kind_of(c),
+        e_plus(c),
+        e_minus(c),
+        r_plus(c),
+        r_minus(c),
+    );
+}
+
+fn kind_of(c: Cell) -> u8
+    ensures { λ r. ⌜ r ≡ kindOf c ⌝ }
+{
     match c {
-        Cell::Gap => write_kind(out, GAP, 0, 0, 0, 0),
-        Cell::Empty => write_kind(out, EMPTY, 0, 0, 0, 0),
-        Cell::Measured(ep, em, rp, rm) => { write_kind(out, MEASURED, ep, em, rp, rm) }
+        Cell::Gap => GAP,
+        Cell::Empty => EMPTY,
+        Cell::Measured(_, _, _, _) => MEASURED,
+    }
+}
+
+fn e_plus(c: Cell) -> u16
+    ensures { λ r. ⌜ r ≡ e+Of c ⌝ }
+{
+    match c {
+        Cell::Gap => 0,
+        Cell::Empty => 0,
+        Cell::Measured(ep, _, _, _) => ep,
+    }
+}
+
+fn e_minus(c: Cell) -> u16
+    ensures { λ r. ⌜ r ≡ e-Of c ⌝ }
+{
+    match c {
+        Cell::Gap => 0,
+        Cell::Empty => 0,
+        Cell::Measured(_, em, _, _) => em,
+    }
+}
+
+fn r_plus(c: Cell) -> u16
+    ensures { λ r. ⌜ r ≡ r+Of c ⌝ }
+{
+    match c {
+        Cell::Gap => 0,
+        Cell::Empty => 0,
+        Cell::Measured(_, _, rp, _) => rp,
+    }
+}
+
+fn r_minus(c: Cell) -> u16
+    ensures { λ r. ⌜ r ≡ r-Of c ⌝ }
+{
+    match c {
+        Cell::Gap => 0,
+        Cell::Empty => 0,
+        Cell::Measured(_, _, _, rm) => rm,
     }
 }
 

@@ -1,9 +1,7 @@
 // A fresh log, all gaps.
 ghost use mathlib.Core.Path.{_≡_};
 ghost use Rattle.refusal.specs.Outcome.{outcome};
-ghost use Rattle.words.specs.Place.{written};
-ghost use Rattle.log.specs.Header.{headerSize};
-ghost use Rattle.log.specs.Image.{cellsBytes};
+ghost use Rattle.log.specs.Image.{putCells};
 ghost use Rattle.log.specs.Fresh.{freshNumber, freshOf, gaps};
 use crate::cell::Cell;
 use crate::header::Header;
@@ -46,7 +44,7 @@ pub fn fresh_log(h: Header, out: &mut [u8]) -> FreshAnswer
 
 // The first cells, as far as there is room.
 fn write_gaps(out: &mut [u8], cells: usize)
-    ensures { λ _. ⌜ now (out .exit) ≡ written (now (out .entry)) headerSize (cellsBytes (gaps cells)) ⌝ }
+    ensures { λ _. ⌜ now (out .exit) ≡ putCells (now (out .entry)) 0 (gaps cells) ⌝ }
 {
     let mut i = 0;
     while i < cells {

@@ -32,9 +32,11 @@ pub const HEADER_BYTES: usize = 14;
 
 const DAYS_MOST: u8 = 62;
 
+// The most cells that a log has.
+pub const CELLS_MOST: usize = DAYS_MOST as usize * slots::SLOTS_MOST as usize;
+
 // The longest image.
-pub const IMAGE_MOST: usize = HEADER_BYTES
-    + CELL_BYTES * (DAYS_MOST as usize * slots::SLOTS_MOST as usize);
+pub const IMAGE_MOST: usize = HEADER_BYTES + CELL_BYTES * CELLS_MOST;
 
 const VERSION: u16 = 1;
 

@@ -1,5 +1,7 @@
 // The log's image: single cells, by their index in time order.
 ghost use mathlib.Core.Path.{_≡_};
+ghost use Rattle.words.specs.Place.{written};
+ghost use Rattle.log.specs.Cell.{cellBytes};
 ghost use Rattle.log.specs.Image.{cellAt, putCell, applied};
 use crate::cell::CELL_BYTES;
 use crate::cell::Cell;
@@ -36,6 +38,18 @@ pub fn put_cell(log: &mut [u8], i: usize, c: Cell)
         return;
     }
     let from = HEADER_BYTES + CELL_BYTES * i;
+    let to = from + CELL_BYTES;
+    if to <= log.len() {
+        crate::cell::write_cell(&mut log[from..to], c);
+    } else {
+        put_front(log, from, c);
+    }
+}
+
+// What the room from a place on holds of a cell.
+fn put_front(log: &mut [u8], from: usize, c: Cell)
+    ensures { λ _. ⌜ now (log .exit) ≡ written (now (log .entry)) from (cellBytes c) ⌝ }
+{
     if from < log.len() {
         crate::cell::write_cell(&mut log[from..], c);
     }

@@ -15,6 +15,7 @@ pub use cell::no_counts;
 pub use cell::write_cell;
 pub use fresh::FreshAnswer;
 pub use fresh::fresh_log;
+pub use header::CELLS_MOST;
 pub use header::HEADER_BYTES;
 pub use header::Header;
 pub use header::HeaderAnswer;

@@ -1,3 +1,4 @@
+pub mod Row
 pub mod File
 pub mod Write
 pub mod Read

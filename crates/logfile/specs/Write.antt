@@ -6,8 +6,10 @@ use lib.Dec.{leb}
 use lib.ListN.{length}
 use Rattle.refusal.specs.Outcome.{Outcome, outcome, check}
 use Rattle.words.specs.Place.{written}
-use Rattle.log.specs.Header.{cellsOf, soundOf, ifSound}
-use Rattle.logfile.specs.File.{fileOf, fileLength, cellsGood}
+use Rattle.log.specs.Header.{cellsOf, ifSound}
+use Rattle.log.specs.Image.{allGood, goods}
+use Rattle.log.specs.View.{View, seenFrom}
+use Rattle.logfile.specs.File.{fileBytes, fileLength}
 use Rattle.logfile.specs.declared.write.WriteAnswer.{WriteAnswer}
 use Rattle.logfile.specs.declared.write.WriteAnswer.the-variants.{Done, Unsound, TooShort}
 
@@ -18,9 +20,10 @@ writeNumber Unsound = 28
 writeNumber TooShort = 1
 
 -- "28 (header, length)"; 1: "under what would be written"; "28 (all cells, before any output)"; "Output past what was written is unchanged"
-unfoldable pub writtenFile : List ℕ → List ℕ → Outcome WriteAnswer (List ℕ)
-writtenFile s out =
-    ifSound (soundOf s) (outcome Unsound out) (λ h.
+unfoldable pub writtenFile : View → List ℕ → Outcome WriteAnswer (List ℕ)
+writtenFile v out =
+    ifSound (v .lent) (outcome Unsound out) (λ h.
     check (leb (fileLength h) (length out)) (outcome TooShort out) (
-    check (cellsGood s (cellsOf h)) (outcome Unsound out) (
-    outcome (Done (fileLength h)) (written out 0 (fileOf s)))))
+    let seen = seenFrom (v .cell) 0 (cellsOf h) in
+    check (allGood seen) (outcome Unsound out) (
+    outcome (Done (fileLength h)) (written out 0 (fileBytes h (goods seen))))))

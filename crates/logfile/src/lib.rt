@@ -1,9 +1,10 @@
-// The file of a log: its image and the image's CRC-16. A log is written to the front of a lent buffer once all its cells are seen to be
-// good; a file is checked in document 01's order and then gives back its image. Both walk the cells from the front by one definition:
-// the writer by an index, the reader by a cursor that holds the bytes and the place together.
+// The file of a log: its header, a row for each of its cells, and their CRC-16. A log is written to the front of a lent buffer once all
+// its cells are seen to be good; a file is checked in document 01's order, and then its header and its cells, read row by row, are put
+// into an image. What a row looks like is said here, and how a log lies in memory in the crate log alone.
 mod cursor;
 mod file;
 mod read;
+mod row;
 mod walk;
 mod write;
 
@@ -11,7 +12,6 @@ pub use file::FILE_MOST;
 pub use file::file_length;
 pub use read::ReadAnswer;
 pub use read::read_file;
-pub use walk::cells_good;
-pub use walk::good_at;
+pub use row::ROW_BYTES;
 pub use write::WriteAnswer;
 pub use write::write_file;

@@ -1,7 +1,18 @@
 // A log, written as a file.
 ghost use mathlib.Core.Path.{_≡_};
 ghost use Rattle.refusal.specs.Outcome.{outcome};
+ghost use mathlib.Core.Bool.{true};
+ghost use Rattle.words.specs.Place.{written};
+ghost use Prim.Native.Nat.{_≤_};
+ghost use lib.ListN.{length};
+ghost use Rattle.log.specs.Header.{headerSize, cellsOf};
+ghost use Rattle.log.specs.Image.{cellAt, allGood, goods};
+ghost use Rattle.log.specs.View.{viewOf, seenFrom};
+ghost use Rattle.logfile.specs.Row.{rowStart, rowsBytes};
+ghost use Rattle.logfile.specs.File.{fileBytes, fileLength};
 ghost use Rattle.logfile.specs.Write.{writeNumber, writtenFile};
+use crate::row::ROW_BYTES;
+use log::HEADER_BYTES;
 
 pub enum WriteAnswer {
     // The file's length.
@@ -25,7 +36,7 @@ impl WriteAnswer {
 
 // To the front of out, whose rest stays as it was. All cells are walked before the first byte is written.
 pub fn write_file(log: &[u8], out: &mut [u8]) -> WriteAnswer
-    ensures { λ r. ⌜ outcome r (now (out .exit)) ≡ writtenFile (now (log .entry)) (now (out .entry)) ⌝ }
+    ensures { λ r. ⌜ outcome r (now (out .exit)) ≡ writtenFile (viewOf (now (log .entry))) (now (out .entry)) ⌝ }
 {
     let log::Lent::Sound(h) = log::sound(log) else {
         return WriteAnswer::Unsound;
@@ -35,9 +46,34 @@ pub fn write_file(log: &[u8], out: &mut [u8]) -> WriteAnswer
         return WriteAnswer::TooShort;
     }
     if crate::walk::cells_good(log, log::cells_of(h)) {
-        words::put_bytes(out, 0, log);
-        frame::seal(out, log.len());
+        put_file(log, h, out);
         return WriteAnswer::Done(length);
     }
     WriteAnswer::Unsound
+}
+
+// The file of a log with this header, whose cells are all good, where there is room for it.
+fn put_file(log: &[u8], h: log::Header, out: &mut [u8])
+    requires { ⌜ (allGood (seenFrom (cellAt (now log)) 0 (cellsOf h)) ≡ true) × (fileLength h ≤ length (now out)) ⌝ }
+    ensures { λ _. ⌜ now (out .exit) ≡ written (now (out .entry)) 0 (fileBytes h (goods (seenFrom (cellAt (now (log .entry))) 0 (cellsOf h)))) ⌝ }
+{
+    let cells = log::cells_of(h);
+    log::write_header(out, h);
+    put_rows(log, cells, out);
+    frame::seal(out, HEADER_BYTES + ROW_BYTES * cells);
+}
+
+// Its rows, one by one.
+fn put_rows(log: &[u8], cells: usize, out: &mut [u8])
+    requires { ⌜ (allGood (seenFrom (cellAt (now log)) 0 cells) ≡ true) × (rowStart cells ≤ length (now out)) ⌝ }
+    ensures { λ _. ⌜ now (out .exit) ≡ written (now (out .entry)) headerSize (rowsBytes (goods (seenFrom (cellAt (now (log .entry))) 0 cells))) ⌝ }
+{
+    let mut i = 0;
+    while i < cells {
+        let log::CellAnswer::Good(c) = log::cell_at(log, i) else {
+            return;
+        };
+        crate::row::put_row(out, i, c);
+        i += 1;
+    }
 }

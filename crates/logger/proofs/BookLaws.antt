@@ -8,11 +8,12 @@ use native.Mathlib.Nat.{add-zero, add-suc, suc-add, not-suc-le-zero}
 use native.Mathlib.Omega.{arith}
 use borrow.Author.Tests.{eq-eqb, ne-eqb}
 use lib.ListN.{length, getD, set}
-use Rattle.log.specs.Cell.{noCounts, isCell, CountsFit, IsCell}
+use Rattle.log.specs.Cell.{noCounts, isCell, IsCell}
 use Rattle.log.proofs.CellLaws.{gap-is-cell, empty-is-cell}
 use Rattle.log.specs.declared.cell.Cell.{Cell}
 use Rattle.log.specs.declared.cell.Cell.the-variants.{Gap, Empty, Measured}
 use Rattle.logger.specs.Take.{updateOf, sameCounts}
+use Rattle.logger.proofs.TakeLaws.{RowFits}
 use Rattle.logger.specs.Reply.{Row}
 use Rattle.logger.specs.Book.{isZero, alike, First, none, counts, firstOf, byFirst, afresh, keptAnswer, keptWith, workedOut}
 use Rattle.logger.specs.declared.take.Update.{Update}
@@ -136,9 +137,6 @@ workedOut-with kept r i (suc n) (suc j) l =
     ∙ ap (λ (p : ℕ). set (workedOut kept (suc i) n) j (afresh (kept p ++ (r ∷ [])))) (sym e))
 
 -- ---- rows whose counts fit two bytes give cells
-
-abbrev pub RowFits : Row → Type 0
-RowFits r = CountsFit (r .e+) (r .e-) (r .r+) (r .r-)
 
 abbrev pub Fitting : List Row → Type 0
 Fitting [] = Unit

@@ -1,4 +1,4 @@
 pub mod AskLaws
-pub mod BookLaws
 pub mod TakeLaws
+pub mod BookLaws
 pub mod StepLaws

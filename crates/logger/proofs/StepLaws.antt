@@ -1,5 +1,5 @@
 -- One call: the log's step and the book's go together.
-use mathlib.Core.Path.{_≡_, refl, sym, ap, _∙_}
+use mathlib.Core.Path.{_≡_, refl, sym, ap, subst, _∙_}
 use mathlib.Core.Bool.{Bool, true, false, cond}
 use mathlib.Core.List.{List, [], _∷_, _++_}
 use Prim.Native.Nat.{ℕ, _<_}
@@ -14,12 +14,12 @@ use Rattle.case_laws.proofs.Test.{either}
 use Rattle.words.specs.Number.{Bytes}
 use Rattle.words.specs.Place.{written}
 use Rattle.frame.specs.Layout.{readSize}
-use Rattle.log.proofs.ByteLaws.{two}
-use Rattle.log.specs.Cell.{IsCell}
 use Rattle.log.proofs.CellLaws.{bad≢good}
 use Rattle.log.specs.Header.{isHeader, cellsOf, soundOf}
-use Rattle.log.specs.Image.{imageOf, cellAt, applied}
-use Rattle.log.proofs.ImageLaws.{sound-image, cellAt-image, putCell-image}
+use Rattle.log.specs.Image.{imageOf, applied}
+use Rattle.log.proofs.ImageLaws.{sound-image, putCell-image}
+use Rattle.log.specs.View.{View, viewOf}
+use Rattle.log.proofs.ViewLaws.{cellIn, cell-in, viewBy, view-image}
 use Rattle.log.specs.Interval.{intervalOf, ifAt}
 use Rattle.log.proofs.IntervalLaws.{outside≢at, interval-below, in-log, by-at}
 use Rattle.log.specs.declared.cell.Cell.{Cell}
@@ -34,9 +34,9 @@ use Rattle.reader.specs.declared.form.Fault.the-variants as fault
 use Rattle.logger.specs.declared.take.TakeAnswer.the-variants.{Malformed}
 use Rattle.logger.specs.Held.{ifNone, OpenFor}
 use Rattle.logger.specs.Reply.{sliceForm, resultOf, Row, rowOf}
-use Rattle.logger.proofs.TakeLaws.{by-none, by-open, by-form, by-ok, Heard, Cases, taken-cases}
+use Rattle.logger.proofs.TakeLaws.{by-none, by-open, by-form, by-ok, Heard, Cases, decided-cases, RowFits, row-fits}
 use Rattle.logger.specs.Book.{Call, ask, lapse, reply, Answer, Book, entry, plain, faultAnswer, placeOf, keptWith, keepReply, bookReply, bookAsk, bookStep, workedOut, afresh, CallBytes}
-use Rattle.logger.proofs.BookLaws.{effect, updateNumber, cell-more, number-more, length-workedOut, workedOut-at, workedOut-with, RowFits, Fitting, fitting-more, afresh-is-cell}
+use Rattle.logger.proofs.BookLaws.{effect, updateNumber, cell-more, number-more, length-workedOut, workedOut-at, workedOut-with, Fitting, fitting-more, afresh-is-cell}
 use Rattle.logger.specs.Run.{State, step, takeAnswer}
 use Rattle.logger.specs.declared.held.OpenAsk.{OpenAsk}
 use Rattle.logger.specs.declared.held.OpenAsk.the-variants.{Closed, Open}
@@ -128,12 +128,16 @@ module _ (h : Header) (kept : ℕ → List Row) (rows : (i : ℕ) → Fitting (k
   unfolding cells
   cell-here i l = workedOut-at kept 0 (cellsOf h) i l ∙ ap (λ (k : ℕ). afresh (kept k)) (zero-add i)
 
-  read-here : (i : ℕ) → i < cellsOf h → cellAt (imageOf h cells) i ≡ Good (getD cells i Gap)
+  read-here : (i : ℕ) → i < cellsOf h → cellIn cells i ≡ Good (getD cells i Gap)
   unfolding cells
-  read-here i l =
-      let is : IsCell (getD cells i Gap) = rw (cell-here i l) (afresh-is-cell (kept i) (rows i)) in
-      let inside : i < length cells = rw length-workedOut l in
-      cellAt-image h cells i inside is
+  read-here i l = cell-in cells i (rw length-workedOut l)
+
+  -- what is seen of the log that they give
+  seen-here : isHeader h ≡ true → viewOf (imageOf h cells) ≡ viewBy h cells
+  unfolding cells
+  seen-here e =
+      view-image h cells e (length-workedOut kept 0 (cellsOf h)) (λ i l.
+      rw (cell-here i (rw length-workedOut at l)) (afresh-is-cell (kept i) (rows i)))
 
   -- a row that is kept for a cell of the log
   keep-agrees : (i : ℕ) (r : Row) → i < cellsOf h
@@ -163,7 +167,7 @@ module _ (h : Header) (kept : ℕ → List Row) (rows : (i : ℕ) → Fitting (k
   below held y i o = interval-below h (o .ask .day) (o .ask .slot) i (o .ask .interval)
 
   reply-cases : (held : OpenAsk) (y : List ℕ) → HeldIn h held
-      → Cases (λ (d : Decision). Agree h (takeStep (imageOf h cells) d) (bookReply h held kept y)) h (imageOf h cells) held y
+      → Cases (λ (d : Decision). Agree h (takeStep (imageOf h cells) d) (bookReply h held kept y)) h (viewBy h cells) held y
   unfolding cells takeStep bookReply applied
   reply-cases held y k = record {
     no-ask = λ e. rw e (record { answer = refl; state = refl });
@@ -181,10 +185,11 @@ module _ (h : Header) (kept : ℕ → List Row) (rows : (i : ℕ) → Fitting (k
       → Agree h (step (stateOf h (record { held = held; kept = kept })) (reply y)) (bookReply h held kept y)
   unfolding cells takeStep step Take.taken
   reply-agrees held y e k =
-      let sound : soundOf (imageOf h cells) ≡ Sound h = sound-image h cells e (length-workedOut kept 0 (cellsOf h)) in
-      taken-cases (λ (d : Decision). Agree h (takeStep (imageOf h cells) d) (bookReply h held kept y)) (imageOf h cells) held y
+      let P : Decision → Type 0 = λ d. Agree h (takeStep (imageOf h cells) d) (bookReply h held kept y) in
+      subst (λ (v : View). P (Take.decided v held y)) (sym (seen-here e))
+      (decided-cases P (viewBy h cells) held y
       (λ u. let z : _≡_ {A = ℕ} 0 1 = cc in absurd (omega arith))
-      (λ g q. let same : h ≡ g = cc in rw (← same) (reply-cases held y k))
+      (λ g q. let same : h ≡ g = cc in rw (← same) (reply-cases held y k)))
 
 -- ---- any call
 
@@ -199,15 +204,6 @@ step-agrees h b lapse e s = lapsed h b
 step-agrees h b (reply y) e s = reply-agrees h (b .kept) (s .rows) (b .held) y e (s .inside)
 
 -- ---- a sane book stays sane
-
-row-fits : (y : List ℕ) → Bytes y → RowFits (rowOf y)
-unfolding rowOf
-row-fits y k = record {
-  e-plus = omega (arith, two y 4, k 4, k 5);
-  e-minus = omega (arith, two y 6, k 6, k 7);
-  r-plus = omega (arith, two y 8, k 8, k 9);
-  r-minus = omega (arith, two y 10, k 10, k 11);
-}
 
 kept-fits : (kept : ℕ → List Row) (i : ℕ) (r : Row) → ((j : ℕ) → Fitting (kept j)) → RowFits r → (j : ℕ) → Fitting (keptWith kept i r j)
 unfolding keptWith

@@ -1,28 +1,36 @@
--- What a taken reply can come to, and what is then known: the one walk over its checks.
-use mathlib.Core.Path.{_≡_, refl}
-use mathlib.Core.Bool.{Bool, true, false, cond}
+-- What a taken reply can come to, and what is then known: the one walk over its checks (`decided-cases`), and the three ways that it ends
+-- in (`decided-ways`).
+use mathlib.Core.Path.{_≡_, refl, sym, ap, subst}
+use mathlib.Core.Bool.{Bool, true, false, cond, not}
 use mathlib.Core.List.{List}
 use Prim.Native.Nat.{ℕ}
+use native.Mathlib.Omega.{arith}
 use lib.Dec.{eqb}
+use Rattle.words.specs.Number.{Bytes}
 use Rattle.reader.specs.declared.form.Fault.{Fault}
 use Rattle.reader.specs.declared.form.Form.{Form}
 use Rattle.reader.specs.declared.form.Form.the-variants.{WellFormed, Faulty}
-use Rattle.log.specs.Header.{soundOf}
+use Rattle.log.proofs.ByteLaws.{two}
 use Rattle.log.proofs.HeaderLaws.{by-sound}
-use Rattle.log.proofs.CellLaws.{by-good}
-use Rattle.log.specs.Image.{cellAt}
+use Rattle.log.specs.Cell.{noCounts, isCell, CountsFit, IsCell}
+use Rattle.log.proofs.CellLaws.{empty-is-cell, by-good}
+use Rattle.log.specs.View.{View, viewOf}
+use Rattle.log.proofs.ViewLaws.{changed, Within, Holds, view-applied}
 use Rattle.log.specs.Interval.{intervalOf}
-use Rattle.log.proofs.IntervalLaws.{by-at}
+use Rattle.log.proofs.IntervalLaws.{interval-below, by-at}
 use Rattle.log.specs.declared.cell.Cell.{Cell}
+use Rattle.log.specs.declared.cell.Cell.the-variants as cell
 use Rattle.log.specs.declared.cell.CellAnswer.the-variants.{Good, Bad}
 use Rattle.log.specs.declared.header.Header.{Header}
 use Rattle.log.specs.declared.interval.Interval.the-variants.{Outside}
+use Rattle.log.specs.declared.header.Lent.{Lent}
 use Rattle.log.specs.declared.header.Lent.the-variants as lent
 use Rattle.log.specs.declared.image.Change.the-variants as change
 use Rattle.logger.specs.Held.{ifNone, ifOpen, OpenFor}
-use Rattle.logger.specs.Reply.{sliceForm, ifFormed, resultOf, ifOk, rowOf}
-use Rattle.logger.specs.Take.{updateOf, stays, closes, updated, decided}
+use Rattle.logger.specs.Reply.{sliceForm, ifFormed, resultOf, ifOk, Row, rowOf}
+use Rattle.logger.specs.Take.{sameCounts, updateOf, stays, closes, updated, decided, taken}
 use Rattle.logger.specs.declared.take.Decision.{Decision}
+use Rattle.logger.specs.declared.take.TakeAnswer.{TakeAnswer}
 use Rattle.logger.specs.declared.take.TakeAnswer.the-variants.{Done, NoAskOpen, NotInLog, Malformed, MeterRefused, OtherCounts, Unsound}
 use Rattle.logger.specs.declared.take.Update.{Update}
 use Rattle.logger.specs.declared.take.Update.the-variants.{Put, Keep, Conflict}
@@ -62,23 +70,23 @@ pub record Heard (h : Header) (held : OpenAsk) (y : List ℕ) (i : ℕ) : Type 0
   pub formed : sliceForm (ask .address) y ≡ WellFormed
 
 -- what is to be shown of a reply to a log with this header
-pub record Cases (P : Decision → Type 0) (h : Header) (s : List ℕ) (held : OpenAsk) (y : List ℕ) : Type 0 where
+pub record Cases (P : Decision → Type 0) (h : Header) (v : View) (held : OpenAsk) (y : List ℕ) : Type 0 where
   pub no-ask : held ≡ Closed → P (stays NoAskOpen held)
   pub outside : (a d t : ℕ) → held ≡ Open a d t → intervalOf h d t ≡ Outside → P (stays NotInLog held)
   pub malformed : (i : ℕ) (o : OpenFor h held i) (fault : Fault) → sliceForm (o .address) y ≡ Faulty fault
       → P (stays (Malformed fault) held)
   pub refused : (i : ℕ) → Heard h held y i → eqb (resultOf y) 0 ≡ false
       → P (closes (MeterRefused (resultOf y)) change.None)
-  pub bad-cell : (i : ℕ) → Heard h held y i → cellAt s i ≡ Bad → P (stays Unsound held)
-  pub counted : (i : ℕ) → Heard h held y i → eqb (resultOf y) 0 ≡ true → (c : Cell) → cellAt s i ≡ Good c
+  pub bad-cell : (i : ℕ) → Heard h held y i → v .cell i ≡ Bad → P (stays Unsound held)
+  pub counted : (i : ℕ) → Heard h held y i → eqb (resultOf y) 0 ≡ true → (c : Cell) → v .cell i ≡ Good c
       → P (updated (updateOf c (rowOf y)) i)
 
-module _ (P : Decision → Type 0) (s : List ℕ) (held : OpenAsk) (y : List ℕ) where
-  pub taken-cases : (soundOf s ≡ lent.Unsound → P (stays Unsound held))
-      → ((h : Header) → soundOf s ≡ lent.Sound h → Cases P h s held y) → P (decided s held y)
+module _ (P : Decision → Type 0) (v : View) (held : OpenAsk) (y : List ℕ) where
+  pub decided-cases : (v .lent ≡ lent.Unsound → P (stays Unsound held))
+      → ((h : Header) → v .lent ≡ lent.Sound h → Cases P h v held y) → P (decided v held y)
   unfolding decided
-  taken-cases unsound cases =
-      by-sound P (soundOf s) unsound (λ h e.
+  decided-cases unsound cases =
+      by-sound P (v .lent) unsound (λ h e.
       let k = cases h e in
       by-open P held (k .no-ask) (λ a d t o.
       by-at P (intervalOf h d t) (k .outside a d t o) (λ i n.
@@ -86,14 +94,100 @@ module _ (P : Decision → Type 0) (s : List ℕ) (held : OpenAsk) (y : List ℕ
       by-form P (sliceForm a y) (k .malformed i ask) (λ formed.
       let heard : Heard h held y i = record { ask = ask; formed = formed } in
       by-ok P (resultOf y) (k .refused i heard) (λ ok.
-      by-good P (cellAt s i) (k .bad-cell i heard) (k .counted i heard ok))))))
+      by-good P (v .cell i) (k .bad-cell i heard) (k .counted i heard ok))))))
 
 -- ---- a cell's update
 
 -- what holds of a put, and of both answers that keep the cell
-pub update-cases : (P : Decision → Type 0) (u : Update) (i : ℕ) → ((c : Cell) → P (closes Done (change.Put i c))) → P (closes Done change.None)
+pub update-cases : (P : Decision → Type 0) (u : Update) (i : ℕ) → ((c : Cell) → u ≡ Put c → P (closes Done (change.Put i c))) → P (closes Done change.None)
     → P (closes OtherCounts change.None) → P (updated u i)
 unfolding updated
-update-cases P (Put c) i put kept other = put c
+update-cases P (Put c) i put kept other = put c refl
 update-cases P Keep i put kept other = kept
 update-cases P Conflict i put kept other = other
+
+-- counts that fit two bytes, as those of a reply's bytes do
+abbrev pub RowFits : Row → Type 0
+RowFits r = CountsFit (r .e+) (r .e-) (r .r+) (r .r-)
+
+pub row-fits : (y : List ℕ) → Bytes y → RowFits (rowOf y)
+unfolding rowOf
+row-fits y k = record {
+  e-plus = omega (arith, two y 4, k 4, k 5);
+  e-minus = omega (arith, two y 6, k 6, k 7);
+  r-plus = omega (arith, two y 8, k 8, k 9);
+  r-minus = omega (arith, two y 10, k 10, k 11);
+}
+
+-- they put a cell
+abbrev PutsCell : Update → Type 0
+PutsCell (Put c) = IsCell c
+PutsCell Keep = Unit
+PutsCell Conflict = Unit
+
+module _ (r : Row) (f : RowFits r) where
+  filled-cell : (b : Bool) → noCounts (r .e+) (r .e-) (r .r+) (r .r-) ≡ b
+      → PutsCell (cond b (Put cell.Empty) (Put (cell.Measured (r .e+) (r .e-) (r .r+) (r .r-))))
+  unfolding isCell
+  filled-cell true e = empty-is-cell
+  filled-cell false e = record { right = ap not e; fits = f }
+
+  compared-cell : (a b : Bool) → PutsCell (cond a Keep (cond b Keep Conflict))
+  compared-cell true b = tt
+  compared-cell false true = tt
+  compared-cell false false = tt
+
+  update-cell : (c : Cell) → PutsCell (updateOf c r)
+  unfolding updateOf
+  update-cell cell.Gap = filled-cell (noCounts (r .e+) (r .e-) (r .r+) (r .r-)) refl
+  update-cell cell.Empty = filled-cell (noCounts (r .e+) (r .e-) (r .r+) (r .r-)) refl
+  update-cell (cell.Measured a b c d) =
+      compared-cell (noCounts (r .e+) (r .e-) (r .r+) (r .r-)) (sameCounts a b c d (r .e+) (r .e-) (r .r+) (r .r-))
+
+-- ---- what a reply comes to
+
+-- whether an answer closes the ask: 0, 24, 25
+abbrev pub isClosing : TakeAnswer → Bool
+isClosing Done = true
+isClosing NoAskOpen = false
+isClosing NotInLog = false
+isClosing (Malformed fault) = false
+isClosing (MeterRefused result) = true
+isClosing OtherCounts = true
+isClosing Unsound = false
+
+-- refused, and all stays; or closed, and the log is kept; or the cell whose ask was open is put
+pub record Ways (P : Decision → Type 0) (v : View) (held : OpenAsk) (y : List ℕ) : Type 0 where
+  pub kept-open : (a : TakeAnswer) → isClosing a ≡ false → P (stays a held)
+  pub closed : (a : TakeAnswer) → isClosing a ≡ true → P (closes a change.None)
+  pub put : (h : Header) (i : ℕ) (c : Cell) → v .lent ≡ lent.Sound h → OpenFor h held i → (Bytes y → IsCell c) → P (closes Done (change.Put i c))
+
+pub decided-ways : (P : Decision → Type 0) (v : View) (held : OpenAsk) (y : List ℕ) → Ways P v held y → P (decided v held y)
+decided-ways P v held y w =
+    decided-cases P v held y (λ e. w .kept-open Unsound refl) (λ h e.
+    record {
+      no-ask = λ o. w .kept-open NoAskOpen refl;
+      outside = λ a d t o n. w .kept-open NotInLog refl;
+      malformed = λ i o fault n. w .kept-open (Malformed fault) refl;
+      refused = λ i o r. w .closed (MeterRefused (resultOf y)) refl;
+      bad-cell = λ i o b. w .kept-open Unsound refl;
+      counted = λ i o r c g.
+          update-cases P (updateOf c (rowOf y)) i
+          (λ new q. w .put h i new e (o .ask) (λ k. subst PutsCell q (update-cell (rowOf y) (row-fits y k) c)))
+          (w .closed Done refl) (w .closed OtherCounts refl);
+    })
+
+-- what it does to a log, a log can hold
+pub decided-holds : (v : View) (held : OpenAsk) (y : List ℕ) → Bytes y → Holds v (decided v held y .change)
+decided-holds v held y k =
+    decided-ways (λ (d : Decision). Holds v (d .change)) v held y (record {
+      kept-open = λ a n. tt;
+      closed = λ a n. tt;
+      put = λ h i c e o is. (subst (λ (a : Lent). Within a i) (sym e) (interval-below h (o .day) (o .slot) i (o .interval)), is k);
+    })
+
+-- what is seen of the log after it
+pub taken-seen : (s : List ℕ) (held : OpenAsk) (y : List ℕ) → Bytes y
+    → viewOf (taken s held y .left) ≡ changed (decided (viewOf s) held y .change) (viewOf s)
+unfolding taken
+taken-seen s held y k = view-applied s (decided (viewOf s) held y .change) (decided-holds (viewOf s) held y k)

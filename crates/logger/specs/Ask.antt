@@ -14,7 +14,8 @@ use Rattle.request.specs.Request.{requestFrame}
 use Rattle.calendar.specs.Date.{dateOf, dayNumber}
 use Rattle.calendar.specs.declared.date.Date.{Date}
 use Rattle.request.specs.declared.request.Request.{Request}
-use Rattle.log.specs.Header.{soundOf, ifSound}
+use Rattle.log.specs.Header.{ifSound}
+use Rattle.log.specs.View.{View}
 use Rattle.log.specs.Interval.{intervalOf, ifAt}
 use Rattle.log.specs.declared.header.Header.{Header}
 use Rattle.logger.specs.Held.{ifNone}
@@ -41,11 +42,11 @@ unfolding requestFrame
 askFrame h address day slot = requestFrame (sliceRequest address (dateOfDay h day) slot)
 
 -- an ask: 1, 28, 21, 22, and then 0, the frame and the ask open
-unfoldable pub asked : List ℕ → OpenAsk → ℕ → ℕ → ℕ → List ℕ → Outcome Asked (List ℕ)
+unfoldable pub asked : View → OpenAsk → ℕ → ℕ → ℕ → List ℕ → Outcome Asked (List ℕ)
 unfolding askFrame
-asked log held address day slot out =
+asked v held address day slot out =
     cond (ltb (length out) readSize) (answered TooShort held out) (
-    ifSound (soundOf log) (answered Unsound held out) (λ h.
+    ifSound (v .lent) (answered Unsound held out) (λ h.
     ifNone held (answered AlreadyOpen held out) (
     ifAt (intervalOf h day slot) (answered NotInLog held out) (λ i.
     answered Done (Open address day slot) (written out 0 (askFrame h address day slot))))))

@@ -4,6 +4,7 @@ use mathlib.Core.List.{List}
 use Prim.Native.Nat.{ℕ}
 use Rattle.refusal.specs.Outcome.{Outcome, outcome}
 use Rattle.reader.specs.Form.{faultLength}
+use Rattle.log.specs.View.{viewOf}
 use Rattle.logger.specs.Ask as Ask
 use Rattle.logger.specs.Held.{lapsed}
 use Rattle.logger.specs.Take as Take
@@ -30,7 +31,7 @@ takeAnswer Unsound = plain (Take.numberOf Unsound)
 -- one call, by the definition that its contract cites: its answer and the state after it
 unfoldable pub step : State → Call → Outcome Answer State
 step s (ask address day slot out) =
-    let o = Ask.asked (s .log) (s .held) address day slot out in
+    let o = Ask.asked (viewOf (s .log)) (s .held) address day slot out in
     outcome (plain (Ask.numberOf (o .result .answer))) (record { log = s .log; held = o .result .held })
 step s lapse = outcome (plain 0) (record { log = s .log; held = lapsed (s .held) })
 step s (reply y) =

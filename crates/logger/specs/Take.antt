@@ -8,9 +8,10 @@ use Prim.Native.Nat.{ℕ}
 use lib.Dec.{eqb}
 use Rattle.refusal.specs.Outcome.{Outcome, outcome}
 use Rattle.reader.specs.Form.{faultNumber}
-use Rattle.log.specs.Header.{soundOf, ifSound}
+use Rattle.log.specs.Header.{ifSound}
 use Rattle.log.specs.Cell.{noCounts, ifGood}
-use Rattle.log.specs.Image.{cellAt, applied}
+use Rattle.log.specs.Image.{applied}
+use Rattle.log.specs.View.{View, viewOf}
 use Rattle.log.specs.Interval.{intervalOf, ifAt}
 use Rattle.log.specs.declared.cell.Cell.{Cell}
 use Rattle.log.specs.declared.cell.Cell.the-variants as cell
@@ -62,15 +63,15 @@ updated Keep i = closes Done change.None
 updated Conflict i = closes OtherCounts change.None
 
 -- the checks, one below the other: 28 (header, length), 20, 22, 50 to 54, 24, 28 (the cell), and then 25 or 0
-unfoldable pub decided : List ℕ → OpenAsk → List ℕ → Decision
+unfoldable pub decided : View → OpenAsk → List ℕ → Decision
 unfolding updateOf updated rowOf
-decided s held y =
-    ifSound (soundOf s) (stays Unsound held) (λ h.
+decided v held y =
+    ifSound (v .lent) (stays Unsound held) (λ h.
     ifOpen held (stays NoAskOpen held) (λ address day slot.
     ifAt (intervalOf h day slot) (stays NotInLog held) (λ i.
     ifFormed (sliceForm address y) (λ fault. stays (Malformed fault) held) (
     ifOk (resultOf y) (closes (MeterRefused (resultOf y)) change.None) (
-    ifGood (cellAt s i) (stays Unsound held) (λ c.
+    ifGood (v .cell i) (stays Unsound held) (λ c.
     updated (updateOf c (rowOf y)) i))))))
 
 -- what was decided, done to the log
@@ -80,7 +81,7 @@ done d s = outcome (d .taken) (applied (d .change) s)
 -- taking a reply
 unfoldable pub taken : List ℕ → OpenAsk → List ℕ → Outcome Taken (List ℕ)
 unfolding decided
-taken s held y = done (decided s held y) s
+taken s held y = done (decided (viewOf s) held y) s
 
 -- document 01's numbers, and document 02's of a reply that is not well formed
 abbrev pub numberOf : TakeAnswer → ℕ

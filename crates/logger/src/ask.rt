@@ -16,6 +16,7 @@ ghost use Rattle.refusal.specs.Outcome.{outcome};
 ghost use Rattle.frame.specs.Layout.{readSize};
 ghost use Rattle.slots.specs.Day.{slotsOf};
 ghost use Rattle.log.specs.Header.{isHeader};
+ghost use Rattle.log.specs.View.{viewOf};
 ghost use Rattle.words.specs.Place.{written};
 ghost use Rattle.logger.specs.Ask.{asked, askFrame, numberOf};
 
@@ -50,7 +51,7 @@ impl AskAnswer {
 
 // Opens an ask for a slot of a day, counted from 0, and puts its frame to the front of a lent output.
 pub fn put_ask(log: &[u8], held: OpenAsk, address: u8, day: u8, slot: u8, out: &mut [u8]) -> Asked
-    ensures { λ r. ⌜ outcome r (now (out .exit)) ≡ asked (now (log .entry)) held address day slot (now (out .entry)) ⌝ }
+    ensures { λ r. ⌜ outcome r (now (out .exit)) ≡ asked (viewOf (now (log .entry))) held address day slot (now (out .entry)) ⌝ }
 {
     if out.len() < READ_BYTES {
         return answered(AskAnswer::TooShort, held);

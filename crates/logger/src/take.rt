@@ -11,6 +11,7 @@ use reader::Fault;
 use reader::Form;
 ghost use mathlib.Core.Path.{_≡_};
 ghost use Rattle.refusal.specs.Outcome.{outcome};
+ghost use Rattle.log.specs.View.{viewOf};
 ghost use Rattle.logger.specs.Reply.{row};
 ghost use Rattle.logger.specs.Take.{taken, decided, stays, closes, updated, updateOf, filled, compared, sameCounts, numberOf};
 
@@ -74,7 +75,7 @@ pub fn take_reply(log: &mut [u8], held: OpenAsk, reply: &[u8]) -> Taken
 
 // What the reply comes to, check after check. The log is only read.
 fn decided(log: &[u8], held: OpenAsk, reply: &[u8]) -> Decision
-    ensures { λ r. ⌜ r ≡ decided (now (log .entry)) held (now (reply .entry)) ⌝ }
+    ensures { λ r. ⌜ r ≡ decided (viewOf (now (log .entry))) held (now (reply .entry)) ⌝ }
 {
     let Lent::Sound(h) = log::sound(log) else {
         return stays(TakeAnswer::Unsound, held);

@@ -31,9 +31,8 @@ use Rattle.meter_command.specs.declared.verdict.Verdict.the-variants as verdict
 use Rattle.meter.specs.Reply as reply
 use Rattle.meter.specs.Reply.{isSound, heard, verdictOn, replied, answerOf}
 use Rattle.slots.specs.declared.key.Key.{Key}
-use Rattle.log.specs.Header.{soundOf}
+use Rattle.log.specs.View.{View}
 use Rattle.log.specs.Interval.{intervalOf}
-use Rattle.log.specs.Image.{cellAt}
 use Rattle.log.proofs.HeaderLaws.{by-sound}
 use Rattle.log.proofs.IntervalLaws.{by-at}
 use Rattle.log.proofs.CellLaws.{by-good}
@@ -105,42 +104,42 @@ log-fresh year month day days minutes ke log n =
     let h = headerFrom year month day days minutes ke in
     sized-ends freshNumber imageLength image-kept (freshOf h log) log n (claims.demand-1 .fresh-log h log)
 
-pub day-report : (log : List ℕ) (day : ℕ) (row : List ℕ) → EndsForC row (numbered reportNumber (reportOf log day row))
-day-report log day row = claims.demand-1 .day-report log day row
+pub day-report : (v : View) (day : ℕ) (row : List ℕ) → EndsForC row (numbered reportNumber (reportOf v day row))
+day-report v day row = claims.demand-1 .day-report v day row
 
-pub write-file : (log out : List ℕ) (n : ℕ) → EndsForC (n, out) (sized writeNumber fileLength (writtenFile log out) n)
-write-file log out n = sized-ends writeNumber fileLength file-kept (writtenFile log out) out n (claims.demand-1 .write-file log out)
+pub write-file : (v : View) (out : List ℕ) (n : ℕ) → EndsForC (n, out) (sized writeNumber fileLength (writtenFile v out) n)
+write-file v out n = sized-ends writeNumber fileLength file-kept (writtenFile v out) out n (claims.demand-1 .write-file v out)
 
 pub read-file : (f out : List ℕ) (n : ℕ) → EndsForC (n, out) (sized readNumber lengthAfter (readFile f out) n)
 read-file f out n = sized-ends readNumber lengthAfter length-kept (readFile f out) out n (claims.demand-1 .read-file f out)
 
 -- ---- single cells
 
-pub cell : (log : List ℕ) (day slot kind : ℕ) (counts : List ℕ) → EndsForC (kind, counts) (cellForC log day slot kind counts)
+pub cell : (v : View) (day slot kind : ℕ) (counts : List ℕ) → EndsForC (kind, counts) (cellForC v day slot kind counts)
 unfolding cellForC inTable
-cell log day slot kind counts =
+cell v day slot kind counts =
     let before : ℕ × List ℕ = (kind, counts) in
-    by-sound (EndsForC before) (soundOf log) (λ u. stays 28 before refl) (λ h u.
+    by-sound (EndsForC before) (v .lent) (λ u. stays 28 before refl) (λ h u.
     by-at (EndsForC before) (intervalOf h day slot) (λ n. stays 22 before refl) (λ i n.
-    by-good (EndsForC before) (cellAt log i) (λ b. stays 28 before refl) (λ c g. done before _)))
+    by-good (EndsForC before) (v .cell i) (λ b. stays 28 before refl) (λ c g. done before _)))
 
-pub next-gap : (log : List ℕ) (day from slot : ℕ) → EndsForC slot (nextGapForC log day from slot)
+pub next-gap : (v : View) (day from slot : ℕ) → EndsForC slot (nextGapForC v day from slot)
 unfolding nextGapForC inTable
-next-gap log day from slot =
-    by-sound (EndsForC slot) (soundOf log) (λ u. stays 28 slot refl) (λ h u.
+next-gap v day from slot =
+    by-sound (EndsForC slot) (v .lent) (λ u. stays 28 slot refl) (λ h u.
     either (EndsForC slot) (ltb day (h .days)) (done slot _) (stays 22 slot refl))
 
 -- ---- asks, lapses and replies
 
-ask-read : (a : AskRead) (log bs : List ℕ) (address day slot : ℕ) (out : List ℕ) → EndsForC (bs, out) (askForC a log bs address day slot out)
+ask-read : (a : AskRead) (v : View) (bs : List ℕ) (address day slot : ℕ) (out : List ℕ) → EndsForC (bs, out) (askForC a v bs address day slot out)
 unfolding askForC askLeft
-ask-read (Read held) log bs address day slot out =
-    let e = claims.demand-1 .put-ask log held address day slot out in
+ask-read (Read held) v bs address day slot out =
+    let e = claims.demand-1 .put-ask v held address day slot out in
     record { in-table = e .in-table; unchanged = λ n. rw (ne-eqb _ _ n, ap (λ (p : OpenAsk × List ℕ). p .1) (e .unchanged n)) }
-ask-read Unreadable log bs address day slot out = unread (length out) readSize (bs, out)
+ask-read Unreadable v bs address day slot out = unread (length out) readSize (bs, out)
 
-pub ask : (log bs : List ℕ) (address day slot : ℕ) (out : List ℕ) → EndsForC (bs, out) (askForC (askOf bs) log bs address day slot out)
-ask log bs address day slot out = ask-read (askOf bs) log bs address day slot out
+pub ask : (v : View) (bs : List ℕ) (address day slot : ℕ) (out : List ℕ) → EndsForC (bs, out) (askForC (askOf bs) v bs address day slot out)
+ask v bs address day slot out = ask-read (askOf bs) v bs address day slot out
 
 lapse-read : (a : AskRead) (bs : List ℕ) → EndsForC bs (lapseForC a bs)
 unfolding lapseForC inTable

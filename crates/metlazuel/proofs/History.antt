@@ -5,6 +5,7 @@ use Prim.Native.Nat.{ℕ}
 use lib.ListN.{length}
 use Rattle.refusal.specs.Outcome.{Outcome}
 use Rattle.words.specs.Place.{byteAt}
+use Rattle.log.specs.View.{View, viewOf}
 use Rattle.logger.specs.Ask as ask-of
 use Rattle.logger.specs.Take as take
 use Rattle.reader.specs.declared.form.Fault.{Fault}
@@ -14,7 +15,7 @@ use Rattle.reader.proofs.FormLaws.{length-told}
 use Rattle.logger.specs.Reply.{sliceForm, rowOf}
 use Rattle.logger.specs.Book.{Call, ask, lapse, reply, Answer, plain, runOf, AllBytes}
 use Rattle.logger.specs.Run.{State, takeAnswer, step, run}
-use Rattle.logger.proofs.TakeLaws.{taken-cases, update-cases}
+use Rattle.logger.proofs.TakeLaws.{decided-cases, update-cases}
 use Rattle.logger.specs.declared.ask.AskAnswer.{AskAnswer}
 use Rattle.logger.specs.declared.ask.AskAnswer.the-variants as asked
 use Rattle.logger.specs.declared.take.Decision.{Decision}
@@ -56,17 +57,17 @@ module _ (y : List ℕ) (word size : ℕ) where
   fault-told address held fault.Function e = refl
   fault-told address held fault.Parameter e = refl
 
-  taken-told : (log : List ℕ) (held : OpenAsk) → Told (take.decided log held y)
+  taken-told : (v : View) (held : OpenAsk) → Told (take.decided v held y)
   unfolding told resultAfter receivedAfter
-  taken-told log held =
-      taken-cases Told log held y (λ u. refl) (λ h u.
+  taken-told v held =
+      decided-cases Told v held y (λ u. refl) (λ h u.
       record {
         no-ask = λ o. refl;
         outside = λ a d t o n. refl;
         malformed = λ i o f e. fault-told (o .address) held f e;
         refused = λ i o r. refl;
         bad-cell = λ i o b. refl;
-        counted = λ i o r c g. update-cases Told (take.updateOf c (rowOf y)) i (λ new. refl) refl refl;
+        counted = λ i o r c g. update-cases Told (take.updateOf c (rowOf y)) i (λ new q. refl) refl refl;
       })
 
 -- ---- one call
@@ -91,12 +92,12 @@ zero-told word size = refl
 step-alike : (m : Lent) (held : OpenAsk) (c : Call) → askOf (m .ask) ≡ Read held → Alike (stepForC m c) (step (stateOf m held) c)
 unfolding stepForC step askForC lapseForC takeForC take.taken
 step-alike m held (ask address day slot out) e = record {
-  answer = rw e (asked-told (ask-of.asked (m .log) held address day slot out .result .answer) (m .result) (m .size));
-  holds = record { log = refl; ask = left.ask-left (m .ask) (m .log) held address day slot out e };
+  answer = rw e (asked-told (ask-of.asked (viewOf (m .log)) held address day slot out .result .answer) (m .result) (m .size));
+  holds = record { log = refl; ask = left.ask-left (m .ask) (viewOf (m .log)) held address day slot out e };
 }
 step-alike m held lapse e = record { answer = rw e (zero-told (m .result) (m .size)); holds = record { log = refl; ask = left.lapse-left (m .ask) held e } }
 step-alike m held (reply y) e = record {
-  answer = rw e (taken-told y (m .result) (m .size) (m .log) held);
+  answer = rw e (taken-told y (m .result) (m .size) (viewOf (m .log)) held);
   holds = record { log = rw e refl; ask = left.take-left (m .ask) (m .log) held y (m .result) (m .size) e };
 }
 

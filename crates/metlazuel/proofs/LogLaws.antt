@@ -1,6 +1,6 @@
 -- The bytes that a call leaves are read as the ask that the proved call below it left. So a history of calls through lent bytes, each call
 -- lent the ask as the one before left it, is a history of `put_ask`, `lapse` and `take_reply`, and demand 3 speaks of it.
-use mathlib.Core.Path.{_≡_}
+use mathlib.Core.Path.{_≡_, _∙_}
 use mathlib.Core.List.{List}
 use Prim.Native.Nat.{ℕ}
 use lib.Dec.{eqb, ltb}
@@ -10,18 +10,15 @@ use Rattle.logger.specs.declared.ask.Asked.{Asked}
 use Rattle.logger.specs.declared.take.Taken.{Taken}
 use Rattle.case_laws.proofs.Test.{either}
 use Rattle.frame.specs.Layout.{readSize}
-use Rattle.log.specs.Header.{soundOf}
 use Rattle.log.proofs.HeaderLaws.{by-sound}
+use Rattle.log.specs.View.{View, viewOf}
 use Rattle.log.specs.Interval.{intervalOf}
 use Rattle.log.proofs.IntervalLaws.{by-at}
-use Rattle.reader.specs.Form.{faultNumber}
-use Rattle.reader.specs.declared.form.Fault.{Fault}
-use Rattle.reader.specs.declared.form.Fault.the-variants as fault
-use Rattle.logger.specs.Reply.{rowOf}
-use Rattle.logger.proofs.TakeLaws.{by-none, taken-cases, update-cases}
+use Rattle.logger.proofs.TakeLaws.{by-none, decided-ways}
 use Rattle.logger.specs.declared.take.Decision.{Decision}
 use Rattle.logger.specs.declared.held.OpenAsk.{OpenAsk}
 use Rattle.logger.specs.declared.held.OpenAsk.the-variants.{Closed, Open}
+use Rattle.demands.proofs.Calls.{number-closes}
 use Rattle.c_values.specs.Ask.{askOf}
 use Rattle.c_values.proofs.AskLaws.{ask-size, ask-again}
 use Rattle.c_values.specs.declared.ask.AskRead.the-variants.{Read}
@@ -34,20 +31,20 @@ module _ (bs : List ℕ) where
   abbrev Opened : Outcome Asked (List ℕ) → Type 0
   Opened o = askOf (askLeft (eqb (ask.numberOf (o .result .answer)) 0) (o .result .held) bs) ≡ Read (o .result .held)
 
-  ask-opened : (log : List ℕ) (held : OpenAsk) (address day slot : ℕ) (out : List ℕ) → askOf bs ≡ Read held
-      → Opened (ask.asked log held address day slot out)
+  ask-opened : (v : View) (held : OpenAsk) (address day slot : ℕ) (out : List ℕ) → askOf bs ≡ Read held
+      → Opened (ask.asked v held address day slot out)
   unfolding ask.asked askLeft
-  ask-opened log held address day slot out e =
+  ask-opened v held address day slot out e =
       either Opened (ltb (length out) readSize) e (
-      by-sound Opened (soundOf log) (λ u. e) (λ h u.
+      by-sound Opened (v .lent) (λ u. e) (λ h u.
       by-none Opened held (λ a d t o. e) (λ o.
       by-at Opened (intervalOf h day slot) (λ n. e) (λ i n.
       ask-again bs (Open address day slot) (ask-size bs held e)))))
 
-  pub ask-left : (log : List ℕ) (held : OpenAsk) (address day slot : ℕ) (out : List ℕ) → askOf bs ≡ Read held
-      → askOf (askForC (askOf bs) log bs address day slot out .left .0) ≡ Read (ask.asked log held address day slot out .result .held)
+  pub ask-left : (v : View) (held : OpenAsk) (address day slot : ℕ) (out : List ℕ) → askOf bs ≡ Read held
+      → askOf (askForC (askOf bs) v bs address day slot out .left .0) ≡ Read (ask.asked v held address day slot out .result .held)
   unfolding askForC
-  ask-left log held address day slot out e = rw e (ask-opened log held address day slot out e)
+  ask-left v held address day slot out e = rw e (ask-opened v held address day slot out e)
 
   pub lapse-left : (held : OpenAsk) → askOf bs ≡ Read held → askOf (lapseForC (askOf bs) bs .left) ≡ Read Closed
   unfolding lapseForC lapseLeft
@@ -58,28 +55,14 @@ module _ (bs : List ℕ) where
   abbrev Left : Outcome Taken (List ℕ) → Type 0
   Left o = askOf (askLeft (closes (take.numberOf (o .result .answer))) (o .result .held) bs) ≡ Read (o .result .held)
 
-  -- a reply that is not well formed leaves them as they are
-  fault-left : (held : OpenAsk) (f : Fault) → askOf bs ≡ Read held → askOf (askLeft (closes (faultNumber f)) held bs) ≡ Read held
-  unfolding askLeft closes
-  fault-left held (fault.Length n) e = e
-  fault-left held fault.Crc e = e
-  fault-left held fault.Address e = e
-  fault-left held fault.Function e = e
-  fault-left held fault.Parameter e = e
-
   log-left : (log : List ℕ) (held : OpenAsk) (y : List ℕ) → askOf bs ≡ Read held → Left (take.taken log held y)
   unfolding take.taken askLeft closes
   log-left log held y e =
-      let P : Decision → Type 0 = λ d. Left (take.done d log) in
       let closed = ask-again bs Closed (ask-size bs held e) in
-      taken-cases P log held y (λ u. e) (λ h u.
-      record {
-        no-ask = λ o. e;
-        outside = λ a d t o n. e;
-        malformed = λ i o f n. fault-left held f e;
-        refused = λ i o r. closed;
-        bad-cell = λ i o b. e;
-        counted = λ i o r c g. update-cases P (take.updateOf c (rowOf y)) i (λ new. closed) closed closed;
+      decided-ways (λ (d : Decision). Left (take.done d log)) (viewOf log) held y (record {
+        kept-open = λ a n. rw (number-closes a ∙ n) e;
+        closed = λ a n. rw (number-closes a ∙ n) closed;
+        put = λ h i c s o is. closed;
       })
 
   pub take-left : (log : List ℕ) (held : OpenAsk) (y : List ℕ) (result size : ℕ) → askOf bs ≡ Read held

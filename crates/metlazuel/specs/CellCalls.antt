@@ -3,10 +3,10 @@ use mathlib.Core.List.{List, [], _∷_}
 use Prim.Native.Nat.{ℕ}
 use lib.Dec.{ltb}
 use Rattle.refusal.specs.Outcome.{Outcome, outcome, check}
-use Rattle.log.specs.Header.{soundOf, ifSound}
+use Rattle.log.specs.Header.{ifSound}
 use Rattle.log.specs.Interval.{intervalOf, ifAt}
 use Rattle.log.specs.Cell.{ifGood}
-use Rattle.log.specs.Image.{cellAt}
+use Rattle.log.specs.View.{View}
 use Rattle.log.specs.declared.cell.Cell.{Cell}
 use Rattle.log.specs.declared.cell.Cell.the-variants.{Gap, Empty, Measured}
 use Rattle.polling.specs.Next.{nextGap}
@@ -26,11 +26,11 @@ countsOf Empty = 0 ∷ 0 ∷ 0 ∷ 0 ∷ []
 countsOf (Measured e+ e- r+ r-) = e+ ∷ e- ∷ r+ ∷ r- ∷ []
 
 -- left: the lent kind and counts. 28, 22, and 28 of the cell "just before it is used"; a refusal leaves both
-unfoldable pub cellForC : List ℕ → ℕ → ℕ → ℕ → List ℕ → Outcome ℕ (ℕ × List ℕ)
-cellForC log day slot kind counts =
-    ifSound (soundOf log) (outcome 28 (kind, counts)) (λ h.
+unfoldable pub cellForC : View → ℕ → ℕ → ℕ → List ℕ → Outcome ℕ (ℕ × List ℕ)
+cellForC v day slot kind counts =
+    ifSound (v .lent) (outcome 28 (kind, counts)) (λ h.
     ifAt (intervalOf h day slot) (outcome 22 (kind, counts)) (λ i.
-    ifGood (cellAt log i) (outcome 28 (kind, counts)) (λ c. outcome 0 (kindOf c, countsOf c))))
+    ifGood (v .cell i) (outcome 28 (kind, counts)) (λ c. outcome 0 (kindOf c, countsOf c))))
 
 -- the slot that was found; 255, which is no slot of a day, where there is none
 unfoldable pub slotOf : Next → ℕ
@@ -38,7 +38,7 @@ slotOf (Slot k) = k
 slotOf Nothing = 255
 
 -- left: the lent slot. 28, 22 for a "day not in the log"; a refusal leaves it
-unfoldable pub nextGapForC : List ℕ → ℕ → ℕ → ℕ → Outcome ℕ ℕ
-nextGapForC log day from before =
-    ifSound (soundOf log) (outcome 28 before) (λ h.
-    check (ltb day (h .days)) (outcome 22 before) (outcome 0 (slotOf (nextGap log day from))))
+unfoldable pub nextGapForC : View → ℕ → ℕ → ℕ → Outcome ℕ ℕ
+nextGapForC v day from before =
+    ifSound (v .lent) (outcome 28 before) (λ h.
+    check (ltb day (h .days)) (outcome 22 before) (outcome 0 (slotOf (nextGap v day from))))

@@ -21,6 +21,7 @@ use Rattle.meter_record_bytes.specs.declared.record.RecordRead.the-variants as 
 use Rattle.meter_command.specs.Verdict.{numberOf}
 use Rattle.meter_command.specs.declared.verdict.Verdict.{Verdict}
 use Rattle.meter.specs.Reply.{headOf, answerOf}
+use Rattle.log.specs.View.{View}
 use Rattle.log.specs.Fresh.{freshOf, freshNumber}
 use Rattle.dayreport.specs.Report.{reportOf, reportNumber}
 use Rattle.logfile.specs.Read.{readFile, readNumber}
@@ -50,14 +51,14 @@ pub record Demand1C : Type 0 where
   -- the log: length and image, length and file, the row
   pub log-fresh : (year month day days minutes ke : ℕ) (log : List ℕ) (length : ℕ)
       → EndsForC (length, log) (sized freshNumber imageLength (freshOf (headerFrom year month day days minutes ke) log) length)
-  pub day-report : (log : List ℕ) (day : ℕ) (row : List ℕ) → EndsForC row (numbered reportNumber (reportOf log day row))
-  pub write-file : (log out : List ℕ) (length : ℕ) → EndsForC (length, out) (sized writeNumber fileLength (writtenFile log out) length)
+  pub day-report : (v : View) (day : ℕ) (row : List ℕ) → EndsForC row (numbered reportNumber (reportOf v day row))
+  pub write-file : (v : View) (out : List ℕ) (length : ℕ) → EndsForC (length, out) (sized writeNumber fileLength (writtenFile v out) length)
   pub read-file : (file out : List ℕ) (length : ℕ) → EndsForC (length, out) (sized readNumber lengthAfter (readFile file out) length)
   -- single cells: kind and counts, and the slot
-  pub cell : (log : List ℕ) (day slot kind : ℕ) (counts : List ℕ) → EndsForC (kind, counts) (cellForC log day slot kind counts)
-  pub next-gap : (log : List ℕ) (day from slot : ℕ) → EndsForC slot (nextGapForC log day from slot)
+  pub cell : (v : View) (day slot kind : ℕ) (counts : List ℕ) → EndsForC (kind, counts) (cellForC v day slot kind counts)
+  pub next-gap : (v : View) (day from slot : ℕ) → EndsForC slot (nextGapForC v day from slot)
   -- asks, lapses and replies: the ask's bytes and the output
-  pub ask : (log bs : List ℕ) (address day slot : ℕ) (out : List ℕ) → EndsForC (bs, out) (askForC (askOf bs) log bs address day slot out)
+  pub ask : (v : View) (bs : List ℕ) (address day slot : ℕ) (out : List ℕ) → EndsForC (bs, out) (askForC (askOf bs) v bs address day slot out)
   -- "A lapse closes it; with nothing open a lapse does nothing and answers 0"
   pub lapse : (bs : List ℕ) → EndsForC bs (lapseForC (askOf bs) bs)
   pub lapse-none : (bs : List ℕ) → askOf bs ≡ Read Closed → lapseForC (askOf bs) bs ≡ outcome 0 bs

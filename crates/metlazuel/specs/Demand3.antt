@@ -11,6 +11,7 @@ use lib.Dec.{eqb}
 use lib.ListN.{length}
 use Rattle.refusal.specs.Outcome.{Outcome, outcome}
 use Rattle.words.specs.Place.{byteAt}
+use Rattle.log.specs.View.{viewOf}
 use Rattle.logger.specs.Book.{Call, ask, lapse, reply, Answer, runOf, AllBytes}
 use Rattle.logger.specs.declared.held.OpenAsk.{OpenAsk}
 use Rattle.logger.specs.declared.held.OpenAsk.the-variants.{Closed}
@@ -33,7 +34,7 @@ told n word size = record { number = n; result = cond (eqb n 24) word 0; length 
 -- one call, by the definition that its contract cites: what C is told, and its memory after it
 unfoldable pub stepForC : Lent → Call → Outcome Answer Lent
 stepForC m (ask address day slot out) =
-    let o = askForC (askOf (m .ask)) (m .log) (m .ask) address day slot out in
+    let o = askForC (askOf (m .ask)) (viewOf (m .log)) (m .ask) address day slot out in
     outcome (told (o .result) (m .result) (m .size)) (record { log = m .log; ask = o .left .0; result = m .result; size = m .size })
 stepForC m lapse =
     let o = lapseForC (askOf (m .ask)) (m .ask) in

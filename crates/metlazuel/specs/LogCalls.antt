@@ -7,11 +7,12 @@ use lib.ListN.{length}
 use Rattle.refusal.specs.Outcome.{Outcome, outcome}
 use Rattle.words.specs.Place.{written}
 use Rattle.frame.specs.Layout.{readSize}
+use Rattle.log.specs.View.{View}
 use Rattle.log.specs.declared.header.Header.{Header}
 use Rattle.log.specs.declared.fresh.FreshAnswer.{FreshAnswer}
 use Rattle.log.specs.declared.fresh.FreshAnswer.the-variants as made
 use Rattle.logfile.specs.declared.read.ReadAnswer.{ReadAnswer}
-use Rattle.logfile.specs.declared.read.ReadAnswer.the-variants.{Done, WrongMark, WrongVersion, WrongHeader, WrongLength, WrongCrc, WrongCell, TooShort}
+use Rattle.logfile.specs.Read.{ifRead}
 use Rattle.logfile.specs.declared.write.WriteAnswer.{WriteAnswer}
 use Rattle.logfile.specs.declared.write.WriteAnswer.the-variants as wrote
 use Rattle.logger.specs.Ask as ask
@@ -43,14 +44,7 @@ fileLength wrote.Unsound before = before
 fileLength wrote.TooShort before = before
 
 unfoldable pub lengthAfter : ReadAnswer → ℕ → ℕ
-lengthAfter (Done n) before = n
-lengthAfter WrongMark before = before
-lengthAfter WrongVersion before = before
-lengthAfter WrongHeader before = before
-lengthAfter WrongLength before = before
-lengthAfter WrongCrc before = before
-lengthAfter WrongCell before = before
-lengthAfter TooShort before = before
+lengthAfter read before = ifRead read before (λ n. n)
 
 -- ---- asks, lapses and replies
 
@@ -64,9 +58,9 @@ askedForC o bs =
     let n = ask.numberOf (o .result .answer) in
     outcome n (askLeft (eqb n 0) (o .result .held) bs, o .left)
 
-unfoldable pub askForC : AskRead → List ℕ → List ℕ → ℕ → ℕ → ℕ → List ℕ → Outcome ℕ (List ℕ × List ℕ)
-askForC (Read held) log bs address day slot out = askedForC (ask.asked log held address day slot out) bs
-askForC Unreadable log bs address day slot out = outcome (unreadNumber (length out) readSize) (bs, out)
+unfoldable pub askForC : AskRead → View → List ℕ → ℕ → ℕ → ℕ → List ℕ → Outcome ℕ (List ℕ × List ℕ)
+askForC (Read held) v bs address day slot out = askedForC (ask.asked v held address day slot out) bs
+askForC Unreadable v bs address day slot out = outcome (unreadNumber (length out) readSize) (bs, out)
 
 -- "A lapse closes it; with nothing open a lapse does nothing and answers 0"
 unfoldable pub lapseLeft : OpenAsk → List ℕ → List ℕ

@@ -6,6 +6,7 @@ use log::Lent;
 use polling::Next;
 ghost use mathlib.Core.Path.{_≡_};
 ghost use Rattle.refusal.specs.Outcome.{outcome};
+ghost use Rattle.log.specs.View.{viewOf};
 ghost use Rattle.metlazuel.specs.CellCalls.{kindOf, countsOf, cellForC, slotOf, nextGapForC};
 
 // The kinds, as a cell's first byte has them.
@@ -30,7 +31,7 @@ pub extern "C" fn metlazuel_cell(
     counts: &mut [u16; 4],
 ) -> u8
     ensures { λ n. ⌜ outcome n (now (kind .exit), now (counts .exit))
-        ≡ cellForC (now (log .entry)) day slot (now (kind .entry)) (now (counts .entry)) ⌝ }
+        ≡ cellForC (viewOf (now (log .entry))) day slot (now (kind .entry)) (now (counts .entry)) ⌝ }
 {
     let Lent::Sound(h) = log::sound(log) else {
         return refusal::UNSOUND;
@@ -71,7 +72,7 @@ fn counts_of(c: Cell) -> [u16; 4]
 // The first slot of a day, from a slot on, whose cell is a gap goes to `slot`; 255 where none is one.
 #[no_mangle]
 pub extern "C" fn metlazuel_next_gap(log: &[u8], day: u8, from: u8, slot: &mut u8) -> u8
-    ensures { λ n. ⌜ outcome n (now (slot .exit)) ≡ nextGapForC (now (log .entry)) day from (now (slot .entry)) ⌝ }
+    ensures { λ n. ⌜ outcome n (now (slot .exit)) ≡ nextGapForC (viewOf (now (log .entry))) day from (now (slot .entry)) ⌝ }
 {
     let Lent::Sound(h) = log::sound(log) else {
         return refusal::UNSOUND;

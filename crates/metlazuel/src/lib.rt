@@ -5,10 +5,10 @@ ghost use mathlib.Core.Path.{_≡_};
 ghost use Rattle.crc16.specs.Crc.{crcOf};
 ghost use Rattle.refusal.specs.Outcome.{outcome};
 ghost use Rattle.logfile.specs.Read.{readFile, readNumber};
+ghost use Rattle.log.specs.View.{viewOf};
 ghost use Rattle.dayreport.specs.Report.{reportOf, reportNumber};
 ghost use Rattle.metlazuel.specs.Calls.{numbered, sized};
 ghost use Rattle.metlazuel.specs.LogCalls.{lengthAfter};
-use logfile::ReadAnswer;
 
 mod answer_call;
 mod bench_meter;
@@ -56,30 +56,14 @@ pub extern "C" fn metlazuel_read_file(file: &[u8], out: &mut [u8], length: &mut 
         ≡ sized readNumber lengthAfter (readFile (now (file .entry)) (now (out .entry))) (now (length .entry)) ⌝ }
 {
     let answer = logfile::read_file(file, out);
-    *length = length_after(answer, *length);
+    *length = answer.length_or(*length);
     answer.number()
-}
-
-// The image's length where there is one.
-fn length_after(answer: ReadAnswer, before: usize) -> usize
-    ensures { λ r. ⌜ r ≡ lengthAfter answer before ⌝ }
-{
-    match answer {
-        ReadAnswer::Done(n) => n,
-        ReadAnswer::WrongMark => before,
-        ReadAnswer::WrongVersion => before,
-        ReadAnswer::WrongHeader => before,
-        ReadAnswer::WrongLength => before,
-        ReadAnswer::WrongCrc => before,
-        ReadAnswer::WrongCell => before,
-        ReadAnswer::TooShort => before,
-    }
 }
 
 // uint8_t metlazuel_day_report(const uint8_t *log, size_t n, uint8_t day, uint32_t *row, size_t room)
 #[no_mangle]
 pub extern "C" fn metlazuel_day_report(log: &[u8], day: u8, row: &mut [u32]) -> u8
-    ensures { λ r. ⌜ outcome r (now (row .exit)) ≡ numbered reportNumber (reportOf (now (log .entry)) day (now (row .entry))) ⌝ }
+    ensures { λ r. ⌜ outcome r (now (row .exit)) ≡ numbered reportNumber (reportOf (viewOf (now (log .entry))) day (now (row .entry))) ⌝ }
 {
     dayreport::day_report(log, day, row).number()
 }

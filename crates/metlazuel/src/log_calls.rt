@@ -12,6 +12,7 @@ use logger::OpenAsk;
 ghost use mathlib.Core.Path.{_≡_};
 ghost use Rattle.refusal.specs.Outcome.{outcome};
 ghost use Rattle.log.specs.Fresh.{freshOf, freshNumber};
+ghost use Rattle.log.specs.View.{viewOf};
 ghost use Rattle.logfile.specs.Write.{writtenFile, writeNumber};
 ghost use Rattle.c_values.specs.Ask.{askOf};
 ghost use Rattle.metlazuel.specs.Calls.{sized};
@@ -67,7 +68,7 @@ fn image_length(answer: FreshAnswer, before: usize) -> usize
 #[no_mangle]
 pub extern "C" fn metlazuel_write_file(log: &[u8], out: &mut [u8], length: &mut usize) -> u8
     ensures { λ n. ⌜ outcome n (now (length .exit), now (out .exit))
-        ≡ sized writeNumber fileLength (writtenFile (now (log .entry)) (now (out .entry))) (now (length .entry)) ⌝ }
+        ≡ sized writeNumber fileLength (writtenFile (viewOf (now (log .entry))) (now (out .entry))) (now (length .entry)) ⌝ }
 {
     let answer = logfile::write_file(log, out);
     *length = file_length(answer, *length);
@@ -99,7 +100,7 @@ pub extern "C" fn metlazuel_ask(
     out: &mut [u8],
 ) -> u8
     ensures { λ n. ⌜ outcome n (now (ask .exit), now (out .exit))
-        ≡ askForC (askOf (now (ask .entry))) (now (log .entry)) (now (ask .entry)) address day slot (now (out .entry)) ⌝ }
+        ≡ askForC (askOf (now (ask .entry))) (viewOf (now (log .entry))) (now (ask .entry)) address day slot (now (out .entry)) ⌝ }
 {
     let AskRead::Read(held) = c_values::ask_of(ask) else {
         return given::unread_number(out.len(), READ_BYTES);

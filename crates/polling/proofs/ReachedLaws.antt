@@ -4,6 +4,7 @@ use mathlib.Core.Path.{_≡_, refl, sym, ap, _∙_}
 use mathlib.Core.List.{List, [], _∷_, _++_}
 use Rattle.refusal.specs.Outcome.{Outcome, outcome}
 use Rattle.words.specs.Number.{Bytes}
+use Rattle.log.specs.View.{viewOf}
 use Rattle.logger.specs.Book.{Call, ask, AllBytes, runOf}
 use Rattle.logger.specs.Run.{State, step, run}
 use Rattle.logger.specs.declared.ask.Asked.{Asked}
@@ -38,7 +39,7 @@ onward {s} {t} {u} x y = record {
 }
 
 -- an ask leaves the log, and the ask that it answers
-pub asks : (s : List ℕ) (o : OpenAsk) (address day slot : ℕ) (out after : List ℕ) (r : Asked) → outcome r after ≡ Ask.asked s o address day slot out
+pub asks : (s : List ℕ) (o : OpenAsk) (address day slot : ℕ) (out after : List ℕ) (r : Asked) → outcome r after ≡ Ask.asked (viewOf s) o address day slot out
     → Reached (standing s o) (standing s (r .held))
 unfolding runOf step
 asks s o address day slot out after r e =

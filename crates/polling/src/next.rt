@@ -2,6 +2,8 @@
 ghost use mathlib.Core.Path.{_≡_};
 ghost use Prim.Native.Nat.{_-_};
 ghost use Rattle.polling.specs.Next.{nextWanted, nextGap, isWanted, wantedFrom};
+ghost use Rattle.log.specs.Image.{cellAt};
+ghost use Rattle.log.specs.View.{viewOf};
 ghost use Rattle.log.specs.declared.cell.Cell.the-variants.{Empty};
 ghost use Rattle.log.specs.declared.cell.CellAnswer.the-variants.{Good};
 use log::Cell;
@@ -23,14 +25,14 @@ pub enum Wanted {
 
 // The first slot of a day, from a slot on, whose cell is a gap. Bytes that are no log have none, and neither has a day outside it.
 pub fn next_gap(log: &[u8], day: u8, slot: u8) -> Next
-    ensures { λ r. ⌜ r ≡ nextGap (now (log .entry)) day slot ⌝ }
+    ensures { λ r. ⌜ r ≡ nextGap (viewOf (now (log .entry))) day slot ⌝ }
 {
     next_wanted(log, day, slot, Wanted::Gaps)
 }
 
 // The same of the cells that are wanted.
 pub fn next_wanted(log: &[u8], day: u8, slot: u8, wanted: Wanted) -> Next
-    ensures { λ r. ⌜ r ≡ nextWanted wanted (now (log .entry)) day slot ⌝ }
+    ensures { λ r. ⌜ r ≡ nextWanted wanted (viewOf (now (log .entry))) day slot ⌝ }
 {
     match log::sound(log) {
         Lent::Sound(h) => {
@@ -46,7 +48,7 @@ pub fn next_wanted(log: &[u8], day: u8, slot: u8, wanted: Wanted) -> Next
 
 // Of the cells that follow a day's first one, from a slot on and before an end.
 fn first_wanted(log: &[u8], first: u16, slot: u8, end: u8, wanted: Wanted) -> Next
-    ensures { λ r. ⌜ r ≡ wantedFrom wanted (now (log .entry)) first slot (end - slot) ⌝ }
+    ensures { λ r. ⌜ r ≡ wantedFrom wanted (cellAt (now (log .entry))) first slot (end - slot) ⌝ }
 {
     let mut i = slot;
     while i < end {

@@ -1,39 +1,43 @@
 -- What follows from the definition of a page: a refusal's line, its length, and its parts written one behind the other; that a file is never
 -- refused for want of room; that past the last line there is none; and that each line has room. Assumes nothing.
-use mathlib.Core.Path.{_≡_, refl, sym, ap, _∙_}
+use mathlib.Core.Path.{_≡_, refl, sym, ap, subst, _∙_}
 use mathlib.Core.Bool.{true, false, _&&_}
 use mathlib.Core.List.{[], _∷_, List, _++_}
 use Prim.Native.Nat.{ℕ, _+_, _-_, _≤_}
-use native.Mathlib.Nat.{mul-le-mul, min-le-left}
 use native.Mathlib.Omega.{arith}
 use lib.Dec.{leb, eqb}
-use lib.ListN.{length, take, length-append, length-take, length-replicate}
+use lib.ListN.{length, take, drop, length-append, length-replicate}
+use lib.Seq.{take-at}
 use borrow.Author.Tests.{le-leb, ne-eqb}
-use Rattle.case_laws.proofs.Test.{both, chosen, either}
+use Rattle.case_laws.proofs.Test.{either}
 use Rattle.refusal.specs.Outcome.{Outcome, outcome, check}
-use Rattle.slots.proofs.DayLaws.{slots-at-most}
 use Rattle.text.specs.Ascii.{ascii}
 use Rattle.text.specs.Decimal.{decimal}
 use Rattle.text.proofs.DecimalLaws.{decimal-most-u32}
 use Rattle.words.specs.Number.{Bytes}
-use Rattle.words.specs.Place.{numberAt, written}
+use Rattle.words.specs.Place.{written}
 use Rattle.words.proofs.PlaceLaws.{written-append}
 use Rattle.frame.specs.Sealing.{crcFits}
-use Rattle.log.specs.Header.{headerSize, daysMost, cellsOf, lengthOf, isHeader, headerAt, fieldsRight, markRight, versionRight, headerOf, ifRight}
-use Rattle.log.proofs.ByteLaws.{bytes-part}
-use Rattle.log.proofs.HeaderLaws.{imageMost, header-ranges}
+use Rattle.log.specs.Header.{headerSize, daysMost, imageMost, cellsOf, lengthOf, markRight, versionRight, headerOf, ifRight}
+use Rattle.log.proofs.ByteLaws.{bytes-nil}
+use Rattle.log.proofs.HeaderLaws.{image-most, right-header}
+use Rattle.log.specs.Image.{imageOf}
+use Rattle.log.proofs.ImageLaws.{bytes-image}
 use Rattle.log.specs.declared.header.Header.{Header}
 use Rattle.log.specs.declared.header.HeaderAnswer.{HeaderAnswer}
 use Rattle.log.specs.declared.header.HeaderAnswer.the-variants.{Right, Wrong}
 use Rattle.logfile.specs.File.{fileLength, cellsGood}
-use Rattle.logfile.specs.Read.{readNumber, markSize, readImage, readFields, readFile}
+use Rattle.logfile.specs.Read.{readNumber, ifRead, markSize, readCells, readFields, readFile}
+use Rattle.logfile.proofs.FileLaws.{accepted}
 use Rattle.logfile.specs.declared.read.ReadAnswer.{ReadAnswer}
 use Rattle.logfile.specs.declared.read.ReadAnswer.the-variants.{Done, WrongMark, WrongVersion, WrongHeader, WrongLength, WrongCrc, WrongCell, TooShort}
 use Rattle.dayreport.specs.Text.{lineFeed, headingText, lineMost}
 use Rattle.dayreport.proofs.TextLaws.{Never, text-fits}
+use Rattle.log.specs.View.{viewOf}
+use Rattle.log.proofs.ViewLaws.{seen-are-cells}
 use Rattle.dayreport.proofs.DayLaws.{line-past, line-room}
 use Rattle.dayreport.proofs.StripLaws.{stripMost, strip-past, strip-room}
-use Rattle.report_page.specs.Page.{refusedText, refusedLine, reportLine, imageSize, readLine, room, pageLine, stripLine}
+use Rattle.report_page.specs.Page.{refusedText, refusedLine, reportLine, imageIn, readLine, room, pageLine, stripLine}
 
 pub length-refused : (n : ℕ) → length (refusedText n) ≡ 9 + length (decimal n)
 unfolding refusedText ascii
@@ -48,29 +52,14 @@ written-refused s n =
 
 -- ---- no file is refused for want of room
 
--- the longest image has room for every other
-header-most : (h : Header) → isHeader h ≡ true → lengthOf h ≤ imageMost
-unfolding lengthOf cellsOf
-header-most h e = omega (arith, mul-le-mul (header-ranges h e .days-to) (slots-at-most (h .minutes)))
-
-wrong≢right : (h : Header) → Wrong ≡ Right h → ⊥
-wrong≢right h p = let z : _≡_ {A = ℕ} 0 1 = cc in omega arith
-
-header-right : (f : List ℕ) (h : Header) → headerOf f ≡ Right h → isHeader h ≡ true
-unfolding headerOf fieldsRight
-header-right f h p =
-    let a = chosen (isHeader (headerAt f) && eqb (numberAt f 12 2) 0) (Right (headerAt f)) Wrong p (wrong≢right h) in
-    let e : headerAt f ≡ h = cc (a .1) in
-    sym (ap isHeader e) ∙ both _ _ (a .0) .0
-
 -- the answer is not 1
 abbrev Room : Outcome ReadAnswer (List ℕ) → Type 0
 Room o = readNumber (o .result) ≡ 1 → ⊥
 
-image-room : (image : List ℕ) (cells : ℕ) (out : List ℕ) → length image ≤ length out → Room (readImage image cells out)
-unfolding readImage
-image-room image cells out l =
-    either Room (cellsGood image cells) (rw (le-leb _ _ l) (λ e. omega (arith, e))) (λ e. omega (arith, e))
+cells-room : (f : List ℕ) (h : Header) (out : List ℕ) → lengthOf h ≤ length out → Room (readCells f h out)
+unfolding readCells
+cells-room f h out l =
+    either Room (cellsGood f (cellsOf h)) (rw (le-leb _ _ l) (λ e. omega (arith, e))) (λ e. omega (arith, e))
 
 fields-room : (f out : List ℕ) → imageMost ≤ length out → Room (readFields f out)
 unfolding readFields
@@ -80,12 +69,12 @@ fields-room f out l = either Room (leb headerSize (length f)) (go (headerOf f) r
         → Room (ifRight a (outcome WrongHeader out) (λ h.
         check (eqb (length f) (fileLength h)) (outcome WrongLength out) (
         check (crcFits f) (outcome WrongCrc out) (
-        readImage (take (lengthOf h) f) (cellsOf h) out))))
+        readCells f h out))))
     go Wrong p = λ e. omega (arith, e)
     go (Right h) p =
-        let short : length (take (lengthOf h) f) ≤ length out = omega (arith, length-take (lengthOf h) f, min-le-left (lengthOf h) (length f), header-most h (header-right f h p)) in
+        let short : lengthOf h ≤ length out = omega (arith, image-most h (right-header f h p .ranges)) in
         either Room (eqb (length f) (fileLength h))
-        (either Room (crcFits f) (image-room (take (lengthOf h) f) (cellsOf h) out short) (λ e. omega (arith, e)))
+        (either Room (crcFits f) (cells-room f h out short) (λ e. omega (arith, e)))
         (λ e. omega (arith, e))
 
 room-size : length room ≡ imageMost
@@ -111,15 +100,15 @@ linesMost = daysMost + 1
 pub page-past : (f : List ℕ) (i : ℕ) (out : List ℕ) → linesMost ≤ i → Never 0 (pageLine f i out)
 unfolding pageLine readLine reportLine refusedLine
 page-past f i out l =
-    let read = readFile f room .result in
+    let o = readFile f room in
     let behind : eqb i 0 ≡ false = ne-eqb i 0 (λ e. omega (arith, e)) in
-    either (Never 0) (eqb (readNumber read) 0)
-    (rw behind (line-past (take (imageSize read) f) (i - 1) out (omega arith))) (rw behind (λ e. omega (arith, e)))
+    either (Never 0) (eqb (readNumber (o .result)) 0)
+    (rw behind (line-past (imageIn (o .result) (o .left)) (i - 1) out (omega arith))) (rw behind (λ e. omega (arith, e)))
 
 -- 62 strips are all that there are
 pub strips-past : (f : List ℕ) (d : ℕ) (out : List ℕ) → daysMost ≤ d → Never 0 (stripLine f d out)
 unfolding stripLine
-strips-past f d out l = strip-past (take (imageSize (readFile f room .result)) f) d out l
+strips-past f d out l = strip-past (imageIn (readFile f room .result) (readFile f room .left)) d out l
 
 -- ---- the longest line's room is enough for each, and so is the longest strip's
 
@@ -137,20 +126,39 @@ number-most WrongCrc = omega arith
 number-most WrongCell = omega arith
 number-most TooShort = omega arith
 
+-- the image that a file gave is bytes
+image-bytes : (f : List ℕ) → Bytes f → Bytes (imageIn (readFile f room .result) (readFile f room .left))
+unfolding imageIn
+image-bytes f bytes = go (readFile f room .result) refl
+  where
+    go : (a : ReadAnswer) → readFile f room .result ≡ a → Bytes (take (ifRead a 0 (λ n. n)) (readFile f room .left))
+    go (Done n) p =
+        let y = readFile f room .left in
+        let a = accepted f bytes room y n (ap (λ (r : ReadAnswer). outcome r y) p) in
+        let front : take n y ≡ imageOf (a .header) (a .cells) = ap (take n) (a .given) ∙ take-at (imageOf (a .header) (a .cells)) (drop n room) n (a .size) in
+        subst Bytes (sym front) (bytes-image (a .header) (a .cells) (a .whole .right))
+    go WrongMark p = bytes-nil
+    go WrongVersion p = bytes-nil
+    go WrongHeader p = bytes-nil
+    go WrongLength p = bytes-nil
+    go WrongCrc p = bytes-nil
+    go WrongCell p = bytes-nil
+    go TooShort p = bytes-nil
+
 pub page-room : (f : List ℕ) (i : ℕ) (out : List ℕ) → Bytes f → lineMost ≤ length out → Never 1 (pageLine f i out)
 unfolding pageLine readLine reportLine refusedLine
 page-room f i out bytes l =
-    let read = readFile f room .result in
-    let n = readNumber read in
-    let digits = decimal-most-u32 n (omega (arith, number-most read)) in
+    let o = readFile f room in
+    let n = readNumber (o .result) in
+    let digits = decimal-most-u32 n (omega (arith, number-most (o .result))) in
     either (Never 1) (eqb n 0)
     (either (Never 1) (eqb i 0)
     (text-fits headingText out (omega (arith, length-heading)))
-    (line-room (take (imageSize read) f) (i - 1) out (bytes-part f 0 (imageSize read) bytes) l))
+    (line-room (viewOf (imageIn (o .result) (o .left))) (seen-are-cells _ (image-bytes f bytes)) (i - 1) out l))
     (either (Never 1) (eqb i 0)
     (text-fits (refusedText n) out (omega (arith, length-refused n, digits)))
     (λ e. omega (arith, e)))
 
 pub strips-room : (f : List ℕ) (d : ℕ) (out : List ℕ) → stripMost ≤ length out → Never 1 (stripLine f d out)
 unfolding stripLine
-strips-room f d out l = strip-room (take (imageSize (readFile f room .result)) f) d out l
+strips-room f d out l = strip-room (viewOf (imageIn (readFile f room .result) (readFile f room .left))) d out l

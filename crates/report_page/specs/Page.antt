@@ -13,7 +13,8 @@ use Rattle.dayreport.specs.declared.answer.TextAnswer.the-variants.{NotInLog}
 use Rattle.dayreport.specs.Text.{lineFeed, headingText, putText}
 use Rattle.dayreport.specs.Day.{dayText}
 use Rattle.dayreport.specs.Strip.{stripText}
-use Rattle.log.proofs.HeaderLaws.{imageMost}
+use Rattle.log.specs.Header.{imageMost}
+use Rattle.log.specs.View.{viewOf}
 use Rattle.logfile.specs.Read.{readNumber, ifRead, readFile}
 use Rattle.logfile.specs.declared.read.ReadAnswer.{ReadAnswer}
 
@@ -27,25 +28,25 @@ refusedLine number i out = cond (eqb i 0) (putText (refusedText number) out) (ou
 
 -- line 0 is the heading, and line i that of day i - 1; past the last day 22
 unfoldable pub reportLine : List ℕ → ℕ → List ℕ → Outcome TextAnswer (List ℕ)
-reportLine image i out = cond (eqb i 0) (putText headingText out) (dayText image (i - 1) out)
-
--- the length of the image that a file was read to be; a file that was refused has none
-unfoldable pub imageSize : ReadAnswer → ℕ
-imageSize read = ifRead read 0 (λ n. n)
-
--- the report of the image at the file's front where the file was read, else the refusal
-unfoldable pub readLine : ReadAnswer → List ℕ → ℕ → List ℕ → Outcome TextAnswer (List ℕ)
-readLine read file i out =
-    cond (eqb (readNumber read) 0) (reportLine (take (imageSize read) file) i out) (refusedLine (readNumber read) i out)
+reportLine image i out = cond (eqb i 0) (putText headingText out) (dayText (viewOf image) (i - 1) out)
 
 -- room for the longest image
 unfoldable pub room : List ℕ
 room = replicate imageMost 0
 
+-- the image that a file gave, at the front of the room that it was given; a file that was refused gave none
+unfoldable pub imageIn : ReadAnswer → List ℕ → List ℕ
+imageIn read given = take (ifRead read 0 (λ n. n)) given
+
+-- the report of the image where the file was read, else the refusal
+unfoldable pub readLine : ReadAnswer → List ℕ → ℕ → List ℕ → Outcome TextAnswer (List ℕ)
+readLine read given i out =
+    cond (eqb (readNumber read) 0) (reportLine (imageIn read given) i out) (refusedLine (readNumber read) i out)
+
 -- line i of what is printed for a file
 unfoldable pub pageLine : List ℕ → ℕ → List ℕ → Outcome TextAnswer (List ℕ)
-pageLine file i out = readLine (readFile file room .result) file i out
+pageLine file i out = let o = readFile file room in readLine (o .result) (o .left) i out
 
 -- the strip of a day of a file's log; a file that was refused has no image, and its strips are refused with 28
 unfoldable pub stripLine : List ℕ → ℕ → List ℕ → Outcome TextAnswer (List ℕ)
-stripLine file d out = stripText (take (imageSize (readFile file room .result)) file) d out
+stripLine file d out = let o = readFile file room in stripText (viewOf (imageIn (o .result) (o .left))) d out

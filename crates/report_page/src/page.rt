@@ -2,7 +2,7 @@
 ghost use mathlib.Core.Path.{_≡_};
 ghost use lib.ListN.{take};
 ghost use Rattle.refusal.specs.Outcome.{outcome};
-ghost use Rattle.report_page.specs.Page.{imageSize, refusedLine, reportLine, readLine, pageLine, stripLine};
+ghost use Rattle.report_page.specs.Page.{refusedLine, reportLine, readLine, pageLine, stripLine};
 use dayreport::TextAnswer;
 use logfile::ReadAnswer;
 
@@ -18,7 +18,7 @@ pub fn put_page_line(file: &[u8], i: u8, out: &mut [u8]) -> TextAnswer
 {
     let mut room = [0u8; log::IMAGE_MOST];
     let answer = logfile::read_file(file, &mut room);
-    put_read_line(answer, file, i, out)
+    put_read_line(answer, &room, i, out)
 }
 
 // The strip of a day of a file's log, likewise; 28 for a file that is refused.
@@ -27,15 +27,16 @@ pub fn put_strip_line(file: &[u8], day: u8, out: &mut [u8]) -> TextAnswer
 {
     let mut room = [0u8; log::IMAGE_MOST];
     let answer = logfile::read_file(file, &mut room);
-    dayreport::put_strip(front(file, image_size(answer)), day, out)
+    dayreport::put_strip(front(&room, answer.length_or(0)), day, out)
 }
 
-fn put_read_line(answer: ReadAnswer, file: &[u8], i: u8, out: &mut [u8]) -> TextAnswer
-    ensures { λ r. ⌜ outcome r (now (out .exit)) ≡ readLine answer (now (file .entry)) i (now (out .entry)) ⌝ }
+// The image that was read stands at the front of the room that it was given.
+fn put_read_line(answer: ReadAnswer, room: &[u8], i: u8, out: &mut [u8]) -> TextAnswer
+    ensures { λ r. ⌜ outcome r (now (out .exit)) ≡ readLine answer (now (room .entry)) i (now (out .entry)) ⌝ }
 {
     let number = answer.number();
     if number == refusal::DONE {
-        return put_report_line(front(file, image_size(answer)), i, out);
+        return put_report_line(front(room, answer.length_or(0)), i, out);
     }
     put_refused_line(number, i, out)
 }
@@ -57,22 +58,6 @@ fn put_refused_line(number: u8, i: u8, out: &mut [u8]) -> TextAnswer
         return crate::refused::put_refused(number, out);
     }
     TextAnswer::NotInLog
-}
-
-// The image's length where there is one.
-fn image_size(answer: ReadAnswer) -> usize
-    ensures { λ r. ⌜ r ≡ imageSize answer ⌝ }
-{
-    match answer {
-        ReadAnswer::Done(n) => n,
-        ReadAnswer::WrongMark => 0,
-        ReadAnswer::WrongVersion => 0,
-        ReadAnswer::WrongHeader => 0,
-        ReadAnswer::WrongLength => 0,
-        ReadAnswer::WrongCrc => 0,
-        ReadAnswer::WrongCell => 0,
-        ReadAnswer::TooShort => 0,
-    }
 }
 
 // The first n bytes; all of them where there are no more.

@@ -1,4 +1,4 @@
--- `metlazuel_read_file` meets its contract: what is told is what `read_file` ensures, with its number and the length that `length_after` ensures.
+-- `metlazuel_read_file` meets its contract: what is told is what `read_file` ensures, with its number and the length that `length_or` ensures.
 use Rattle.metlazuel.specs.Calls.{sized}
 use Rattle.metlazuel.specs.LogCalls.{lengthAfter}
 use Rattle.logfile.specs.Read.{readNumber}
@@ -14,8 +14,8 @@ use Rattle.metlazuel.proofs.metlazuel_read_file.Tie as tie
 read-file-requires : tie.Need-read-file-requires
 read-file-requires c κs = search needs
 
-length-after-requires : tie.Need-length-after-requires
-length-after-requires c κs = search needs
+length-or-requires : tie.Need-length-or-requires
+length-or-requires c κs = search needs
 
 number-requires : tie.Need-number-requires
 number-requires c κs = search needs
@@ -24,13 +24,14 @@ same-length : tie.Need-same-length
 same-length c = search needs
 
 returns : tie.Need-returns
+unfolding lengthAfter
 returns c =
     let read = c .before .before .before .before .before in
     let args = read .before .before .before .before .args in
-    ap₂ (λ (n l : ℕ). outcome n (l, read .read-file .last .1 .0)) (c .number .ensures) (c .before .length-after .ensures)
+    ap₂ (λ (n l : ℕ). outcome n (l, read .read-file .last .1 .0)) (c .number .ensures) (c .before .length-or .ensures)
     ∙ ap (λ (o : Outcome ReadAnswer (List ℕ)). sized readNumber lengthAfter o (args .length .now)) (read .read-file .ensures)
 
 pub metlazuel-read-file-spec : {M : Type 1} → statement M
 metlazuel-read-file-spec =
     tie.close
-    (tie.spec read-file-requires length-after-requires number-requires same-length returns)
+    (tie.spec read-file-requires length-or-requires number-requires same-length returns)

@@ -1,6 +1,13 @@
 -- `put_day` meets its contract: whether the lent log is sound is the case of `dayText`, and the date is that of its header's day.
-use Rattle.dayreport.specs.Day.{dayText}
-use mathlib.Core.Path.{sym, _∙_}
+use Rattle.log.specs.View.{viewOf}
+use Rattle.log.specs.Header.{ifSound}
+use Rattle.log.specs.Interval.{dayDate}
+use Rattle.log.specs.declared.header.Lent.{Lent}
+use Rattle.log.specs.declared.interval.DayAnswer.{DayAnswer}
+use Rattle.refusal.specs.Outcome.{outcome}
+use Rattle.dayreport.specs.declared.answer.TextAnswer.the-variants.{Unsound}
+use Rattle.dayreport.specs.Day.{dayText, dayOnText}
+use mathlib.Core.Path.{sym, ap, _∙_}
 use borrow.Author.Needs.{needs}
 use Rattle.dayreport.proofs.day.put_day.Statement.{statement}
 use Rattle.dayreport.proofs.day.put_day.Tie as tie
@@ -26,10 +33,14 @@ same-length c = search needs
 returns : tie.Need-returns
 unfolding dayText
 returns c =
+    let args = c .before .before .before .before .before .before .before .before .before .before .before .args in
     let sound = c .before .before .before .before .before .before .before .before .sound in
     let h = c .before .before .before .before .before .before .h in
     let date-of = c .before .before .before .before .date-of in
-    simp (sym (sound .ensures) ∙ h .given .1, sym (date-of .ensures)) (c .before .before .put-day-on .ensures)
+    c .before .before .put-day-on .ensures
+    ∙ ap (λ (a : DayAnswer). dayOnText a (viewOf (args .log .now)) (args .day) (args .out .now)) (date-of .ensures)
+    ∙ sym (ap (λ (a : Lent). ifSound a (outcome Unsound (args .out .now)) (λ g. dayOnText (dayDate g (args .day)) (viewOf (args .log .now)) (args .day) (args .out .now)))
+    (sym (sound .ensures) ∙ h .given .1))
 
 returns-2 : tie.Need-returns-2
 unfolding dayText

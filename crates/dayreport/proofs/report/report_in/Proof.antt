@@ -5,6 +5,7 @@ use native.Mathlib.Nat.{mul-le-mul}
 use mathlib.Core.Path.{sym, ap, _∙_}
 use borrow.Author.Tests.{le-ltb, lt-ltb}
 use Rattle.refusal.specs.Outcome.{outcome}
+use Rattle.log.specs.Image.{cellAt}
 use Rattle.dayreport.proofs.TalliesLaws.{report-all, report-bad, day-tallied}
 use Rattle.dayreport.specs.Report.{reportIn}
 use borrow.Author.Needs.{needs}
@@ -49,7 +50,7 @@ returns-2 c =
     let t = c .before .before .before .before .before .t in
     let walked = c .before .before .before .before .before .before .before in
     let start = walked .before .before .before .before .before .before in
-    let day = day-tallied (start .args .log .now) (start .args .h) (start .args .day) _ (walked .before .slots-of .ensures) in
+    let day = day-tallied (cellAt (start .args .log .now)) (start .args .h) (start .args .day) _ (walked .before .slots-of .ensures) in
     let cells = day ∙ sym (walked .tally .ensures) ∙ t .given .1 in
     simp (lt-ltb _ _ (walked .before .before .if1 .left)) (ap (outcome _) (c .before .before .put-row .ensures) ∙ sym (report-all _ (start .args .row .now) _ cells))
 
@@ -58,7 +59,7 @@ unfolding reportIn
 returns-3 c =
     let walked = c .before .before in
     let start = walked .before .before .before .before .before .before in
-    let day = day-tallied (start .args .log .now) (start .args .h) (start .args .day) _ (walked .before .slots-of .ensures) in
+    let day = day-tallied (cellAt (start .args .log .now)) (start .args .h) (start .args .day) _ (walked .before .slots-of .ensures) in
     let cells = day ∙ sym (walked .tally .ensures) ∙ c .enum-told .given .1 in
     simp (lt-ltb _ _ (walked .before .before .if1 .left)) (sym (report-bad _ (start .args .row .now) cells))
 

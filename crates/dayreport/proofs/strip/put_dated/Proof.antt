@@ -5,7 +5,8 @@ use Rattle.dayreport.proofs.TextLaws.{front-written}
 use Rattle.dayreport.specs.Strip.{marksAt, stripOf, stripDated}
 use Rattle.dayreport.specs.Text.{putText}
 use Rattle.log.specs.declared.cell.CellAnswer.{CellAnswer}
-use Rattle.log.specs.Image.{cellsFrom, allGood, goods}
+use Rattle.log.specs.Image.{cellAt, allGood, goods}
+use Rattle.log.specs.View.{seenFrom}
 use Rattle.slots.proofs.DayLaws.{slots-at-most}
 use lib.Seq.{length-take-le}
 use lib.ListN.{length, take}
@@ -75,7 +76,7 @@ returns c =
     let write-strip = c .before .before .before .before .before .before .before .write-strip in
     let if1 = c .before .before .before .before .before .if1 in
     let slots = slots-of .result in
-    let cells = cellsFrom (args .log .now) (args .day * slots) slots in
+    let cells = seenFrom (cellAt (args .log .now)) (args .day * slots) slots in
     let good : allGood cells ≡ true = sym (write-strip .ensures .0) ∙ if1 .taken in
     let strip = stripOf (args .date) (goods cells) in
     let size : marksAt + slots + 1 ≡ length strip = omega (arith, length-strip (args .date) (goods cells), as-many _ _ _ good) in
@@ -85,7 +86,7 @@ returns c =
     (ap (take (marksAt + slots + 1)) (write-strip .ensures .1 (if1 .taken)) ∙ front-written _ strip _ size room)
     ∙ strip-good (args .date) cells (args .out .now) good
     ∙ ap (λ (read : List CellAnswer). stripDated (args .date) read (args .out .now))
-    (sym (day-cells (args .log .now) (args .h) (args .day) slots (slots-of .ensures)))
+    (sym (day-cells (cellAt (args .log .now)) (args .h) (args .day) slots (slots-of .ensures)))
 
 returns-2 : tie.Need-returns-2
 returns-2 c =
@@ -93,10 +94,10 @@ returns-2 c =
     let args = c .before .before .before .before .before .before .before .args in
     let write-strip = c .before .before .write-strip in
     let slots = slots-of .result in
-    let cells = cellsFrom (args .log .now) (args .day * slots) slots in
+    let cells = seenFrom (cellAt (args .log .now)) (args .day * slots) slots in
     strip-bad (args .date) cells (args .out .now) (sym (write-strip .ensures .0) ∙ c .if1 .left)
     ∙ ap (λ (read : List CellAnswer). stripDated (args .date) read (args .out .now))
-    (sym (day-cells (args .log .now) (args .h) (args .day) slots (slots-of .ensures)))
+    (sym (day-cells (cellAt (args .log .now)) (args .h) (args .day) slots (slots-of .ensures)))
 
 pub put-dated-spec : {M : Type 1} → statement M
 put-dated-spec =

@@ -1,9 +1,11 @@
 -- `write_marks` meets its contract: the loop keeps that the marks of the cells left, written at the next place, give all, and that all are
 -- good where those left are.
-use Rattle.dayreport.proofs.StripLaws.{marks-stop, marks-good, marks-on, marks-end}
+use Rattle.dayreport.proofs.StripLaws.{marks-stop, marks-good, marks-on}
 use Rattle.dayreport.specs.Strip.{mark, marksAt}
 use Rattle.log.specs.declared.cell.CellAnswer.{CellAnswer}
-use Rattle.log.specs.Image.{cellsFrom, allGood, goods}
+use Rattle.log.specs.Image.{cellAt, allGood, goods}
+use Rattle.log.specs.View.{seenFrom}
+use Rattle.log.proofs.ViewLaws.{seen-end}
 use Rattle.words.specs.Place.{written}
 use lib.ListN.{length}
 use mathlib.Core.List.{List, [], _∷_, map}
@@ -18,8 +20,8 @@ use Rattle.dayreport.proofs.strip.write_marks.Tie as tie
 
 abbrev Inv-loop : tie.InvT-loop
 Inv-loop line₀ log first slots i₀ line i =
-    (i ≤ slots) × (length line ≡ length line₀) × (allGood (cellsFrom log (first + i) (slots - i)) ≡ allGood (cellsFrom log first slots))
-    × (written line (marksAt + i) (map mark (goods (cellsFrom log (first + i) (slots - i)))) ≡ written line₀ marksAt (map mark (goods (cellsFrom log first slots))))
+    (i ≤ slots) × (length line ≡ length line₀) × (allGood (seenFrom (cellAt log) (first + i) (slots - i)) ≡ allGood (seenFrom (cellAt log) first slots))
+    × (written line (marksAt + i) (map mark (goods (seenFrom (cellAt log) (first + i) (slots - i)))) ≡ written line₀ marksAt (map mark (goods (seenFrom (cellAt log) first slots))))
 
 abbrev μ-loop : tie.MeasureT-loop
 μ-loop line₀ log first slots i₀ line i = slots - i
@@ -53,7 +55,7 @@ returns c =
     let loop = c .before .before .before .before .loop in
     let loop-test = c .before .before .before .loop-test in
     let bad = sym (c .before .before .cell-at .ensures) ∙ c .enum-told .given .1 in (
-      sym (marks-stop (args .log .now) (args .first) (loop .i) (args .slots) (loop-test .taken) bad) ∙ loop .inv .2,
+      sym (marks-stop (cellAt (args .log .now)) (args .first) (loop .i) (args .slots) (loop-test .taken) bad) ∙ loop .inv .2,
       λ e. absurd (false≢true e),
     )
 
@@ -85,13 +87,13 @@ loop-again c =
     let the-c = c .before .before .before .before .before .before .c in
     let mark-of = c .before .before .before .mark-of in
     let good = sym (cell-at .ensures) ∙ the-c .given .1 in
-    let after = cellsFrom (args .log .now) (args .first + (loop .i + 1)) (args .slots - (loop .i + 1)) in (
+    let after = seenFrom (cellAt (args .log .now)) (args .first + (loop .i + 1)) (args .slots - (loop .i + 1)) in (
       omega arith,
       omega (arith, put-byte .kept .0, loop .inv .1),
-      marks-good (args .log .now) (args .first) (loop .i) (args .slots) (loop-test .taken) _ good ∙ loop .inv .2,
+      marks-good (cellAt (args .log .now)) (args .first) (loop .i) (args .slots) (loop-test .taken) _ good ∙ loop .inv .2,
       ap (λ (x : List ℕ). written x (marksAt + (loop .i + 1)) (map mark (goods after)))
           (put-byte .ensures ∙ ap (λ (m : ℕ). written (loop .line) (marksAt + loop .i) (m ∷ [])) (mark-of .ensures))
-          ∙ marks-on (args .log .now) (args .first) (loop .i) (args .slots) (loop-test .taken) _ (loop .line) good ∙ loop .inv .3,
+          ∙ marks-on (cellAt (args .log .now)) (args .first) (loop .i) (args .slots) (loop-test .taken) _ (loop .line) good ∙ loop .inv .3,
     )
 
 same-length-2 : tie.Need-same-length-2 Inv-loop μ-loop
@@ -102,7 +104,7 @@ unfolding allGood goods written
 returns-2 c =
     let args = c .before .before .before .before .args in
     let loop = c .before .loop in
-    let none = marks-end (args .log .now) (args .first + loop .i) (args .slots - loop .i) (omega arith) in (
+    let none = seen-end (cellAt (args .log .now)) (args .first + loop .i) (args .slots - loop .i) (omega arith) in (
       sym (ap allGood none) ∙ loop .inv .2,
       λ e. sym (ap (λ (read : List CellAnswer). written (loop .line) (marksAt + loop .i) (map mark (goods read))) none) ∙ loop .inv .3,
     )

@@ -2,7 +2,8 @@
 use Rattle.dayreport.proofs.StripLaws.{as-many, written-strip}
 use Rattle.dayreport.specs.Strip.{mark, marksAt}
 use Rattle.dayreport.specs.Text.{space, lineFeed, dateSize}
-use Rattle.log.specs.Image.{cellsFrom, goods}
+use Rattle.log.specs.Image.{cellAt, goods}
+use Rattle.log.specs.View.{seenFrom}
 use Rattle.words.specs.Place.{written}
 use mathlib.Core.Path.{sym, ap, _∙_}
 use mathlib.Core.List.{List, [], _∷_, map}
@@ -35,7 +36,7 @@ returns c =
     let put-byte = c .before .before .before .before .before .before .before .before .before .before .put-byte in
     let put-date = c .before .before .before .before .before .before .before .before .before .before .before .before .before .before .put-date in
     let write-marks = c .before .before .before .before .before .before .write-marks in
-    let cells = cellsFrom (args .log .now) (args .first) (args .slots) in
+    let cells = seenFrom (cellAt (args .log .now)) (args .first) (args .slots) in
     let dated = put-byte .ensures ∙ ap (λ (x : List ℕ). written x dateSize (space ∷ [])) (put-date .ensures) in (
       write-marks .ensures .0,
       λ e. c .before .before .put-byte2 .ensures

@@ -9,15 +9,13 @@ use Prim.Native.Nat.{ℕ, suc, _+_, _-_, _≤_}
 use mathlib.Core.Path.{_≡_, refl, sym, ap, _∙_}
 use native.Mathlib.Omega.{arith}
 use Rattle.log.specs.Fresh.{gaps}
-use Rattle.log.specs.Header.{headerSize}
-use Rattle.log.specs.Image.{cellStart, cellsBytes}
-use Rattle.words.specs.Place.{written}
+use Rattle.log.specs.Image.{putCells}
 use Rattle.log.proofs.fresh.write_gaps.Statement.{statement}
 use Rattle.log.proofs.fresh.write_gaps.Tie as tie
 
 abbrev Inv-loop : tie.InvT-loop
 Inv-loop out₀ cells i₀ out i =
-    (i ≤ cells) × (length out ≡ length out₀) × (written out (cellStart i) (cellsBytes (gaps (cells - i))) ≡ written out₀ headerSize (cellsBytes (gaps cells)))
+    (i ≤ cells) × (length out ≡ length out₀) × (putCells out i (gaps (cells - i)) ≡ putCells out₀ 0 (gaps cells))
 
 abbrev μ-loop : tie.MeasureT-loop
 μ-loop out₀ cells i₀ out i = cells - i
@@ -44,9 +42,9 @@ loop-again c =
     let e : suc (n - (i + 1)) ≡ n - i = omega arith in (
       omega arith,
       ap length (c .before .before .put-cell .ensures) ∙ length-putCell s i _ ∙ turn .inv .1,
-      ap (λ (x : List ℕ). written x (cellStart (i + 1)) (cellsBytes (gaps (n - (i + 1))))) (c .before .before .put-cell .ensures)
+      ap (λ (x : List ℕ). putCells x (i + 1) (gaps (n - (i + 1)))) (c .before .before .put-cell .ensures)
           ∙ gap-put s i (n - (i + 1))
-          ∙ ap (λ (k : ℕ). written s (cellStart i) (cellsBytes (gaps k))) e
+          ∙ ap (λ (k : ℕ). putCells s i (gaps k)) e
           ∙ turn .inv .2,
     )
 
@@ -54,14 +52,14 @@ same-length : tie.Need-same-length Inv-loop μ-loop
 same-length c = c .before .loop .inv .1
 
 returns : tie.Need-returns Inv-loop μ-loop
-unfolding written cellsBytes gaps
+unfolding putCells gaps
 returns c =
     let start = c .before .before .before in
     let turn = c .before .loop in
     let n = start .args .cells in
     let i = turn .i in
     let e : n - i ≡ 0 = omega arith in
-    sym (ap (λ (k : ℕ). written (turn .out) (cellStart i) (cellsBytes (gaps k))) e) ∙ turn .inv .2
+    sym (ap (λ (k : ℕ). putCells (turn .out) i (gaps k)) e) ∙ turn .inv .2
 
 pub write-gaps-spec : {M : Type 1} → statement M
 write-gaps-spec =

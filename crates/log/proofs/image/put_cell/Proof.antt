@@ -1,9 +1,13 @@
--- `put_cell` meets its contract: what is written to the front of the part is written at the cell's place (`putCell-part`); past the end nothing.
-use mathlib.Core.Path.{sym}
-use native.Mathlib.Omega.{arith}
+-- `put_cell` meets its contract: what is written to the cell's nine bytes is written at its place (`part-put`); what does not fit is left to `put_front`.
+use Rattle.log.proofs.ImageLaws.{part-put}
+use Rattle.log.proofs.CellLaws.{length-cellBytes}
+use Rattle.log.specs.Image.{cellStart, putCell}
+use Rattle.log.specs.Cell.{cellSize, cellBytes}
 use Rattle.words.proofs.PlaceLaws.{written-past}
-use Rattle.log.proofs.ImageLaws.{putCell-part}
-use Rattle.log.specs.Image.{putCell}
+use native.Mathlib.Omega.{arith}
+use mathlib.Core.Path.{sym}
+use lib.ListN.{length}
+use Prim.Native.Nat.{_+_, _-_, _≤_}
 use borrow.Author.Needs.{needs}
 use Rattle.log.proofs.image.put_cell.Statement.{statement}
 use Rattle.log.proofs.image.put_cell.Tie as tie
@@ -11,14 +15,17 @@ use Rattle.log.proofs.image.put_cell.Tie as tie
 returns : tie.Need-returns
 unfolding putCell
 returns c =
-    let args = c .before .before .args in
-    sym (written-past (args .log .now) _ _ (omega arith))
+    let at-args = c .before .before .args in
+    sym (written-past (at-args .log .now) _ _ (omega arith))
 
 mul-from : tie.Need-mul-from
 mul-from c = search needs
 
 add-from : tie.Need-add-from
 add-from c = search needs
+
+add-to : tie.Need-add-to
+add-to c = search needs
 
 sub-write-cell : tie.Need-sub-write-cell
 sub-write-cell c = search needs
@@ -32,19 +39,26 @@ part-write-cell-end c = search needs
 write-cell-requires : tie.Need-write-cell-requires
 write-cell-requires c κs = search needs
 
+put-front-requires : tie.Need-put-front-requires
+put-front-requires c κs = search needs
+
 same-length : tie.Need-same-length
 same-length c = search needs
 
 returns-2 : tie.Need-returns-2
+unfolding putCell
 returns-2 c =
-    let start = c .before .before .before .before .before .before .before in
-    putCell-part (start .args .log .now) (start .args .i) (start .args .c) _ (c .before .before .write-cell .ensures)
+    let at-args = c .before .before .before .before .before .before .before .args in
+    let from = cellStart (at-args .i) in
+    let nine : length (cellBytes (at-args .c)) ≤ from + cellSize - from = omega (arith, length-cellBytes (at-args .c)) in
+    part-put (at-args .log .now) from (cellBytes (at-args .c)) _ (from + cellSize - from) nine (c .before .before .write-cell .ensures)
+
+same-length-2 : tie.Need-same-length-2
+same-length-2 c = search needs
 
 returns-3 : tie.Need-returns-3
 unfolding putCell
-returns-3 c =
-    let args = c .before .before .before .args in
-    sym (written-past (args .log .now) _ _ (c .if2 .left))
+returns-3 c = c .before .before .put-front .ensures
 
 pub put-cell-spec : {M : Type 1} → statement M
 put-cell-spec =
@@ -53,10 +67,13 @@ put-cell-spec =
     returns
     mul-from
     add-from
+    add-to
     sub-write-cell
     part-write-cell-start
     part-write-cell-end
     write-cell-requires
+    put-front-requires
     same-length
     returns-2
+    same-length-2
     returns-3)

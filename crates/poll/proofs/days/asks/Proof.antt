@@ -5,6 +5,7 @@ use mathlib.Core.Path.{_≡_, refl, sym, _∙_}
 use lib.ListN.{length}
 use native.Mathlib.Omega.{arith}
 use Rattle.slots.proofs.DayLaws.{slotsMost}
+use Rattle.log.specs.View.{viewOf}
 use Rattle.polling.proofs.NextLaws.{next-bounds}
 use Rattle.polling.specs.Reached.{Polled}
 use Rattle.polling.proofs.ReachedLaws.{stays, onward}
@@ -58,14 +59,14 @@ add-slot c =
     let next = c .before .before .before .before .before .before .before in
     let turn = next .before .before .before .before .before in
     let args = turn .before .before .before .before .before .args in
-    omega (arith, next-bounds _ (turn .loop .image) (args .day) (turn .loop .slot) _ (sym (next .before .before .next-wanted .ensures) ∙ next .next .given .1))
+    omega (arith, next-bounds _ (viewOf (turn .loop .image)) (args .day) (turn .loop .slot) _ (sym (next .before .before .next-wanted .ensures) ∙ next .next .given .1))
 
 loop-less : tie.Need-loop-less Inv-loop μ-loop
 loop-less c =
     let next = c .before .before .before .before .before .before .before in
     let turn = next .before .before .before .before .before in
     let args = turn .before .before .before .before .before .args in
-    omega (arith, next-bounds _ (turn .loop .image) (args .day) (turn .loop .slot) _ (sym (next .before .before .next-wanted .ensures) ∙ next .next .given .1))
+    omega (arith, next-bounds _ (viewOf (turn .loop .image)) (args .day) (turn .loop .slot) _ (sym (next .before .before .next-wanted .ensures) ∙ next .next .given .1))
 
 loop-again : tie.Need-loop-again Inv-loop μ-loop
 loop-again c =

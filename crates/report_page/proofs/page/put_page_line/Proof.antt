@@ -1,4 +1,4 @@
--- `put_page_line` meets its contract: the answer is that of `readFile` into room for the longest image.
+-- `put_page_line` meets its contract: the answer and the image are those of `readFile` into room for the longest.
 use Prim.Native.Nat.{ℕ}
 use mathlib.Core.List.{List}
 use mathlib.Core.Path.{ap, _∙_}
@@ -15,6 +15,9 @@ slice-aggregate-read-file c = search needs
 read-file-requires : tie.Need-read-file-requires
 read-file-requires c κs = search needs
 
+slice-aggregate-put-read-line : tie.Need-slice-aggregate-put-read-line
+slice-aggregate-put-read-line c = search needs
+
 put-read-line-requires : tie.Need-put-read-line-requires
 put-read-line-requires c κs = search needs
 
@@ -24,10 +27,10 @@ same-length c = search needs
 returns : tie.Need-returns
 unfolding pageLine room
 returns c =
-    let args = c .before .before .before .before .before .before .before .before .before .args in
-    let read-file = c .before .before .before .before .before .read-file in
+    let read-file = c .before .before .before .before .before .before .read-file in
+    let args = c .before .before .before .before .before .before .before .before .before .before .args in
     c .before .before .put-read-line .ensures
-    ∙ ap (λ (o : Outcome ReadAnswer (List ℕ)). readLine (o .result) (args .file .now) (args .i) (args .out .now)) (read-file .ensures)
+    ∙ ap (λ (o : Outcome ReadAnswer (List ℕ)). readLine (o .result) (o .left) (args .i) (args .out .now)) (read-file .ensures)
 
 pub put-page-line-spec : {M : Type 1} → statement M
 put-page-line-spec =
@@ -35,6 +38,7 @@ put-page-line-spec =
     (tie.spec
     slice-aggregate-read-file
     read-file-requires
+    slice-aggregate-put-read-line
     put-read-line-requires
     same-length
     returns)

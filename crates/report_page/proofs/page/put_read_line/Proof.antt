@@ -1,10 +1,10 @@
--- `put_read_line` meets its contract: a file that was read has number 0, and its image is the file's front.
+-- `put_read_line` meets its contract: a file that was read has number 0, and its image stands at the front of the room that it was given.
 use lib.ListN.{take}
 use Prim.Native.Nat.{ℕ}
 use mathlib.Core.List.{List}
 use mathlib.Core.Path.{sym, ap, _∙_}
 use borrow.Author.Tests.{eq-eqb, ne-eqb}
-use Rattle.report_page.specs.Page.{readLine, reportLine, refusedLine}
+use Rattle.report_page.specs.Page.{imageIn, readLine, reportLine, refusedLine}
 use borrow.Author.Needs.{needs}
 use Rattle.report_page.proofs.page.put_read_line.Statement.{statement}
 use Rattle.report_page.proofs.page.put_read_line.Tie as tie
@@ -12,8 +12,8 @@ use Rattle.report_page.proofs.page.put_read_line.Tie as tie
 number-requires : tie.Need-number-requires
 number-requires c κs = search needs
 
-image-size-requires : tie.Need-image-size-requires
-image-size-requires c κs = search needs
+length-or-requires : tie.Need-length-or-requires
+length-or-requires c κs = search needs
 
 front-requires : tie.Need-front-requires
 front-requires c κs = search needs
@@ -25,17 +25,17 @@ same-length : tie.Need-same-length
 same-length c = search needs
 
 returns : tie.Need-returns
-unfolding readLine
+unfolding readLine imageIn
 returns c =
     let number = c .before .before .before .before .before .before .before .number in
     let if1 = c .before .before .before .before .before .before .if1 in
     let args = c .before .before .before .before .before .before .before .before .before .before .args in
     let front = c .before .before .before .before .front in
-    let image-size = c .before .before .before .before .before .image-size in
+    let length-or = c .before .before .before .before .before .length-or in
     simp (eq-eqb _ _ (sym (number .ensures) ∙ if1 .taken))
     (c .before .before .put-report-line .ensures
     ∙ ap (λ (x : List ℕ). reportLine x (args .i) (args .out .now))
-    (front .ensures ∙ ap (λ (n : ℕ). take n (args .file .now)) (image-size .ensures)))
+    (front .ensures ∙ ap (λ (n : ℕ). take n (args .room .now)) (length-or .ensures)))
 
 put-refused-line-requires : tie.Need-put-refused-line-requires
 put-refused-line-requires c κs = search needs
@@ -57,7 +57,7 @@ put-read-line-spec =
     tie.close
     (tie.spec
     number-requires
-    image-size-requires
+    length-or-requires
     front-requires
     put-report-line-requires
     same-length

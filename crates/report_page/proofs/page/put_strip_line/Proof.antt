@@ -1,11 +1,12 @@
--- `put_strip_line` meets its contract: the strip is that of the file's front, as long as `readFile` says that the image is.
-use Rattle.report_page.specs.Page.{imageSize, room, stripLine}
+-- `put_strip_line` meets its contract: the strip is that of the image that `readFile` gave, at the front of the room for it.
+use Rattle.report_page.specs.Page.{imageIn, room, stripLine}
+use Rattle.log.specs.View.{viewOf}
+use Rattle.logfile.specs.declared.read.ReadAnswer.{ReadAnswer}
 use Rattle.dayreport.specs.Strip.{stripText}
 use Rattle.refusal.specs.Outcome.{Outcome}
-use Rattle.logfile.specs.declared.read.ReadAnswer.{ReadAnswer}
+use lib.ListN.{take}
 use mathlib.Core.Path.{ap, _∙_}
 use mathlib.Core.List.{List}
-use lib.ListN.{take}
 use Prim.Native.Nat.{ℕ}
 use borrow.Author.Needs.{needs}
 use Rattle.report_page.proofs.page.put_strip_line.Statement.{statement}
@@ -17,8 +18,11 @@ slice-aggregate-read-file c = search needs
 read-file-requires : tie.Need-read-file-requires
 read-file-requires c κs = search needs
 
-image-size-requires : tie.Need-image-size-requires
-image-size-requires c κs = search needs
+slice-aggregate-front : tie.Need-slice-aggregate-front
+slice-aggregate-front c = search needs
+
+length-or-requires : tie.Need-length-or-requires
+length-or-requires c κs = search needs
 
 front-requires : tie.Need-front-requires
 front-requires c κs = search needs
@@ -30,15 +34,16 @@ same-length : tie.Need-same-length
 same-length c = search needs
 
 returns : tie.Need-returns
-unfolding stripLine room
+unfolding stripLine imageIn room
 returns c =
-    let args = c .before .before .before .before .before .before .before .before .before .before .before .args in
-    let front = c .before .before .before .before .front in
-    let image-size = c .before .before .before .before .before .image-size in
-    let read-file = c .before .before .before .before .before .before .before .read-file in
-    let size = image-size .ensures ∙ ap (λ (o : Outcome ReadAnswer (List ℕ)). imageSize (o .result)) (read-file .ensures) in
+    let at-args = c .before .before .before .before .before .before .before .before .before .before .before .before .args in
+    let at-front = c .before .before .before .before .front in
+    let at-read-file = c .before .before .before .before .before .before .before .before .read-file in
+    let at-length-or = c .before .before .before .before .before .length-or in
     c .before .before .put-strip .ensures
-    ∙ ap (λ (x : List ℕ). stripText x (args .day) (args .out .now)) (front .ensures ∙ ap (λ (n : ℕ). take n (args .file .now)) size)
+    ∙ ap (λ (x : List ℕ). stripText (viewOf x) (at-args .day) (at-args .out .now))
+    (at-front .ensures ∙ ap (λ (n : ℕ). take n (at-read-file .last .1 .0)) (at-length-or .ensures))
+    ∙ ap (λ (o : Outcome ReadAnswer (List ℕ)). stripText (viewOf (imageIn (o .result) (o .left))) (at-args .day) (at-args .out .now)) (at-read-file .ensures)
 
 pub put-strip-line-spec : {M : Type 1} → statement M
 put-strip-line-spec =
@@ -46,7 +51,8 @@ put-strip-line-spec =
     (tie.spec
     slice-aggregate-read-file
     read-file-requires
-    image-size-requires
+    slice-aggregate-front
+    length-or-requires
     front-requires
     put-strip-requires
     same-length

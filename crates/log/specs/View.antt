@@ -1,0 +1,23 @@
+-- What a call sees of lent bytes, whatever the layout in memory: a layout is known by its view and by what a change does to it
+-- (proofs/ViewLaws.antt). Source: document 01, "The reader and the log": "In memory a log is its image"; "cells in time order".
+use Prim.Native.Nat.{ℕ, zero, suc}
+use mathlib.Core.List.{List, [], _∷_}
+use Rattle.log.specs.Header.{soundOf, ifSound}
+use Rattle.log.specs.Image.{cellAt}
+use Rattle.log.specs.declared.header.Lent.{Lent}
+use Rattle.log.specs.declared.cell.CellAnswer.{CellAnswer}
+use Rattle.log.specs.declared.cell.CellAnswer.the-variants.{Bad}
+
+-- whether they are a log and with which header, and the cell at each index; past a log's cells, and in bytes that are no log, there is none
+pub record View : Type 0 where
+  pub lent : Lent
+  pub cell : ℕ → CellAnswer
+
+-- what is seen of an image
+abbrev pub viewOf : List ℕ → View
+viewOf s = record { lent = soundOf s; cell = ifSound (soundOf s) (λ i. Bad) (λ h. cellAt s) }
+
+-- the n cells from index i on
+unfoldable pub seenFrom : (ℕ → CellAnswer) → ℕ → ℕ → List CellAnswer
+seenFrom cell i zero = []
+seenFrom cell i (suc n) = cell i ∷ seenFrom cell (suc i) n

@@ -1,0 +1,117 @@
+-- `put_rows` meets its contract: the loop keeps that the rows left, written from row i on, give the whole result; no cell is bad, and it ends as they run out.
+use Rattle.log.specs.declared.cell.Cell.{Cell}
+use Rattle.logfile.proofs.WalkLaws.{goodFrom, goodsFrom, walk-starts, not-bad, still-good, next-cell, cells-end}
+use Rattle.logfile.proofs.RowLaws.{length-putRow, row-put}
+use Rattle.logfile.specs.Row.{rowStart, rowsBytes}
+use Rattle.log.specs.Image.{cellAt}
+use Rattle.log.specs.Header.{headerSize}
+use Rattle.words.specs.Place.{written}
+use borrow.Author.Needs.{needs}
+use lib.ListN.{length}
+use mathlib.Core.Path.{_≡_, refl, sym, ap, _∙_}
+use mathlib.Core.List.{List}
+use mathlib.Core.Bool.{true}
+use native.Mathlib.Omega.{arith}
+use native.Mathlib.Nat.{sub-zero}
+use Prim.Native.Nat.{ℕ, _+_, _-_, _≤_}
+use Rattle.logfile.proofs.write.put_rows.Statement.{statement}
+use Rattle.logfile.proofs.write.put_rows.Tie as tie
+
+abbrev Inv-loop : tie.InvT-loop
+Inv-loop log cells out₀ i₀ out i =
+    (i ≤ cells) × (length out ≡ length out₀) × (goodFrom (cellAt log) i (cells - i) ≡ true)
+    × (written out (rowStart i) (rowsBytes (goodsFrom (cellAt log) i (cells - i))) ≡ written out₀ headerSize (rowsBytes (goodsFrom (cellAt log) 0 cells)))
+
+abbrev μ-loop : tie.MeasureT-loop
+μ-loop log cells out₀ i₀ out i = cells - i
+
+loop-holds : tie.Need-loop-holds Inv-loop μ-loop
+loop-holds c =
+    let at-args = c .before .before .args in
+    (omega arith, refl, walk-starts (cellAt (at-args .log .now)) (c .before .before .args .cells) ∙ c .before .before .pre .0, rw sub-zero)
+
+cell-at-requires : tie.Need-cell-at-requires Inv-loop μ-loop
+cell-at-requires c κs = search needs
+
+enum-known-c : tie.Need-enum-known-c Inv-loop μ-loop
+enum-known-c c = search needs
+
+enum-told : tie.Need-enum-told Inv-loop μ-loop
+enum-told c = search needs
+
+same-length : tie.Need-same-length Inv-loop μ-loop
+same-length c =
+    let at-loop = c .before .before .before .before .loop in
+    at-loop .inv .1
+
+returns : tie.Need-returns Inv-loop μ-loop
+returns c =
+    let at-args = c .before .before .before .before .before .before .before .args in
+    let at-loop = c .before .before .before .before .loop in
+    let at-loop-test = c .before .before .before .loop-test in
+    absurd (not-bad (cellAt (at-args .log .now)) (at-loop .i) (at-args .cells) (at-loop-test .taken) (at-loop .inv .2) (sym (c .before .before .cell-at .ensures) ∙ c .enum-told .given .1))
+
+put-row-requires : tie.Need-put-row-requires Inv-loop μ-loop
+put-row-requires c κs =
+    let turn = c .before .before .before .before .before in
+    let room = turn .before .before .before .before .pre .1 in
+    omega (arith, turn .loop-test .taken, turn .before .loop .inv .1, room)
+
+add-i : tie.Need-add-i Inv-loop μ-loop
+add-i c = omega arith
+
+loop-less : tie.Need-loop-less Inv-loop μ-loop
+loop-less c = omega arith
+
+loop-again : tie.Need-loop-again Inv-loop μ-loop
+loop-again c =
+    let at-loop = c .before .before .before .before .before .before .before .before .before .loop in
+    let at-args = c .before .before .before .before .before .before .before .before .before .before .before .before .args in
+    let at-loop-test = c .before .before .before .before .before .before .before .before .loop-test in
+    let at-cell-at = c .before .before .before .before .before .before .before .cell-at in
+    let at-c = c .before .before .before .before .before .c in
+    let cell = cellAt (at-args .log .now) in
+    let s = at-loop .out in
+    let i = at-loop .i in
+    let n = at-args .cells in
+    let put = c .before .before .put-row .ensures in
+    let seen = sym (at-cell-at .ensures) ∙ at-c .given .1 in
+    let more = at-loop-test .taken in (
+      omega arith,
+      ap length put ∙ length-putRow s i _ ∙ at-loop .inv .1,
+      still-good cell i n more _ seen (at-loop .inv .2),
+      ap (λ (x : List ℕ). written x (rowStart (i + 1)) (rowsBytes (goodsFrom cell (i + 1) (n - (i + 1))))) put
+          ∙ row-put s i _ _
+          ∙ sym (ap (λ (x : List Cell). written s (rowStart i) (rowsBytes x)) (next-cell cell i n more _ seen))
+          ∙ at-loop .inv .3,
+    )
+
+same-length-2 : tie.Need-same-length-2 Inv-loop μ-loop
+same-length-2 c = c .before .loop .inv .1
+
+returns-2 : tie.Need-returns-2 Inv-loop μ-loop
+unfolding written rowsBytes
+returns-2 c =
+    let at-args = c .before .before .before .before .args in
+    let turn = c .before .loop in
+    let none = cells-end (cellAt (at-args .log .now)) (turn .i) (at-args .cells - turn .i) (omega arith) in
+    sym (ap (λ (x : List Cell). written (turn .out) (rowStart (turn .i)) (rowsBytes x)) none) ∙ turn .inv .3
+
+pub put-rows-spec : {M : Type 1} → statement M
+put-rows-spec =
+    tie.close
+    (tie.spec
+    Inv-loop
+    μ-loop
+    loop-holds
+    cell-at-requires
+    enum-known-c
+    enum-told
+    same-length
+    returns
+    put-row-requires
+    add-i
+    loop-less
+    loop-again
+    same-length-2
+    returns-2)
