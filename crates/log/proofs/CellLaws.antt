@@ -7,13 +7,13 @@ use mathlib.Core.List.{List, _++_}
 use lib.Dec.{eqb}
 use lib.ListN.{length}
 use lib.Seq.{take-all}
-use borrow.Author.Tests.{eqb-true, eqb-false, ltb-true, not-true}
+use borrow.Author.Tests.{eqb-true, eqb-false, ltb-true, lt-ltb, le-ltb, ne-eqb, not-true}
 use Rattle.words.specs.Number.{number, bytesOf, Bytes}
 use Rattle.words.specs.Place.{byteAt, numberAt}
 use Rattle.case_laws.proofs.Test.{both, chosen}
 use Rattle.words.proofs.NumberLaws.{bytes-bytesOf}
 use Rattle.log.proofs.ByteLaws.{run, take-run, two, low, high, bytes-cons, bytes-append}
-use Rattle.log.specs.Cell.{cellSize, noCounts, isCell, kindBytes, cellBytes, kindFits, cellBy, kindCell, cellOf, ifGood, CountsFit, CellFits, IsCell}
+use Rattle.log.specs.Cell.{cellSize, noCounts, isCell, kindBytes, cellBytes, kindFits, cellBy, kindCell, kindNames, cellOf, knownCell, ifGood, CountsFit, CellFits, IsCell}
 use Rattle.log.specs.declared.cell.Cell.{Cell}
 use Rattle.log.specs.declared.cell.Cell.the-variants.{Gap, Empty, Measured}
 use Rattle.log.specs.declared.cell.CellAnswer.{CellAnswer}
@@ -112,6 +112,32 @@ unfolding cellOf
 nine-of bs c p =
     let a = chosen (eqb (length bs) cellSize) (kindCell (byteAt bs 0) (numberAt bs 1 2) (numberAt bs 3 2) (numberAt bs 5 2) (numberAt bs 7 2)) Bad p (bad≢good c) in
     record { nine = eqb-true _ _ (a .0); kind = kind-of _ _ _ _ _ c (a .1) }
+
+-- a kind above the three goes with no counts
+pub kind-above : (kind : ℕ) (n : Bool) → 2 < kind → kindFits kind n ≡ false
+unfolding kindFits
+kind-above kind true l = le-ltb kind 2 (omega arith)
+kind-above kind false l = ne-eqb kind 2 (λ e. omega arith)
+
+-- a kind that goes with its counts is one of the three
+fits-below : (kind : ℕ) (n : Bool) → kindFits kind n ≡ true → kind < 3
+unfolding kindFits
+fits-below kind true p = omega (arith, ltb-true kind 2 p)
+fits-below kind false p = omega (arith, eqb-true kind 2 p)
+
+pub fits-named : (kind e+ e- r+ r- : ℕ) (n : Bool) → kindFits kind n ≡ true → kindNames kind e+ e- r+ r- ≡ Good (cellBy kind e+ e- r+ r-)
+unfolding kindNames
+fits-named kind e+ e- r+ r- n p = simp (lt-ltb kind 3 (fits-below kind n p))
+
+-- bytes that are a cell name it by their kind
+pub known-good : (bs : List ℕ) (c : Cell) → cellOf bs ≡ Good c → knownCell bs ≡ Good c
+unfolding cellOf knownCell kindCell
+known-good bs c p =
+    let kind = byteAt bs 0 in
+    let n = noCounts (numberAt bs 1 2) (numberAt bs 3 2) (numberAt bs 5 2) (numberAt bs 7 2) in
+    let a = chosen (eqb (length bs) cellSize) (kindCell kind (numberAt bs 1 2) (numberAt bs 3 2) (numberAt bs 5 2) (numberAt bs 7 2)) Bad p (bad≢good c) in
+    let b = chosen (kindFits kind n) (Good (cellBy kind (numberAt bs 1 2) (numberAt bs 3 2) (numberAt bs 5 2) (numberAt bs 7 2))) Bad (a .1) (bad≢good c) in
+    simp (a .0) (fits-named kind _ _ _ _ n (b .0) ∙ b .1)
 
 -- what is read as a cell is one
 pub good-right : (bs : List ℕ) (c : Cell) → cellOf bs ≡ Good c → isCell c ≡ true

@@ -7,7 +7,7 @@ use mathlib.Core.Path.{_≡_, refl, sym, ap, ap₂, _∙_}
 use mathlib.Core.Bool.{Bool, true, false}
 use mathlib.Core.List.{List, [], _∷_, _++_, map}
 use mathlib.Core.Logic.{inl, inr}
-use lib.Dec.{ltb}
+use lib.Dec.{ltb, eqb}
 use lib.ListN.{length, getD, take, drop, set, length-append, length-take, length-drop, take-append-drop, drop-of-length-le}
 use lib.Seq.{take-at, drop-at, drop-nil, drop-cons, drop-drop, drop-append-add}
 use borrow.Author.Tests.{ltb-true, ltb-false, ne-eqb}
@@ -18,9 +18,9 @@ use Rattle.words.proofs.Part.{written-from, written-part, written-rest}
 use Rattle.log.proofs.ByteLaws.{bytes-part, bytes-nil, bytes-append}
 use Rattle.log.specs.Header.{headerSize, cellsOf, lengthOf, isHeader, headerBytes, headerAt, markRight, versionRight, fieldsRight, headerOf, soundOf}
 use Rattle.log.proofs.HeaderLaws.{length-headerBytes, bytes-header, sound-bytes, sound-log, sound-front}
-use Rattle.log.specs.Cell.{cellSize, cellOf, cellBytes, IsCell}
-use Rattle.log.proofs.CellLaws.{length-cellBytes, bytes-cell, cellOf-bytes, good-bytes, good-is-cell}
-use Rattle.log.specs.Image.{cellStart, cellAt, putCell, putCells, cellsBytes, imageOf, AllCells}
+use Rattle.log.specs.Cell.{cellSize, cellOf, knownCell, cellBytes, IsCell}
+use Rattle.log.proofs.CellLaws.{length-cellBytes, bytes-cell, cellOf-bytes, known-good, good-bytes, good-is-cell}
+use Rattle.log.specs.Image.{cellStart, cellAt, knownAt, putCell, putCells, cellsBytes, imageOf, AllCells}
 use Rattle.log.specs.View.{seenFrom}
 use Rattle.log.specs.declared.header.Header.{Header}
 use Rattle.log.specs.declared.header.Lent.the-variants.{Sound}
@@ -62,12 +62,24 @@ pub cell-within : (s : List ℕ) (h : Header) (i : ℕ) → soundOf s ≡ Sound 
 unfolding lengthOf
 cell-within s h i p l = omega (arith, sound-log s h p .size)
 
--- past the end there is no cell
+-- past the end there is no cell, by its kind neither
+short : (s : List ℕ) (i : ℕ) → length s < cellStart i + cellSize → eqb (length (take cellSize (drop (cellStart i) s))) cellSize ≡ false
+short s i h =
+    let e : length (take cellSize (drop (cellStart i) s)) < cellSize = simp (length-take, length-drop) (omega arith) in
+    ne-eqb (length (take cellSize (drop (cellStart i) s))) cellSize (λ q. omega arith)
+
 pub cellAt-past : (s : List ℕ) (i : ℕ) → length s < cellStart i + cellSize → cellAt s i ≡ Bad
 unfolding cellAt cellOf
-cellAt-past s i h =
-    let e : length (take cellSize (drop (cellStart i) s)) < cellSize = simp (length-take, length-drop) (omega arith) in
-    simp (ne-eqb (length (take cellSize (drop (cellStart i) s))) cellSize (λ q. omega arith))
+cellAt-past s i h = simp (short s i h)
+
+pub knownAt-past : (s : List ℕ) (i : ℕ) → length s < cellStart i + cellSize → knownAt s i ≡ Bad
+unfolding knownAt knownCell
+knownAt-past s i h = simp (short s i h)
+
+-- a good cell is the one that its kind names
+pub knownAt-good : (s : List ℕ) (i : ℕ) (c : Cell) → cellAt s i ≡ Good c → knownAt s i ≡ Good c
+unfolding cellAt knownAt
+knownAt-good s i c p = known-good (take cellSize (drop (cellStart i) s)) c p
 
 pub cellAt-put : (s : List ℕ) (i : ℕ) (c : Cell) → IsCell c → cellStart i + cellSize ≤ length s → cellAt (putCell s i c) i ≡ Good c
 unfolding cellAt putCell

@@ -73,9 +73,17 @@ cellBy kind e+ e- r+ r- = cond (eqb kind 0) Gap (cond (eqb kind 1) Empty (Measur
 unfoldable pub kindCell : ℕ → ℕ → ℕ → ℕ → ℕ → CellAnswer
 kindCell kind e+ e- r+ r- = cond (kindFits kind (noCounts e+ e- r+ r-)) (Good (cellBy kind e+ e- r+ r-)) Bad
 
+-- "0 gap, 1 empty, 2 measured": the cell that a kind names, whatever its counts
+unfoldable pub kindNames : ℕ → ℕ → ℕ → ℕ → ℕ → CellAnswer
+kindNames kind e+ e- r+ r- = cond (ltb kind 3) (Good (cellBy kind e+ e- r+ r-)) Bad
+
 -- the cell that nine bytes are
 unfoldable pub cellOf : List ℕ → CellAnswer
 cellOf bs = cond (eqb (length bs) cellSize) (kindCell (byteAt bs 0) (numberAt bs 1 2) (numberAt bs 3 2) (numberAt bs 5 2) (numberAt bs 7 2)) Bad
+
+-- the cell that nine bytes name by their kind, whatever the counts: where they are a cell, it is that one
+unfoldable pub knownCell : List ℕ → CellAnswer
+knownCell bs = cond (eqb (length bs) cellSize) (kindNames (byteAt bs 0) (numberAt bs 1 2) (numberAt bs 3 2) (numberAt bs 5 2) (numberAt bs 7 2)) Bad
 
 -- one value where bytes are no cell, else one by the cell that they are
 abbrev pub ifGood : {A : Type 0} → CellAnswer → A → (Cell → A) → A

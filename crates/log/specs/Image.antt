@@ -5,7 +5,7 @@ use mathlib.Core.List.{List, [], _∷_, _++_}
 use lib.ListN.{take, drop, length, getD}
 use Rattle.words.specs.Place.{Apart, written}
 use Rattle.log.specs.Header.{headerSize, headerBytes}
-use Rattle.log.specs.Cell.{cellSize, cellOf, cellBytes, IsCell}
+use Rattle.log.specs.Cell.{cellSize, cellOf, knownCell, cellBytes, IsCell}
 use Rattle.log.specs.declared.header.Header.{Header}
 use Rattle.log.specs.declared.cell.Cell.{Cell}
 use Rattle.log.specs.declared.cell.CellAnswer.{CellAnswer}
@@ -25,6 +25,10 @@ OutsideCell i j = Apart j 1 (cellStart i) cellSize
 -- the cell with index i, read
 unfoldable pub cellAt : List ℕ → ℕ → CellAnswer
 cellAt s i = cellOf (take cellSize (drop (cellStart i) s))
+
+-- the cell with index i, by its kind alone
+unfoldable pub knownAt : List ℕ → ℕ → CellAnswer
+knownAt s i = knownCell (take cellSize (drop (cellStart i) s))
 
 -- the image with another cell at index i
 unfoldable pub putCell : List ℕ → ℕ → Cell → List ℕ

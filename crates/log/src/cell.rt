@@ -1,7 +1,7 @@
 // A cell of the log: what is known of one interval, in nine bytes.
 ghost use mathlib.Core.Path.{_≡_};
 ghost use Rattle.words.specs.Place.{written};
-ghost use Rattle.log.specs.Cell.{cellOf, cellBytes, kindBytes, kindCell, kindFits, cellBy, noCounts, kindOf, e+Of, e-Of, r+Of, r-Of};
+ghost use Rattle.log.specs.Cell.{cellOf, cellBytes, kindBytes, kindCell, kindFits, kindNames, knownCell, noCounts, kindOf, e+Of, e-Of, r+Of, r-Of};
 
 pub enum Cell {
     // No well-formed reply with result 0 came.
@@ -42,13 +42,29 @@ pub fn cell_of(bytes: &[u8]) -> CellAnswer
     )
 }
 
+// The cell of bytes that were seen to be one: it goes by the kind alone.
+pub fn known_cell(bytes: &[u8]) -> CellAnswer
+    ensures { λ r. ⌜ r ≡ knownCell (now (bytes .entry)) ⌝ }
+{
+    if bytes.len() != CELL_BYTES {
+        return CellAnswer::Bad;
+    }
+    cell_by(
+        words::byte_at(bytes, 0),
+        words::u16_at(bytes, 1),
+        words::u16_at(bytes, 3),
+        words::u16_at(bytes, 5),
+        words::u16_at(bytes, 7),
+    )
+}
+
 // The cell of a kind and four counts.
 fn kind_cell(kind: u8, ep: u16, em: u16, rp: u16, rm: u16) -> CellAnswer
     ensures { λ r. ⌜ r ≡ kindCell kind ep em rp rm ⌝ }
 {
     // Whether it is one comes first, and is nearly always so; what it is comes then, with nothing left to guess.
     if kind_fits(kind, no_counts(ep, em, rp, rm)) {
-        return CellAnswer::Good(cell_by(kind, ep, em, rp, rm));
+        return cell_by(kind, ep, em, rp, rm);
     }
     CellAnswer::Bad
 }
@@ -57,23 +73,26 @@ fn kind_cell(kind: u8, ep: u16, em: u16, rp: u16, rm: u16) -> CellAnswer
 fn kind_fits(kind: u8, none: bool) -> bool
     ensures { λ r. ⌜ r ≡ kindFits kind none ⌝ }
 {
+    // With other kinds out of the way, one of the two tests is the other's opposite.
+    if MEASURED < kind {
+        return false;
+    }
     if none {
         return kind < MEASURED;
     }
     kind == MEASURED
 }
 
-// The cell that a kind names.
-fn cell_by(kind: u8, ep: u16, em: u16, rp: u16, rm: u16) -> Cell
-    ensures { λ r. ⌜ r ≡ cellBy kind ep em rp rm ⌝ }
+// The cell that a kind names. Each kind has an arm of its own, so that the compiler sees the cell's variant in the kind itself.
+fn cell_by(kind: u8, ep: u16, em: u16, rp: u16, rm: u16) -> CellAnswer
+    ensures { λ r. ⌜ r ≡ kindNames kind ep em rp rm ⌝ }
 {
-    if kind == GAP {
-        return Cell::Gap;
+    match kind {
+        GAP => CellAnswer::Good(Cell::Gap),
+        EMPTY => CellAnswer::Good(Cell::Empty),
+        MEASURED => CellAnswer::Good(Cell::Measured(ep, em, rp, rm)),
+        _ => CellAnswer::Bad,
     }
-    if kind == EMPTY {
-        return Cell::Empty;
-    }
-    Cell::Measured(ep, em, rp, rm)
 }
 
 // Whether none of four counts is above zero.

@@ -2,7 +2,7 @@
 ghost use mathlib.Core.Path.{_≡_};
 ghost use Rattle.words.specs.Place.{written};
 ghost use Rattle.log.specs.Cell.{cellBytes};
-ghost use Rattle.log.specs.Image.{cellAt, putCell, applied};
+ghost use Rattle.log.specs.Image.{cellAt, knownAt, putCell, applied};
 use crate::cell::CELL_BYTES;
 use crate::cell::Cell;
 use crate::cell::CellAnswer;
@@ -15,11 +15,13 @@ pub enum Change {
     Put(usize, Cell),
 }
 
+// The last index whose cell a slice can reach: the place of a later one might wrap.
+const INDEX_MOST: usize = (usize::MAX - HEADER_BYTES - CELL_BYTES) / CELL_BYTES;
+
 pub fn cell_at(log: &[u8], i: usize) -> CellAnswer
     ensures { λ r. ⌜ r ≡ cellAt (now (log .entry)) i ⌝ }
 {
-    // A larger index lies past the end, and its place might wrap.
-    if log.len() / CELL_BYTES <= i {
+    if INDEX_MOST < i {
         return CellAnswer::Bad;
     }
     let from = HEADER_BYTES + CELL_BYTES * i;
@@ -30,11 +32,26 @@ pub fn cell_at(log: &[u8], i: usize) -> CellAnswer
     crate::cell::cell_of(&log[from..to])
 }
 
+// A cell that was seen to be good, by its kind alone.
+pub fn known_at(log: &[u8], i: usize) -> CellAnswer
+    ensures { λ r. ⌜ r ≡ knownAt (now (log .entry)) i ⌝ }
+{
+    if INDEX_MOST < i {
+        return CellAnswer::Bad;
+    }
+    let from = HEADER_BYTES + CELL_BYTES * i;
+    let to = from + CELL_BYTES;
+    if log.len() < to {
+        return CellAnswer::Bad;
+    }
+    crate::cell::known_cell(&log[from..to])
+}
+
 // As far as the image has room for it.
 pub fn put_cell(log: &mut [u8], i: usize, c: Cell)
     ensures { λ _. ⌜ now (log .exit) ≡ putCell (now (log .entry)) i c ⌝ }
 {
-    if log.len() / CELL_BYTES <= i {
+    if INDEX_MOST < i {
         return;
     }
     let from = HEADER_BYTES + CELL_BYTES * i;

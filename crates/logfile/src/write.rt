@@ -63,14 +63,14 @@ fn put_file(log: &[u8], h: log::Header, out: &mut [u8])
     frame::seal(out, HEADER_BYTES + ROW_BYTES * cells);
 }
 
-// Its rows, one by one.
+// Its rows, one by one. All cells were seen to be good, and none is tested again.
 fn put_rows(log: &[u8], cells: usize, out: &mut [u8])
     requires { ⌜ (allGood (seenFrom (cellAt (now log)) 0 cells) ≡ true) × (rowStart cells ≤ length (now out)) ⌝ }
     ensures { λ _. ⌜ now (out .exit) ≡ written (now (out .entry)) headerSize (rowsBytes (goods (seenFrom (cellAt (now (log .entry))) 0 cells))) ⌝ }
 {
     let mut i = 0;
     while i < cells {
-        let log::CellAnswer::Good(c) = log::cell_at(log, i) else {
+        let log::CellAnswer::Good(c) = log::known_at(log, i) else {
             return;
         };
         crate::row::put_row(out, i, c);

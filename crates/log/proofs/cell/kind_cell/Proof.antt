@@ -1,6 +1,6 @@
--- `kind_cell` meets its contract: whether the kind fits its counts is `kindCell`'s one test, and the cell is that of the kind.
-use Rattle.log.specs.declared.cell.CellAnswer.the-variants.{Good}
+-- `kind_cell` meets its contract: whether the kind fits its counts is `kindCell`'s one test, and a kind that fits names a cell (`fits-named`).
 use Rattle.log.specs.Cell.{kindFits, kindCell}
+use Rattle.log.proofs.CellLaws.{fits-named}
 use mathlib.Core.Bool.{Bool}
 use mathlib.Core.Path.{sym, ap, _∙_}
 use borrow.Author.Needs.{needs}
@@ -21,7 +21,8 @@ unfolding kindCell
 returns c =
     let at-args = c .before .before .before .before .args in
     let at-no-counts = c .before .before .before .no-counts in
-    simp (ap (kindFits (at-args .kind)) (sym (at-no-counts .ensures)) ∙ sym (c .before .before .kind-fits .ensures) ∙ c .before .if1 .taken) (ap Good (c .cell-by .ensures))
+    let fits = ap (kindFits (at-args .kind)) (sym (at-no-counts .ensures)) ∙ sym (c .before .before .kind-fits .ensures) ∙ c .before .if1 .taken in
+    simp (fits) (c .cell-by .ensures ∙ fits-named _ _ _ _ _ _ fits)
 
 returns-2 : tie.Need-returns-2
 unfolding kindCell

@@ -1,6 +1,6 @@
 -- `put_rows` meets its contract: the loop keeps that the rows left, written from row i on, give the whole result; no cell is bad, and it ends as they run out.
 use Rattle.log.specs.declared.cell.Cell.{Cell}
-use Rattle.logfile.proofs.WalkLaws.{goodFrom, goodsFrom, walk-starts, not-bad, still-good, next-cell, cells-end}
+use Rattle.logfile.proofs.WalkLaws.{goodFrom, goodsFrom, known-cell, walk-starts, here-good, not-bad, still-good, next-cell, cells-end}
 use Rattle.logfile.proofs.RowLaws.{length-putRow, row-put}
 use Rattle.logfile.specs.Row.{rowStart, rowsBytes}
 use Rattle.log.specs.Image.{cellAt}
@@ -30,8 +30,8 @@ loop-holds c =
     let at-args = c .before .before .args in
     (omega arith, refl, walk-starts (cellAt (at-args .log .now)) (c .before .before .args .cells) ∙ c .before .before .pre .0, rw sub-zero)
 
-cell-at-requires : tie.Need-cell-at-requires Inv-loop μ-loop
-cell-at-requires c κs = search needs
+known-at-requires : tie.Need-known-at-requires Inv-loop μ-loop
+known-at-requires c κs = search needs
 
 enum-known-c : tie.Need-enum-known-c Inv-loop μ-loop
 enum-known-c c = search needs
@@ -49,7 +49,10 @@ returns c =
     let at-args = c .before .before .before .before .before .before .before .args in
     let at-loop = c .before .before .before .before .loop in
     let at-loop-test = c .before .before .before .loop-test in
-    absurd (not-bad (cellAt (at-args .log .now)) (at-loop .i) (at-args .cells) (at-loop-test .taken) (at-loop .inv .2) (sym (c .before .before .cell-at .ensures) ∙ c .enum-told .given .1))
+    let cell = cellAt (at-args .log .now) in
+    let more = at-loop-test .taken in
+    let same = known-cell (at-args .log .now) (at-loop .i) (here-good cell (at-loop .i) (at-args .cells) more (at-loop .inv .2)) in
+    absurd (not-bad cell (at-loop .i) (at-args .cells) more (at-loop .inv .2) (sym same ∙ sym (c .before .before .known-at .ensures) ∙ c .enum-told .given .1))
 
 put-row-requires : tie.Need-put-row-requires Inv-loop μ-loop
 put-row-requires c κs =
@@ -68,15 +71,16 @@ loop-again c =
     let at-loop = c .before .before .before .before .before .before .before .before .before .loop in
     let at-args = c .before .before .before .before .before .before .before .before .before .before .before .before .args in
     let at-loop-test = c .before .before .before .before .before .before .before .before .loop-test in
-    let at-cell-at = c .before .before .before .before .before .before .before .cell-at in
+    let at-known-at = c .before .before .before .before .before .before .before .known-at in
     let at-c = c .before .before .before .before .before .c in
     let cell = cellAt (at-args .log .now) in
     let s = at-loop .out in
     let i = at-loop .i in
     let n = at-args .cells in
     let put = c .before .before .put-row .ensures in
-    let seen = sym (at-cell-at .ensures) ∙ at-c .given .1 in
-    let more = at-loop-test .taken in (
+    let more = at-loop-test .taken in
+    let same = known-cell (at-args .log .now) i (here-good cell i n more (at-loop .inv .2)) in
+    let seen = sym same ∙ sym (at-known-at .ensures) ∙ at-c .given .1 in (
       omega arith,
       ap length put ∙ length-putRow s i _ ∙ at-loop .inv .1,
       still-good cell i n more _ seen (at-loop .inv .2),
@@ -104,7 +108,7 @@ put-rows-spec =
     Inv-loop
     μ-loop
     loop-holds
-    cell-at-requires
+    known-at-requires
     enum-known-c
     enum-told
     same-length
