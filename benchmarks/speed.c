@@ -31,10 +31,10 @@ static void seal(void)
     file[IMAGE + 1] = (uint8_t)(crc >> 8);
 }
 
-// 62 days of 15 minutes from 2024-05-17, Ke 100: an eighth gaps, an eighth empty, the rest measured.
+// 62 days of 15 minutes from 2024-05-17, Ke 100, with the seasons followed: an eighth gaps, an eighth empty, the rest measured.
 static void make_file(void)
 {
-    static const uint8_t head[14] = {'G', 'E', 'L', 1, 0, 24, 5, 17, DAYS, 15, 100, 0, 0, 0};
+    static const uint8_t head[14] = {'G', 'E', 'L', 2, 0, 24, 5, 17, DAYS, 15, 100, 0, 1, 0};
     memset(file, 0, sizeof file);
     memcpy(file, head, sizeof head);
     for (size_t i = 0; i < DAYS * SLOTS; i++) {
@@ -103,7 +103,7 @@ static void same_read(size_t n, size_t room)
 
 static void same_report(size_t n, unsigned day, size_t room)
 {
-    uint32_t ours[8], c[8];
+    uint32_t ours[METLAZUEL_ROW + 1], c[METLAZUEL_ROW + 1];
     memset(ours, 0xEE, sizeof ours);
     memset(c, 0xEE, sizeof c);
     uint8_t a = metlazuel_day_report(file, n, (uint8_t)day, ours, room), b = c_day_report(file, n, (uint8_t)day, c, room);
@@ -297,6 +297,57 @@ static void compare_log(void)
         same_take(ask, 4, r, n);
 }
 
+// The cells of the hour from 02:00 on, on a day of the log.
+static uint8_t *hour_of(unsigned day)
+{
+    return file + 14 + 9 * (day * SLOTS + 8);
+}
+
+// A log in which the last Sunday of March or October is this day: its neighbours and slots, and its file with and without cells that are no
+// gaps in the hour, of both versions, with and without seasons.
+static void compare_night(unsigned day)
+{
+    uint8_t ask[5] = {1, 1, (uint8_t)day, 0, 0x55}, r[14] = {1, 3, 36, 0, 9}, hour[36];
+    memcpy(hour, hour_of(day), sizeof hour);
+    seal_frame(r, 14);
+    for (unsigned d = day == 0 ? 0 : day - 1; d <= day + 1; d++)
+        same_report(IMAGE, d, METLAZUEL_ROW);
+    for (ask[3] = 6; ask[3] < 14; ask[3]++)
+        same_take(ask, 4, r, 14);
+    for (int gaps = 0; gaps < 2; gaps++) {
+        for (int k = 0; k < 4; k++) {
+            file[3] = (uint8_t)(1 + k / 2), file[12] = (uint8_t)(k % 2);
+            seal();
+            same_read(FULL, FULL);
+            same_write(IMAGE, FULL);
+        }
+        memset(hour_of(day), 0, sizeof hour);
+    }
+    memcpy(hour_of(day), hour, sizeof hour);
+    seal();
+}
+
+// The season days of every year, each as the first, a middle and the last day of a log.
+static void compare_nights(void)
+{
+    static const uint8_t length[13] = {0, 31, 28, 31, 30, 31, 30, 31, 31, 30, 31, 30, 31};
+    static const unsigned places[] = {0, 1, 30, DAYS - 1};
+    uint8_t start[8];
+    memcpy(start, file + 5, sizeof start);
+    for (unsigned year = 0; year < 100; year++)
+        for (unsigned month = 3; month <= 10; month += 7)
+            for (size_t k = 0; k < sizeof places / sizeof places[0]; k++) {
+                unsigned m = month, d = 31 - (year + year / 4 + (month == 3 ? 5 : 2)) % 7;
+                for (unsigned back = places[k]; back > 0; back--)
+                    if (--d == 0)
+                        m--, d = length[m] + (unsigned)(m == 2 && year % 4 == 0);
+                file[5] = (uint8_t)year, file[6] = (uint8_t)m, file[7] = (uint8_t)d;
+                compare_night(places[k]);
+            }
+    memcpy(file + 5, start, sizeof start);
+    seal();
+}
+
 static void compare(void)
 {
     same_read(FULL, IMAGE);
@@ -306,13 +357,13 @@ static void compare(void)
     for (size_t n = 0; n < 40; n++) {
         same_read(n, FULL);
         same_read(FULL - n, FULL);
-        same_report(IMAGE - n, 0, 8);
-        same_report(n, 0, 8);
+        same_report(IMAGE - n, 0, METLAZUEL_ROW + 1);
+        same_report(n, 0, METLAZUEL_ROW + 1);
         same_crc(n, n);
         same_crc(n, 8 * n);
     }
     for (unsigned day = 0; day < 256; day++)
-        for (size_t room = 6; room < 9; room++)
+        for (size_t room = METLAZUEL_ROW - 1; room <= METLAZUEL_ROW + 1; room++)
             same_report(IMAGE, day, room);
     // Each value of each header byte, under the old CRC and under a right one.
     for (size_t i = 0; i < 14; i++) {
@@ -320,7 +371,7 @@ static void compare(void)
         for (unsigned v = 0; v < 256; v++) {
             file[i] = (uint8_t)v;
             same_read(FULL, FULL);
-            same_report(IMAGE, 3, 7);
+            same_report(IMAGE, 3, METLAZUEL_ROW);
             seal();
             same_read(FULL, FULL);
         }
@@ -334,7 +385,7 @@ static void compare(void)
         for (unsigned month = 0; month < 14; month++)
             for (unsigned day = 0; day < 33; day++) {
                 file[5] = (uint8_t)year, file[6] = (uint8_t)month, file[7] = (uint8_t)day;
-                same_report(IMAGE, 61, 7);
+                same_report(IMAGE, 61, METLAZUEL_ROW);
             }
     memcpy(file + 5, start, 4);
     // A byte of a cell changed, under the old CRC and sealed again.
@@ -346,7 +397,7 @@ static void compare(void)
         file[kind] = (uint8_t)(roll() % 4);
         seal();
         same_read(FULL, FULL);
-        same_report(IMAGE, (unsigned)((kind - 14) / 9 / SLOTS), 7);
+        same_report(IMAGE, (unsigned)((kind - 14) / 9 / SLOTS), METLAZUEL_ROW);
         file[kind] = kind_was;
         file[i] = was;
         seal();
@@ -366,7 +417,7 @@ static double now(void)
 
 static volatile unsigned sink;
 static size_t length;
-static uint32_t row[7];
+static uint32_t row[METLAZUEL_ROW];
 
 static void ours_crc(void) { sink += metlazuel_crc16(file, IMAGE); }
 static void appendix_crc(void) { sink += c_crc_appendix(file, IMAGE); }
@@ -381,8 +432,8 @@ static void fold_read(void) { sink += c_read_file(c_crc_fold, file, FULL, c_out,
 static void ours_write(void) { sink += metlazuel_write_file(file, IMAGE, ours_out, FULL, &length); }
 static void plain_write(void) { sink += c_write_file(c_crc_appendix, file, IMAGE, c_out, FULL, &length); }
 static void fold_write(void) { sink += c_write_file(c_crc_fold, file, IMAGE, c_out, FULL, &length); }
-static void ours_report(void) { sink += metlazuel_day_report(file, IMAGE, 30, row, 7); }
-static void plain_report(void) { sink += c_day_report(file, IMAGE, 30, row, 7); }
+static void ours_report(void) { sink += metlazuel_day_report(file, IMAGE, 30, row, METLAZUEL_ROW); }
+static void plain_report(void) { sink += c_day_report(file, IMAGE, 30, row, METLAZUEL_ROW); }
 
 static uint8_t clock_frame[8] = {1, 3, 32, 0, 0, 0}, last_frame[8] = {1, 3, 36, 5, 31, 95}, absent_frame[8] = {1, 3, 36, 6, 31, 95};
 static uint8_t displayed_frame[8] = {1, 4, 36, 0, 0, 0};
@@ -552,6 +603,7 @@ int main(int words, char **word)
     }
     compare();
     compare_log();
+    compare_nights();
     compare_bench();
     compare_meter();
     printf("compared: %lu calls answered alike, %lu of them refusals\n\n", compared, refused);

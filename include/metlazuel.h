@@ -12,8 +12,8 @@
 #include <stddef.h>
 #include <stdint.h>
 
-// What is declared here, as major * 10000 + minor * 100 + patch: 3.0.0. What is there today stays as it is while the major number does.
-#define METLAZUEL_VERSION 30000
+// What is declared here, as major * 10000 + minor * 100 + patch: 4.0.0. What is there today stays as it is while the major number does.
+#define METLAZUEL_VERSION 40000
 
 #ifdef __cplusplus
 extern "C" {
@@ -33,7 +33,7 @@ enum metlazuel_answer {
     METLAZUEL_BY_ADDRESS_ZERO = 16,   // meter: a change or a zeroing by address 0
     METLAZUEL_NO_ASK_OPEN = 20,
     METLAZUEL_ASK_ALREADY_OPEN = 21,
-    METLAZUEL_NOT_IN_LOG = 22,        // an interval or a day that the log does not have
+    METLAZUEL_NOT_IN_LOG = 22,        // an interval or a day that the log does not have, and a slot that does not exist
     METLAZUEL_METER_REFUSED = 24,     // a well-formed reply whose result is not 0
     METLAZUEL_OTHER_COUNTS = 25,      // a reply with other counts than those measured
     METLAZUEL_NOT_FINITE = 26,        // a reply of floats with an infinity or no number
@@ -44,7 +44,7 @@ enum metlazuel_answer {
     METLAZUEL_FILE_HEADER = 32,
     METLAZUEL_FILE_LENGTH = 33,
     METLAZUEL_FILE_CRC = 34,
-    METLAZUEL_FILE_CELL = 35,
+    METLAZUEL_FILE_CELL = 35,         // a cell that is none, or another than a gap in a slot that does not exist
     METLAZUEL_MERCURY_FORM = 40,      // Mercury 206: a frame with a wrong length, CRC, address or command
     METLAZUEL_MERCURY_DIGIT = 41,     // Mercury 206: a figure with a half-byte above 9
     METLAZUEL_REPLY_LENGTH = 50,      // a reply that is not well formed: of a wrong length,
@@ -66,7 +66,7 @@ enum {
     METLAZUEL_LOG_BYTES = METLAZUEL_HEADER_BYTES + 62 * 96 * METLAZUEL_CELL_BYTES, // the longest log's image: 62 days of 96 slots
     METLAZUEL_FILE_BYTES = METLAZUEL_LOG_BYTES + 2, // and its file, with a CRC
     METLAZUEL_COUNTS = 4,          // the counts of a cell, in 16-bit numbers: E+, E-, R+, R-
-    METLAZUEL_ROW = 7,             // a day's report, in 32-bit numbers
+    METLAZUEL_ROW = 8,             // a day's report, in 32-bit numbers
     METLAZUEL_FIGURES = 24,        // the most figures of a reply, in 32-bit numbers
     METLAZUEL_MERCURY_REQUEST_BYTES = 7, // a Mercury 206's request
     METLAZUEL_MERCURY_FIGURES = 8, // the most figures of its replies, in 32-bit numbers
@@ -108,6 +108,11 @@ uint16_t metlazuel_crc16(const uint8_t *bytes, size_t n);
 // *length; a refusal leaves both. The other calls are lent exactly these bytes. A slot's cell is a gap as long as no well-formed reply with
 // result 0 came for it; empty where such replies came and all were zeros, which the meter answers for a slice that it does not have, too;
 // and else measured, with the counts of the first such reply that was not all zeros.
+//
+// A log follows the automatic seasons or does not. Where it does, the last Sunday of March has no time between 02:00 and 03:00: those slots
+// (4 and 5 of 30 minutes, 8 to 11 of 15) do not exist on that day. Their cells stay gaps, but they are NOT_IN_LOG to metlazuel_ask,
+// metlazuel_take and metlazuel_cell, and neither the report nor the next gap counts them. On the last Sunday of October that hour comes twice
+// under one key: its slots are logged as any other, and the report tells how many of them are measured.
 
 // What a cell is.
 enum metlazuel_kind {
@@ -121,13 +126,14 @@ enum metlazuel_kind {
 // written by hand may be one that every call refuses.
 enum {
     METLAZUEL_AT_MARK = 0,     // of the header: the letters GEL
-    METLAZUEL_AT_VERSION = 3,  //   1, two bytes
+    METLAZUEL_AT_VERSION = 3,  //   2, two bytes
     METLAZUEL_AT_YEAR = 5,     //   from 2000 on
     METLAZUEL_AT_MONTH = 6,
     METLAZUEL_AT_DAY = 7,
     METLAZUEL_AT_DAYS = 8,
     METLAZUEL_AT_MINUTES = 9,
-    METLAZUEL_AT_KE = 10,      //   two bytes, and two zero bytes behind them
+    METLAZUEL_AT_KE = 10,      //   two bytes
+    METLAZUEL_AT_SEASONS = 12, //   1 where the automatic seasons are followed, else 0; a zero byte behind it
     METLAZUEL_AT_KIND = 0,     // of a cell: one of enum metlazuel_kind
     METLAZUEL_AT_EPLUS = 1,    //   the counts, two bytes each
     METLAZUEL_AT_EMINUS = 3,
@@ -139,17 +145,17 @@ enum {
 enum { METLAZUEL_NO_GAP = 255 };
 
 // A fresh log, all gaps, that starts on a date (the year counts from 2000) and has 1 to 62 days of slots of 15 or 30 minutes, and ke
-// milliwatt-hours a count. OUT_OF_RANGE, TOO_SHORT, else DONE.
+// milliwatt-hours a count; seasons is 1 where it follows the automatic seasons, else 0. OUT_OF_RANGE, TOO_SHORT, else DONE.
 uint8_t metlazuel_log_fresh(uint8_t *log, size_t room, uint8_t year, uint8_t month, uint8_t day, uint8_t days, uint8_t minutes,
-                            uint16_t ke, size_t *length);
+                            uint16_t ke, uint8_t seasons, size_t *length);
 
 // The cell of a slot of a day, both counted from 0: its kind to *kind, one of enum metlazuel_kind, and its counts E+, E-, R+, R- to counts,
 // zeros unless it is measured. UNSOUND (log), NOT_IN_LOG, UNSOUND (the cell), else DONE. A refusal leaves both.
 uint8_t metlazuel_cell(const uint8_t *log, size_t n, uint8_t day, uint8_t slot, uint8_t *kind, uint16_t counts[METLAZUEL_COUNTS]);
 
 // The first slot of a day, from a slot on, whose cell is a gap, to *slot; METLAZUEL_NO_GAP where there is none, also from a slot on that
-// the day does not have. A damaged cell is no gap: metlazuel_cell and metlazuel_day_report find it. UNSOUND (log), NOT_IN_LOG (the day),
-// else DONE, found or not. A refusal leaves *slot. All gaps of a day:
+// the day does not have. A damaged cell is no gap: metlazuel_cell and metlazuel_day_report find it; nor is one of a slot that does not exist.
+// UNSOUND (log), NOT_IN_LOG (the day), else DONE, found or not. A refusal leaves *slot. All gaps of a day:
 //   for (uint8_t slot = 0; metlazuel_next_gap(log, n, day, slot, &slot) == METLAZUEL_DONE && slot != METLAZUEL_NO_GAP; slot++)
 uint8_t metlazuel_next_gap(const uint8_t *log, size_t n, uint8_t day, uint8_t from, uint8_t *slot);
 
@@ -172,14 +178,17 @@ uint8_t metlazuel_lapse(uint8_t *ask, size_t size);
 uint8_t metlazuel_take(uint8_t *log, size_t n, uint8_t *ask, size_t size, const uint8_t *reply, size_t bytes, uint8_t *result,
                        size_t *length);
 
-// A day's report, the days counted from 0: the number of gaps, empty and measured cells, then the sums of E+, E-, R+ and R-, to the front
-// of a row of at least METLAZUEL_ROW numbers. TOO_SHORT, UNSOUND (log), NOT_IN_LOG, UNSOUND (a cell of the day), else DONE.
+// A day's report, the days counted from 0: the number of gaps, empty and measured cells of the slots that exist, then the sums of E+, E-, R+
+// and R-, and how many of the measured slots came twice (0 but on the last Sunday of October, where seasons are followed), to the front of
+// a row of at least METLAZUEL_ROW numbers. TOO_SHORT, UNSOUND (log), NOT_IN_LOG, UNSOUND (a cell of an existing slot of the day), else DONE.
 uint8_t metlazuel_day_report(const uint8_t *log, size_t n, uint8_t day, uint32_t *row, size_t room);
 
-// A log, written as a file to the front of out, its length to *length. UNSOUND (header, length), TOO_SHORT, UNSOUND (a cell), else DONE.
+// A log, written as a file of version 2 to the front of out, its length to *length. UNSOUND (header, length), TOO_SHORT, UNSOUND (a cell, also
+// one that is no gap in a slot that does not exist), else DONE.
 uint8_t metlazuel_write_file(const uint8_t *log, size_t n, uint8_t *out, size_t room, size_t *length);
 
-// A file, read as a log to the front of out, the image's length to *length. FILE_MARK to FILE_CELL, TOO_SHORT, else DONE.
+// A file of version 2, or of version 1, which follows no seasons, read as a log to the front of out, the image's length to *length. FILE_MARK to
+// FILE_CELL, TOO_SHORT, else DONE.
 uint8_t metlazuel_read_file(const uint8_t *file, size_t n, uint8_t *out, size_t room, size_t *length);
 
 // ---- read requests and their replies, without a log

@@ -1,6 +1,6 @@
 // A day in small: a bench meter with one slice, a log that asks it for the first three half hours, its cells and gaps, the day's report,
-// the log's file, the meter's clock and powers read without a log, and a Mercury 206. What it prints stands in example.out; `tests/c/run` builds, runs and
-// compares it, as C and as C++.
+// the log's file, the meter's clock and powers read without a log, the two days on which the seasons change, and a Mercury 206. What it prints
+// stands in example.out; `tests/c/run` builds, runs and compares it, as C and as C++.
 #include <stdio.h>
 #include <stdlib.h>
 #include <string.h>
@@ -93,11 +93,11 @@ static void show_cells(size_t n)
     expect("next_gap", metlazuel_next_gap(image, n, 1, 0, &first), METLAZUEL_NOT_IN_LOG);
 }
 
-static void report(size_t n)
+static void report(size_t n, const char *date)
 {
     uint32_t row[METLAZUEL_ROW];
     expect("day_report", metlazuel_day_report(image, n, 0, row, METLAZUEL_ROW), METLAZUEL_DONE);
-    printf("date gap empty measured E+ E- R+ R-\n2024-05-17");
+    printf("date gap empty measured E+ E- R+ R- doubled\n%s", date);
     for (int i = 0; i < METLAZUEL_ROW; i++)
         printf(" %u", (unsigned)row[i]);
     printf("\n");
@@ -162,6 +162,24 @@ static void show_displayed(void)
            power_of(f[3]));
 }
 
+// A log of the last Sunday of March, which has no half past two, and one of October's, which has it twice under one key.
+static void show_seasons(void)
+{
+    uint8_t ask[METLAZUEL_ASK_BYTES] = {0}, frame[METLAZUEL_REQUEST_BYTES], reply[METLAZUEL_FRAME_BYTES], result, slot;
+    size_t n, received;
+    expect("log_fresh", metlazuel_log_fresh(image, sizeof image, 24, 3, 31, 1, 30, 100, 1, &n), METLAZUEL_DONE);
+    expect("ask", metlazuel_ask(image, n, ask, sizeof ask, METER, 0, 5, frame, sizeof frame), METLAZUEL_NOT_IN_LOG);
+    expect("next_gap", metlazuel_next_gap(image, n, 0, 4, &slot), METLAZUEL_DONE);
+    printf("31 March, from slot 4 on: the next gap is slot %u\n", slot);
+    report(n, "2024-03-31");
+    expect("meter_slice", metlazuel_meter_slice(record, sizeof record, store, sizeof store, 10, 27, 5, 7, 0, 0, 0), METLAZUEL_DONE);
+    expect("log_fresh", metlazuel_log_fresh(image, sizeof image, 24, 10, 27, 1, 30, 100, 1, &n), METLAZUEL_DONE);
+    expect("ask", metlazuel_ask(image, n, ask, sizeof ask, METER, 0, 5, frame, sizeof frame), METLAZUEL_DONE);
+    size_t length = exchange(frame, reply);
+    expect("take", metlazuel_take(image, n, ask, sizeof ask, reply, length, &result, &received), METLAZUEL_DONE);
+    report(n, "2024-10-27");
+}
+
 // A Mercury 206 beside it: a command sent to the bench and its reply decoded; another meter's request gets no answer.
 static size_t read_mercury(uint8_t command, uint32_t *figures)
 {
@@ -203,14 +221,15 @@ int main(void)
 {
     size_t n;
     make_meter();
-    expect("log_fresh", metlazuel_log_fresh(image, sizeof image, 24, 5, 17, 1, 30, 100, &n), METLAZUEL_DONE);
+    expect("log_fresh", metlazuel_log_fresh(image, sizeof image, 24, 5, 17, 1, 30, 100, 0, &n), METLAZUEL_DONE);
     fill(n);
     show_cells(n);
-    report(n);
+    report(n, "2024-05-17");
     save(n);
     show_clock();
     show_powers();
     show_displayed();
+    show_seasons();
     show_mercury();
     return 0;
 }

@@ -4,7 +4,7 @@
 #include <string.h>
 #include "metlazuel.h"
 
-enum { METER = 7, DAYS = 62, MINUTES = 15, KE = 0x1234, PASSWORD_BYTES = 8 };
+enum { METER = 7, DAYS = 62, MINUTES = 15, KE = 0x1234, SEASONS = 1, PASSWORD_BYTES = 8 };
 
 static uint8_t record[METLAZUEL_RECORD_BYTES], store[METLAZUEL_STORE_BYTES + 1];
 static uint8_t image[METLAZUEL_LOG_BYTES], file[METLAZUEL_FILE_BYTES];
@@ -27,26 +27,30 @@ static unsigned two_bytes(const uint8_t *at)
 static void longest_log(void)
 {
     size_t n = 0, length = 0;
-    check("a shorter log's room", metlazuel_log_fresh(image, sizeof image - 1, 24, 5, 17, DAYS, MINUTES, KE, &n) == METLAZUEL_TOO_SHORT);
-    check("a log's room", metlazuel_log_fresh(image, sizeof image, 24, 5, 17, DAYS, MINUTES, KE, &n) == METLAZUEL_DONE);
+    check("a shorter log's room",
+          metlazuel_log_fresh(image, sizeof image - 1, 24, 5, 17, DAYS, MINUTES, KE, SEASONS, &n) == METLAZUEL_TOO_SHORT);
+    check("a log's room", metlazuel_log_fresh(image, sizeof image, 24, 5, 17, DAYS, MINUTES, KE, SEASONS, &n) == METLAZUEL_DONE);
     check("a log's length", n == METLAZUEL_LOG_BYTES);
     check("a shorter file's room", metlazuel_write_file(image, n, file, sizeof file - 1, &length) == METLAZUEL_TOO_SHORT);
     check("a file's room", metlazuel_write_file(image, n, file, sizeof file, &length) == METLAZUEL_DONE);
     check("a file's length", length == METLAZUEL_FILE_BYTES);
-    check("a longer log", metlazuel_log_fresh(image, sizeof image, 24, 5, 17, DAYS + 1, MINUTES, KE, &n) == METLAZUEL_OUT_OF_RANGE);
+    check("a longer log",
+          metlazuel_log_fresh(image, sizeof image, 24, 5, 17, DAYS + 1, MINUTES, KE, SEASONS, &n) == METLAZUEL_OUT_OF_RANGE);
+    check("seasons of 2", metlazuel_log_fresh(image, sizeof image, 24, 5, 17, DAYS, MINUTES, KE, 2, &n) == METLAZUEL_OUT_OF_RANGE);
 }
 
 static void header_bytes(void)
 {
     check("mark", memcmp(image + METLAZUEL_AT_MARK, "GEL", 3) == 0);
-    check("version", two_bytes(image + METLAZUEL_AT_VERSION) == 1);
+    check("version", two_bytes(image + METLAZUEL_AT_VERSION) == 2);
     check("year", image[METLAZUEL_AT_YEAR] == 24);
     check("month", image[METLAZUEL_AT_MONTH] == 5);
     check("day", image[METLAZUEL_AT_DAY] == 17);
     check("days", image[METLAZUEL_AT_DAYS] == DAYS);
     check("minutes", image[METLAZUEL_AT_MINUTES] == MINUTES);
     check("Ke", two_bytes(image + METLAZUEL_AT_KE) == KE);
-    check("two zero bytes", two_bytes(image + METLAZUEL_AT_KE + 2) == 0);
+    check("seasons", image[METLAZUEL_AT_SEASONS] == SEASONS);
+    check("a zero byte", image[METLAZUEL_HEADER_BYTES - 1] == 0);
 }
 
 // Puts the CRC behind n bytes, and says how many they are then.
@@ -136,7 +140,53 @@ static void report_row(void)
     uint32_t row[METLAZUEL_ROW];
     check("a shorter row", metlazuel_day_report(image, sizeof image, 0, row, METLAZUEL_ROW - 1) == METLAZUEL_TOO_SHORT);
     check("a row", metlazuel_day_report(image, sizeof image, 0, row, METLAZUEL_ROW) == METLAZUEL_DONE && row[0] == 0 && row[1] == 95
-                       && row[2] == 1 && row[6] == 0x0504);
+                       && row[2] == 1 && row[6] == 0x0504 && row[METLAZUEL_ROW - 1] == 0);
+}
+
+// A day of 96 slots that all have empty cells, but one measured at 02:45, where the seasons change.
+static size_t season_day(uint8_t *day, uint8_t month, uint8_t date)
+{
+    size_t n = 0;
+    uint8_t *cells = day + METLAZUEL_HEADER_BYTES;
+    check("a season day", metlazuel_log_fresh(day, METLAZUEL_HEADER_BYTES + 96 * METLAZUEL_CELL_BYTES, 24, month, date, 1, MINUTES, KE, SEASONS, &n)
+                              == METLAZUEL_DONE);
+    for (size_t i = 0; i < 96; i++)
+        cells[i * METLAZUEL_CELL_BYTES + METLAZUEL_AT_KIND] = METLAZUEL_KIND_EMPTY;
+    cells[11 * METLAZUEL_CELL_BYTES + METLAZUEL_AT_KIND] = METLAZUEL_KIND_MEASURED;
+    cells[11 * METLAZUEL_CELL_BYTES + METLAZUEL_AT_EPLUS] = 9;
+    return n;
+}
+
+// On the last Sunday of March slots 8 to 11 of 15 minutes do not exist, and a cell that is no gap there cannot be written out.
+static void march(void)
+{
+    uint8_t day[METLAZUEL_HEADER_BYTES + 96 * METLAZUEL_CELL_BYTES], out[sizeof day + 2], kind, slot;
+    uint16_t counts[METLAZUEL_COUNTS];
+    uint32_t row[METLAZUEL_ROW];
+    size_t n = season_day(day, 3, 31), length;
+    check("a cell of no slot", metlazuel_cell(day, n, 0, 8, &kind, counts) == METLAZUEL_NOT_IN_LOG
+                                   && metlazuel_cell(day, n, 0, 11, &kind, counts) == METLAZUEL_NOT_IN_LOG);
+    check("the cells beside them", metlazuel_cell(day, n, 0, 7, &kind, counts) == METLAZUEL_DONE
+                                       && metlazuel_cell(day, n, 0, 12, &kind, counts) == METLAZUEL_DONE);
+    check("a report of March", metlazuel_day_report(day, n, 0, row, METLAZUEL_ROW) == METLAZUEL_DONE && row[0] == 0 && row[1] == 92
+                                   && row[2] == 0 && row[3] == 0 && row[METLAZUEL_ROW - 1] == 0);
+    check("no file of it", metlazuel_write_file(day, n, out, sizeof out, &length) == METLAZUEL_UNSOUND);
+    memset(day + METLAZUEL_HEADER_BYTES + 8 * METLAZUEL_CELL_BYTES, 0, 4 * METLAZUEL_CELL_BYTES);
+    check("no gap in no slot", metlazuel_next_gap(day, n, 0, 0, &slot) == METLAZUEL_DONE && slot == METLAZUEL_NO_GAP);
+    check("a file of it", metlazuel_write_file(day, n, out, sizeof out, &length) == METLAZUEL_DONE && length == sizeof out);
+    out[METLAZUEL_HEADER_BYTES + 8 * METLAZUEL_CELL_BYTES + METLAZUEL_AT_KIND] = METLAZUEL_KIND_EMPTY;
+    seal(out, n);
+    check("a file's cell of no slot", metlazuel_read_file(out, sizeof out, day, sizeof day, &length) == METLAZUEL_FILE_CELL);
+}
+
+// On the last Sunday of October they come twice, and the measured one is told so.
+static void october(void)
+{
+    uint8_t day[METLAZUEL_HEADER_BYTES + 96 * METLAZUEL_CELL_BYTES];
+    uint32_t row[METLAZUEL_ROW];
+    size_t n = season_day(day, 10, 27);
+    check("a report of October", metlazuel_day_report(day, n, 0, row, METLAZUEL_ROW) == METLAZUEL_DONE && row[0] == 0 && row[1] == 95
+                                     && row[2] == 1 && row[3] == 9 && row[METLAZUEL_ROW - 1] == 1);
 }
 
 // The parameters that can be read: the request, how many figures the reply has, and one of them, as the meter was made.
@@ -334,11 +384,16 @@ static void file_answers(void)
     size_t length;
     damaged_file("a file's mark", METLAZUEL_AT_MARK, 'g', 1, METLAZUEL_FILE_MARK);
     damaged_file("a file's version", METLAZUEL_AT_VERSION, 9, 1, METLAZUEL_FILE_VERSION);
+    damaged_file("version 1 with seasons", METLAZUEL_AT_VERSION, 1, 1, METLAZUEL_FILE_HEADER);
     damaged_file("a file's header", METLAZUEL_AT_MONTH, 13, 1, METLAZUEL_FILE_HEADER);
+    damaged_file("a file's seasons", METLAZUEL_AT_SEASONS, 2, 1, METLAZUEL_FILE_HEADER);
     damaged_file("a file's length", METLAZUEL_AT_DAYS, 1, 1, METLAZUEL_FILE_LENGTH);
     damaged_file("a file's CRC", METLAZUEL_HEADER_BYTES, METLAZUEL_KIND_EMPTY, 0, METLAZUEL_FILE_CRC);
     damaged_file("a file's cell", METLAZUEL_HEADER_BYTES, METLAZUEL_KIND_MEASURED, 1, METLAZUEL_FILE_CELL);
     check("the file itself", metlazuel_read_file(file, sizeof file, image, sizeof image, &length) == METLAZUEL_DONE);
+    file[METLAZUEL_AT_SEASONS] = 0;
+    damaged_file("a file of version 1", METLAZUEL_AT_VERSION, 1, 1, METLAZUEL_DONE);
+    check("its log", image[METLAZUEL_AT_VERSION] == 2 && image[METLAZUEL_AT_SEASONS] == 0);
 }
 
 // The Mercury 206's commands, lengths and numbers, and the longest row.
@@ -386,6 +441,8 @@ int main(void)
     empty_cell();
     gaps();
     report_row();
+    march();
+    october();
     parameters();
     functions();
     meter_answers();

@@ -28,7 +28,7 @@ fn lines() {
 
 fn log_lines() {
     put(b"\nThe log and the reader:\n");
-    put(b"    log YEAR MONTH DAY DAYS MINUTES KE: 0\n");
+    put(b"    log YEAR MONTH DAY DAYS MINUTES KE SEASONS: 0\n");
     put(b"    load PATH: 0; ? where the file cannot be read\n");
     put(b"    save PATH: 0; ? where the file cannot be written\n");
     put(b"    ask ADDRESS DAY SLOT: 0 FRAME\n");
@@ -36,7 +36,7 @@ fn log_lines() {
     put(b"    reply BYTES: 0; 24 RESULT; 50 LENGTH\n");
     put(b"    open: 0 closed; 0 ADDRESS DAY SLOT\n");
     put(b"    cell DAY SLOT: 0 gap; 0 empty; 0 measured E+ E- R+ R-\n");
-    put(b"    report DAY: 0 GAPS EMPTIES MEASURED E+ E- R+ R-\n");
+    put(b"    report DAY: 0 GAPS EMPTIES MEASURED E+ E- R+ R- DOUBLED\n");
 }
 
 fn reader_lines() {

@@ -48,23 +48,24 @@ keptLoaded read kept = ifRead read kept (λ n. record { length = n; held = Close
 abbrev pub loadedLog : Kept → Outcome ReadAnswer (List ℕ) → Outcome Kept (List ℕ)
 loadedLog kept o = outcome (keptLoaded (o .result) kept) (o .left)
 
--- MONTH DAY DAYS MINUTES KE behind the year
+-- MONTH DAY DAYS MINUTES KE SEASONS behind the year
 abbrev pub headerIn : List ℕ → ℕ → Header
 headerIn line year = record {
   start = record { year = year; month = byteIn line 2; day = byteIn line 3 };
   days = byteIn line 4;
   minutes = byteIn line 5;
   ke = shortIn line 6;
+  seasons = byteIn line 7;
 }
 
 unfoldable pub freshIn : YearAnswer → List ℕ → List ℕ → Kept → Outcome Kept (List ℕ)
 freshIn (Year year) line image kept = newLog kept (freshOf (headerIn line year) image)
 freshIn OutOfRange line image kept = outcome kept image
 
--- YEAR MONTH DAY DAYS MINUTES KE; a line that cannot be read leaves all as it was
+-- YEAR MONTH DAY DAYS MINUTES KE SEASONS; a line that cannot be read leaves all as it was
 unfoldable pub freshLine : List ℕ → List ℕ → Kept → Outcome Kept (List ℕ)
 freshLine line image kept =
-    cond (isForm line (65535 ∷ 255 ∷ 255 ∷ 255 ∷ 255 ∷ 65535 ∷ [])) (freshIn (yearOf (shortIn line 1)) line image kept) (outcome kept image)
+    cond (isForm line (65535 ∷ 255 ∷ 255 ∷ 255 ∷ 255 ∷ 65535 ∷ 255 ∷ [])) (freshIn (yearOf (shortIn line 1)) line image kept) (outcome kept image)
 
 -- the ask of an address, a day and a slot; its frame is printed
 unfoldable pub askedFor : List ℕ → Kept → ℕ → ℕ → ℕ → Kept

@@ -38,11 +38,11 @@ fn unread(kept: Kept) -> Kept
     kept
 }
 
-// YEAR MONTH DAY DAYS MINUTES KE
+// YEAR MONTH DAY DAYS MINUTES KE SEASONS
 pub fn fresh(line: &[u8], image: &mut [u8], kept: Kept) -> Kept
     ensures { λ r. ⌜ outcome r (now (image .exit)) ≡ freshLine (now (line .entry)) (now (image .entry)) kept ⌝ }
 {
-    if console::is_form(line, &[SHORT, BYTE, BYTE, BYTE, BYTE, SHORT]) {
+    if console::is_form(line, &[SHORT, BYTE, BYTE, BYTE, BYTE, SHORT, BYTE]) {
         return fresh_from(line, image, kept);
     }
     unread(kept)
@@ -65,6 +65,7 @@ fn fresh_from(line: &[u8], image: &mut [u8], kept: Kept) -> Kept
         days: byte(line, 4),
         minutes: byte(line, 5),
         ke: console::short(line, 6),
+        seasons: byte(line, 7),
     };
     fresh_of(header, image, kept)
 }
@@ -306,4 +307,5 @@ fn say_row(row: [u32; dayreport::REPORT_NUMBERS]) {
     say::number(row[4] as u64);
     say::number(row[5] as u64);
     say::number(row[6] as u64);
+    say::number(row[7] as u64);
 }

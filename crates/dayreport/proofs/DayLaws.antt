@@ -3,7 +3,7 @@ use Prim.Native.Nat.{ℕ, zero, suc, _+_, _*_, _^_, _<_, _≤_}
 use mathlib.Core.Path.{_≡_, refl, sym, ap, _∙_}
 use mathlib.Core.List.{List, [], _∷_, _++_, append-nil}
 use native.Mathlib.Omega.{arith}
-use mathlib.Core.Bool.{true}
+use mathlib.Core.Bool.{Bool, true}
 use lib.Dec.{ltb}
 use lib.ListN.{length, getD, take, drop}
 use Rattle.refusal.specs.Outcome.{Outcome, outcome}
@@ -15,21 +15,21 @@ use Rattle.slots.specs.Day.{slotsOf}
 use Rattle.slots.proofs.DayLaws.{slotsMost, slots-at-most}
 use borrow.Author.Tests.{le-ltb}
 use Rattle.log.specs.Header.{daysMost, cellsOf, isHeader, soundOf}
-use Rattle.log.specs.Interval.{dayDate}
+use Rattle.log.specs.Interval.{dayDate, existsAt, comesTwiceAt}
 use Rattle.log.specs.declared.interval.DayAnswer.{DayAnswer}
 use Rattle.log.specs.declared.interval.DayAnswer.the-variants.{On, Outside}
 use Rattle.log.specs.declared.header.Lent.the-variants.{Sound}
 use Rattle.log.proofs.HeaderLaws.{header-ranges, sound-log, by-sound}
 use Rattle.log.specs.Image.{imageOf, allGood, goods, AllCells}
-use Rattle.log.specs.View.{View, viewOf}
+use Rattle.log.specs.View.{View, viewOf, seenWhere}
 use Rattle.log.proofs.ViewLaws.{AreCells, view-image}
 use Rattle.log.proofs.IntervalLaws.{day-on}
 use Rattle.dayreport.specs.Tallies.{AtMost, talliesOf, rowOf}
 use Rattle.dayreport.specs.declared.tallies.Tallies.{Tallies}
-use Rattle.dayreport.specs.Report.{figures, dayCells, reportIn, reportOf}
+use Rattle.dayreport.specs.Report.{figures, dayCells, twiceCells, reportIn, reportOf}
 use Rattle.dayreport.proofs.TalliesLaws.{at-most-more, cells-most}
 use Rattle.dayreport.proofs.TextLaws.{line-most, Never, text-fits}
-use Rattle.dayreport.proofs.ReportLaws.{report-seen}
+use Rattle.dayreport.proofs.ReportLaws.{dayAmong, report-seen}
 use Rattle.log.specs.declared.header.Header.{Header}
 use Rattle.log.specs.declared.cell.Cell.{Cell}
 use Rattle.dayreport.specs.Day.{reportedText, datedText, zeros, dayOnText, dayText}
@@ -46,10 +46,10 @@ dated-by date a b row out o p q =
 pub day-text-image : (h : Header) (cs : List Cell) (d : ℕ) (out : List ℕ) → isHeader h ≡ true → length cs ≡ cellsOf h → AllCells cs
     → d < h .days
     → dayText (viewOf (imageOf h cs)) d out
-    ≡ putText (lineText (dateOf (dayNumber (h .start) + d)) (figures (take (slotsOf (h .minutes)) (drop (d * slotsOf (h .minutes)) cs)))) out
+    ≡ putText (lineText (dateOf (dayNumber (h .start) + d)) (figures (dayAmong (existsAt h) h cs d) (dayAmong (comesTwiceAt h) h cs d))) out
 unfolding dayText dayOnText datedText reportedText
 day-text-image h cs d out e l k day =
-    ap (λ (v : View). dayText v d out) (view-image h cs e l k) ∙ simp (day-on h d e day, report-seen h cs d zeros l day (omega arith), append-nil)
+    ap (λ (v : View). dayText v d out) (view-image h cs e l k) ∙ simp (day-on h d e day, report-seen h cs d l day zeros (omega arith), append-nil)
 
 -- ---- past the most days that a log has
 
@@ -80,29 +80,35 @@ more-below : (n : ℕ) (ns : List ℕ) → n < 2 ^ 32 → Below ns → Below (n 
 more-below n ns l f zero = l
 more-below n ns l f (suc i) = f i
 
-row-below : (t : Tallies) → AtMost (65535 * slotsMost) t → Below (rowOf t)
+row-below : (t : Tallies) (k : ℕ) → AtMost (65535 * slotsMost) t → k ≤ 65535 * slotsMost → Below (rowOf t k)
 unfolding rowOf
-row-below t a =
-    let rm = more-below (t .rm) [] (omega arith) none-below in
-    let rp = more-below (t .rp) (t .rm ∷ []) (omega arith) rm in
-    let em = more-below (t .em) (t .rp ∷ t .rm ∷ []) (omega arith) rp in
-    let ep = more-below (t .ep) (t .em ∷ t .rp ∷ t .rm ∷ []) (omega arith) em in
-    let measured = more-below (t .measured) (t .ep ∷ t .em ∷ t .rp ∷ t .rm ∷ []) (omega arith) ep in
-    let empties = more-below (t .empties) (t .measured ∷ t .ep ∷ t .em ∷ t .rp ∷ t .rm ∷ []) (omega arith) measured in
-    more-below (t .gaps) (t .empties ∷ t .measured ∷ t .ep ∷ t .em ∷ t .rp ∷ t .rm ∷ []) (omega arith) empties
+row-below t k a b =
+    let doubled = more-below k [] (omega arith) none-below in
+    let rm = more-below (t .rm) (k ∷ []) (omega arith) doubled in
+    let rp = more-below (t .rp) (t .rm ∷ k ∷ []) (omega arith) rm in
+    let em = more-below (t .em) (t .rp ∷ t .rm ∷ k ∷ []) (omega arith) rp in
+    let ep = more-below (t .ep) (t .em ∷ t .rp ∷ t .rm ∷ k ∷ []) (omega arith) em in
+    let measured = more-below (t .measured) (t .ep ∷ t .em ∷ t .rp ∷ t .rm ∷ k ∷ []) (omega arith) ep in
+    let empties = more-below (t .empties) (t .measured ∷ t .ep ∷ t .em ∷ t .rp ∷ t .rm ∷ k ∷ []) (omega arith) measured in
+    more-below (t .gaps) (t .empties ∷ t .measured ∷ t .ep ∷ t .em ∷ t .rp ∷ t .rm ∷ k ∷ []) (omega arith) empties
 
 module _ (v : View) (are : AreCells (v .cell)) (d : ℕ) (out : List ℕ) (room : lineMost ≤ length out) where
-  day-at-most : (h : Header) → AtMost (65535 * slotsMost) (talliesOf (goods (dayCells (v .cell) h d)))
-  unfolding dayCells
-  day-at-most h =
+  where-most : (there : ℕ → Bool) (h : Header)
+      → AtMost (65535 * slotsMost) (talliesOf (goods (seenWhere there (v .cell) (d * slotsOf (h .minutes)) (slotsOf (h .minutes)))))
+  where-most there h =
       let n = slotsOf (h .minutes) in
-      at-most-more (65535 * n) (65535 * slotsMost) _ (omega (arith, slots-at-most (h .minutes))) (cells-most (v .cell) are (d * n) n)
+      at-most-more (65535 * n) (65535 * slotsMost) _ (omega (arith, slots-at-most (h .minutes))) (cells-most there (v .cell) are (d * n) n)
 
-  figures-room : (date : Date) (h : Header) → length (lineText date (figures (goods (dayCells (v .cell) h d)) ++ [])) ≤ length out
-  unfolding figures rowOf
+  abbrev row : Header → List ℕ
+  row h = figures (goods (dayCells (v .cell) h d)) (goods (twiceCells (v .cell) h d))
+
+  figures-room : (date : Date) (h : Header) → length (lineText date (row h ++ [])) ≤ length out
+  unfolding figures rowOf dayCells twiceCells
   figures-room date h =
-      let cells = goods (dayCells (v .cell) h d) in
-      rw append-nil (omega (arith, line-most date (figures cells) refl (row-below (talliesOf cells) (day-at-most h))))
+      let all = goods (dayCells (v .cell) h d) in
+      let twice = goods (twiceCells (v .cell) h d) in
+      let below = row-below (talliesOf all) (talliesOf twice .measured) (where-most (existsAt h) h) (where-most (comesTwiceAt h) h .measured) in
+      rw append-nil (omega (arith, line-most date (row h) refl below))
 
   dated-line : (date : Date) → Never 1 (datedText date (reportOf v d zeros) out)
   unfolding datedText reportedText reportOf reportIn

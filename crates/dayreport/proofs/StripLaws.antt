@@ -1,15 +1,16 @@
--- What follows from the definition of a day's strip: its length, the turns of the walk over the day's cells, its parts written one behind the
+-- What follows from the definition of a day's strip: its length, the turns of the walk over the day's slots, its parts written one behind the
 -- other; what it says of an image; where there is none; and that there is always room for it. Assumes nothing.
-use Prim.Native.Nat.{ℕ, _+_, _*_, _-_, _<_, _≤_}
+use Prim.Native.Nat.{ℕ, zero, suc, _+_, _*_, _-_, _<_, _≤_}
 use native.Mathlib.Nat.{zero-add}
 use native.Mathlib.Omega.{arith}
 use mathlib.Core.Path.{_≡_, refl, sym, ap, _∙_}
-use mathlib.Core.Bool.{Bool, true, false, cond}
-use mathlib.Core.List.{List, [], _∷_, _++_, map}
-use lib.ListN.{length, take, drop, length-append, length-map}
+use mathlib.Core.Bool.{Bool, true}
+use mathlib.Core.List.{List, [], _∷_, _++_}
+use lib.ListN.{length, length-append}
 use Rattle.refusal.specs.Outcome.{outcome}
 use Rattle.words.specs.Place.{written}
 use Rattle.words.proofs.PlaceLaws.{written-append}
+use Rattle.case_laws.proofs.Test.{either}
 use Rattle.calendar.specs.Date.{dayNumber, dateOf}
 use Rattle.calendar.specs.declared.date.Date.{Date}
 use Rattle.text.specs.DateText.{dateText}
@@ -17,9 +18,9 @@ use Rattle.text.proofs.DateTextLaws.{length-dateText}
 use Rattle.slots.specs.Day.{slotsOf}
 use Rattle.slots.proofs.DayLaws.{slotsMost, slots-at-most}
 use Rattle.log.specs.Header.{daysMost, cellsOf, isHeader, soundOf}
-use Rattle.log.specs.Image.{imageOf, allGood, goods, AllCells}
-use Rattle.log.specs.View.{View, viewOf, seenFrom}
-use Rattle.log.specs.Interval.{dayDate}
+use Rattle.log.specs.Image.{imageOf, allGood, AllCells}
+use Rattle.log.specs.View.{View, viewOf}
+use Rattle.log.specs.Interval.{dayDate, existsAt}
 use Rattle.log.proofs.HeaderLaws.{by-sound}
 use Rattle.log.proofs.IntervalLaws.{day-on}
 use Rattle.log.specs.declared.interval.DayAnswer.{DayAnswer}
@@ -27,101 +28,90 @@ use Rattle.log.specs.declared.interval.DayAnswer.the-variants as day
 use Rattle.log.specs.declared.header.Header.{Header}
 use Rattle.log.specs.declared.cell.Cell.{Cell}
 use Rattle.log.specs.declared.cell.CellAnswer.{CellAnswer}
-use Rattle.log.specs.declared.cell.CellAnswer.the-variants.{Good, Bad}
 use Rattle.dayreport.specs.Report.{dayCells}
 use Rattle.dayreport.specs.Text.{space, lineFeed, dateSize, putText}
-use Rattle.dayreport.specs.Strip.{mark, marksAt, stripOf, stripDated, stripOn, stripText}
+use Rattle.dayreport.specs.Strip.{mark, marksAt, marksFrom, dayMarks, stripOf, stripDated, stripOn, stripText}
 use Rattle.dayreport.specs.declared.answer.TextAnswer.the-variants.{Unsound}
-use Rattle.log.proofs.ViewLaws.{length-seenFrom, seen-next, view-image}
+use Rattle.log.proofs.ViewLaws.{cellIn, view-image}
 use Rattle.dayreport.proofs.TextLaws.{Never, text-fits}
 use Rattle.dayreport.proofs.DayLaws.{day-past}
-use Rattle.dayreport.proofs.ReportLaws.{length-goods, all-good, good-cells, day-seen}
+use Rattle.dayreport.proofs.ReportLaws.{all-good, day-seen}
 
 -- ---- how long a strip is
 
-pub length-strip : (d : Date) (cs : List Cell) → length (stripOf d cs) ≡ marksAt + length cs + 1
+pub length-strip : (d : Date) (marks : List ℕ) → length (stripOf d marks) ≡ marksAt + length marks + 1
 unfolding stripOf
-length-strip d cs = simp (length-append, length-dateText, length-map) (omega arith)
+length-strip d marks = simp (length-append, length-dateText) (omega arith)
 
--- the cells of so many slots are as many, where all are good
-pub as-many : (cell : ℕ → CellAnswer) (i n : ℕ) → allGood (seenFrom cell i n) ≡ true → length (goods (seenFrom cell i n)) ≡ n
-as-many cell i n e = length-goods (seenFrom cell i n) e ∙ length-seenFrom cell i n
+length-marks : (there : ℕ → Bool) (cell : ℕ → CellAnswer) (i n : ℕ) → length (marksFrom there cell i n) ≡ n
+unfolding marksFrom
+length-marks there cell i zero = refl
+length-marks there cell i (suc n) = ap suc (length-marks there cell (suc i) n)
+
+-- a mark a slot
+pub length-day-marks : (cell : ℕ → CellAnswer) (h : Header) (d : ℕ) → length (dayMarks cell h d) ≡ slotsOf (h .minutes)
+unfolding dayMarks
+length-day-marks cell h d = length-marks (existsAt h) cell (d * slotsOf (h .minutes)) (slotsOf (h .minutes))
 
 -- no strip is longer
 abbrev pub stripMost : ℕ
 stripMost = marksAt + slotsMost + 1
 
--- ---- the walk over the cells
+-- ---- the walk over the slots
 
-module _ (cell : ℕ → CellAnswer) (first i n : ℕ) (l : i < n) where
-  abbrev left : List CellAnswer
-  left = seenFrom cell (first + i) (n - i)
+-- a day's marks are those of its slots, as many as were found for the interval
+pub day-marks : (cell : ℕ → CellAnswer) (h : Header) (d n : ℕ) → n ≡ slotsOf (h .minutes) → marksFrom (existsAt h) cell (d * n) n ≡ dayMarks cell h d
+unfolding dayMarks
+day-marks cell h d n e = ap (λ (k : ℕ). marksFrom (existsAt h) cell (d * k) k) e
 
-  abbrev after : List CellAnswer
-  after = seenFrom cell (first + (i + 1)) (n - (i + 1))
+module _ (there : ℕ → Bool) (cell : ℕ → CellAnswer) (first i n : ℕ) (l : i < n) where
+  abbrev after : List ℕ
+  after = marksFrom there cell (first + (i + 1)) (n - (i + 1))
 
-  good-left : (c : Cell) → cell (first + i) ≡ Good c → left ≡ Good c ∷ after
-  good-left c p = seen-next cell first i n l ∙ ap (λ (a : CellAnswer). a ∷ after) p
+  marks-next : marksFrom there cell (first + i) (n - i) ≡ mark (there (first + i)) (cell (first + i)) ∷ after
+  unfolding marksFrom
+  marks-next =
+      let e : n - i ≡ suc (n - (i + 1)) = omega arith in
+      let f : suc (first + i) ≡ first + (i + 1) = omega arith in
+      rw (e, ← f)
 
-  pub marks-stop : cell (first + i) ≡ Bad → allGood left ≡ false
-  unfolding allGood
-  marks-stop p = ap allGood (seen-next cell first i n l ∙ ap (λ (a : CellAnswer). a ∷ after) p)
-
-  pub marks-good : (c : Cell) → cell (first + i) ≡ Good c → allGood after ≡ allGood left
-  unfolding allGood
-  marks-good c p = sym (ap allGood (good-left c p))
-
-  -- the cell's own mark, and behind it those that are left
-  pub marks-on : (c : Cell) (line : List ℕ) → cell (first + i) ≡ Good c
-      → written (written line (marksAt + i) (mark c ∷ [])) (marksAt + (i + 1)) (map mark (goods after)) ≡ written line (marksAt + i) (map mark (goods left))
-  unfolding goods
-  marks-on c line p =
+  -- the slot's own mark, and behind it those that are left
+  pub marks-on : (m : ℕ) (line : List ℕ) → m ≡ mark (there (first + i)) (cell (first + i))
+      → written (written line (marksAt + i) (m ∷ [])) (marksAt + (i + 1)) after ≡ written line (marksAt + i) (marksFrom there cell (first + i) (n - i))
+  marks-on m line p =
       let e : marksAt + (i + 1) ≡ marksAt + i + 1 = omega arith in
-      ap (λ (k : ℕ). written (written line (marksAt + i) (mark c ∷ [])) k (map mark (goods after))) e
-      ∙ sym (written-append line (marksAt + i) (mark c ∷ []) (map mark (goods after)))
-      ∙ sym (ap (λ (read : List CellAnswer). written line (marksAt + i) (map mark (goods read))) (good-left c p))
+      ap (λ (k : ℕ). written (written line (marksAt + i) (m ∷ [])) k after) e
+      ∙ sym (written-append line (marksAt + i) (m ∷ []) after)
+      ∙ ap (written line (marksAt + i)) (ap (λ (k : ℕ). k ∷ after) p ∙ sym marks-next)
+
+pub marks-end : (there : ℕ → Bool) (cell : ℕ → CellAnswer) (i n : ℕ) → n ≡ 0 → marksFrom there cell i n ≡ []
+unfolding marksFrom
+marks-end there cell i n e = rw e refl
 
 -- ---- a strip's parts, written one behind the other
 
-pub written-strip : (s : List ℕ) (d : Date) (cs : List Cell) (n : ℕ) → length cs ≡ n
-    → written (written (written (written s 0 (dateText d)) dateSize (space ∷ [])) marksAt (map mark cs)) (marksAt + n) (lineFeed ∷ [])
-    ≡ written s 0 (stripOf d cs)
+pub written-strip : (s : List ℕ) (d : Date) (marks : List ℕ) (n : ℕ) → length marks ≡ n
+    → written (written (written (written s 0 (dateText d)) dateSize (space ∷ [])) marksAt marks) (marksAt + n) (lineFeed ∷ [])
+    ≡ written s 0 (stripOf d marks)
 unfolding stripOf
-written-strip s d cs n e =
+written-strip s d marks n e =
     let dated = written s 0 (dateText d) in
     let spaced = written dated dateSize (space ∷ []) in
-    let rest = map mark cs ++ (lineFeed ∷ []) in
-    ap (λ (k : ℕ). written (written spaced marksAt (map mark cs)) (marksAt + k) (lineFeed ∷ [])) (sym (length-map cs mark ∙ e))
-    ∙ sym (written-append spaced marksAt (map mark cs) (lineFeed ∷ []))
+    let rest = marks ++ (lineFeed ∷ []) in
+    ap (λ (k : ℕ). written (written spaced marksAt marks) (marksAt + k) (lineFeed ∷ [])) (sym e)
+    ∙ sym (written-append spaced marksAt marks (lineFeed ∷ []))
     ∙ sym (written-append dated dateSize (space ∷ []) rest)
     ∙ ap (λ (k : ℕ). written dated k (space ∷ rest)) (sym (zero-add (length (dateText d)) ∙ length-dateText d))
     ∙ sym (written-append s 0 (dateText d) (space ∷ rest))
 
--- ---- from the walk's answer to the strip
-
--- a day's cells are those of its slots, as many as were found for the interval
-pub day-cells : (cell : ℕ → CellAnswer) (h : Header) (d n : ℕ) → n ≡ slotsOf (h .minutes) → dayCells cell h d ≡ seenFrom cell (d * n) n
-unfolding dayCells
-day-cells cell h d n e = sym (ap (λ (k : ℕ). seenFrom cell (d * k) k) e)
-
-pub strip-good : (date : Date) (read : List CellAnswer) (out : List ℕ) → allGood read ≡ true
-    → putText (stripOf date (goods read)) out ≡ stripDated date read out
-unfolding stripDated
-strip-good date read out e = simp e
-
-pub strip-bad : (date : Date) (read : List CellAnswer) (out : List ℕ) → allGood read ≡ false → outcome Unsound out ≡ stripDated date read out
-unfolding stripDated
-strip-bad date read out e = simp e
-
 -- ---- the strip of an image
 
--- the strip of a day has the day's date, and a mark for each of that day's cells
+-- the strip of a day has the day's date, and a mark for each of that day's slots
 pub strip-image : (h : Header) (cs : List Cell) (d : ℕ) (out : List ℕ) → isHeader h ≡ true → length cs ≡ cellsOf h → AllCells cs → d < h .days
-    → stripText (viewOf (imageOf h cs)) d out
-    ≡ putText (stripOf (dateOf (dayNumber (h .start) + d)) (take (slotsOf (h .minutes)) (drop (d * slotsOf (h .minutes)) cs))) out
+    → stripText (viewOf (imageOf h cs)) d out ≡ putText (stripOf (dateOf (dayNumber (h .start) + d)) (dayMarks (cellIn cs) h d)) out
 unfolding stripText stripOn stripDated
 strip-image h cs d out e l k day =
-    ap (λ (v : View). stripText v d out) (view-image h cs e l k) ∙ simp (day-on h d e day, day-seen h cs d l day, all-good, good-cells)
+    ap (λ (v : View). stripText v d out) (view-image h cs e l k) ∙ simp (day-on h d e day, day-seen h cs d l day, all-good)
 
 -- ---- where there is no strip, and that there is always room
 
@@ -132,28 +122,17 @@ strip-past s d out l =
     by-sound (Never 0) (soundOf s)
     (λ p e. omega (arith, e)) (λ h p. rw (day-past s h d p l) (λ e. omega (arith, e)))
 
-dated-room : (date : Date) (read : List CellAnswer) (out : List ℕ) → length read ≤ slotsMost → stripMost ≤ length out
-    → Never 1 (stripDated date read out)
-unfolding stripDated
-dated-room date read out n l = go (allGood read) refl
-  where
-    go : (b : Bool) → allGood read ≡ b → Never 1 (cond b (putText (stripOf date (goods read)) out) (outcome Unsound out))
-    go true e = text-fits (stripOf date (goods read)) out (omega (arith, length-strip date (goods read), length-goods read e))
-    go false e = λ f. omega (arith, f)
-
-on-room : (a : DayAnswer) (read : List CellAnswer) (out : List ℕ) → length read ≤ slotsMost → stripMost ≤ length out
-    → Never 1 (stripOn a read out)
-unfolding stripOn
-on-room day.Outside read out n l e = omega (arith, e)
-on-room (day.On date) read out n l e = dated-room date read out n l e
-
-day-most : (cell : ℕ → CellAnswer) (h : Header) (d : ℕ) → length (dayCells cell h d) ≤ slotsMost
-unfolding dayCells
-day-most cell h d = rw length-seenFrom (slots-at-most (h .minutes))
+on-room : (a : DayAnswer) (read : List CellAnswer) (marks out : List ℕ) → length marks ≤ slotsMost → stripMost ≤ length out
+    → Never 1 (stripOn a read marks out)
+unfolding stripOn stripDated
+on-room day.Outside read marks out n l = λ e. omega (arith, e)
+on-room (day.On date) read marks out n l =
+    either (Never 1) (allGood read) (text-fits (stripOf date marks) out (omega (arith, length-strip date marks))) (λ e. omega (arith, e))
 
 -- the room of the longest strip is enough for each
 pub strip-room : (v : View) (d : ℕ) (out : List ℕ) → stripMost ≤ length out → Never 1 (stripText v d out)
 unfolding stripText
 strip-room v d out l =
     by-sound (Never 1) (v .lent)
-    (λ p e. omega (arith, e)) (λ h p. on-room (dayDate h d) (dayCells (v .cell) h d) out (day-most (v .cell) h d) l)
+    (λ p e. omega (arith, e))
+    (λ h p. on-room (dayDate h d) (dayCells (v .cell) h d) (dayMarks (v .cell) h d) out (omega (arith, length-day-marks (v .cell) h d, slots-at-most (h .minutes))) l)

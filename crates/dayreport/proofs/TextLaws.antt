@@ -23,8 +23,8 @@ use Rattle.dayreport.specs.Text.{textNumber, putText, numbersText, lineT
 
 -- ---- the texts
 
--- the marked example's line, `2024-05-17 46 1 1 12 0 3 0`
-example : lineText (record { year = 24; month = 5; day = 17 }) (46 ∷ 1 ∷ 1 ∷ 12 ∷ 0 ∷ 3 ∷ 0 ∷ [])
+-- the marked example's line, `2024-05-17 46 1 1 12 0 3 0`, which has a last column now
+example : lineText (record { year = 24; month = 5; day = 17 }) (46 ∷ 1 ∷ 1 ∷ 12 ∷ 0 ∷ 3 ∷ 0 ∷ 0 ∷ [])
     ≡ 50 ∷ 48 ∷ 50 ∷ 52 ∷ 45 ∷ 48 ∷ 53 ∷ 45 ∷ 49 ∷ 55 ∷ 32 ∷
     52 ∷ 54 ∷ 32 ∷
     49 ∷ 32 ∷
@@ -32,6 +32,7 @@ example : lineText (record { year = 24; month = 5; day = 17 }) (46 ∷ 1 ∷ 1 �
     49 ∷ 50 ∷ 32 ∷
     48 ∷ 32 ∷
     51 ∷ 32 ∷
+    48 ∷ 32 ∷
     48 ∷ 10 ∷ []
 unfolding lineText numbersText dateText padded decimal digits
 example = refl

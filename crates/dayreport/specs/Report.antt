@@ -1,5 +1,5 @@
 -- The day report. Source: document 01: "Day report: the number of gaps, empties and measured cells, and four sums of counts, written
--- into a lent row of 32-bit numbers."
+-- into a lent row of 32-bit numbers."; document 02, CR 5: "the report has a last column `doubled`".
 use Prim.Native.Nat.{ℕ, _*_}
 use mathlib.Core.List.{List, _++_}
 use lib.Dec.{ltb, leb}
@@ -8,7 +8,8 @@ use Rattle.refusal.specs.Outcome.{Outcome, outcome, check}
 use Rattle.slots.specs.Day.{slotsOf}
 use Rattle.log.specs.Header.{ifSound}
 use Rattle.log.specs.Image.{allGood, goods}
-use Rattle.log.specs.View.{View, seenFrom}
+use Rattle.log.specs.Interval.{existsAt, comesTwiceAt}
+use Rattle.log.specs.View.{View, seenWhere}
 use Rattle.log.specs.declared.header.Header.{Header}
 use Rattle.log.specs.declared.cell.Cell.{Cell}
 use Rattle.log.specs.declared.cell.CellAnswer.{CellAnswer}
@@ -23,18 +24,21 @@ reportNumber TooShort = 1
 reportNumber Unsound = 28
 reportNumber NotInLog = 22
 
--- "three tallies by kind, four sums of counts": "seven numbers"
+-- "three tallies by kind, four sums of counts", and `doubled`: "It is the lent row's eighth number" (CR 5)
 abbrev pub rowNumbers : ℕ
-rowNumbers = 7
+rowNumbers = 8
 
--- the row of some cells
-unfoldable pub figures : List Cell → List ℕ
-unfolding talliesOf
-figures cs = rowOf (talliesOf cs)
+-- the row of some cells, and of those among them that come twice: "counts the measured ones among them" (CR 5)
+unfoldable pub figures : List Cell → List Cell → List ℕ
+figures cs twice = rowOf (talliesOf cs) (talliesOf twice .measured)
 
--- a day's cells, in time order
+-- a day's cells, in time order, of the slots that exist: the others "aren't counted" (CR 5), whatever their bytes are
 unfoldable pub dayCells : (ℕ → CellAnswer) → Header → ℕ → List CellAnswer
-dayCells cell h d = seenFrom cell (d * slotsOf (h .minutes)) (slotsOf (h .minutes))
+dayCells cell h d = seenWhere (existsAt h) cell (d * slotsOf (h .minutes)) (slotsOf (h .minutes))
+
+-- those of the slots that come twice: "on all other days, and without 1," there are none (CR 5)
+unfoldable pub twiceCells : (ℕ → CellAnswer) → Header → ℕ → List CellAnswer
+twiceCells cell h d = seenWhere (comesTwiceAt h) cell (d * slotsOf (h .minutes)) (slotsOf (h .minutes))
 
 -- ---- the report: "1", "28 stands right after 1 (for a cell: just before it is used)", 22
 
@@ -43,7 +47,7 @@ unfoldable pub reportIn : Header → (ℕ → CellAnswer) → ℕ → List ℕ �
 reportIn h cell d row =
     check (ltb d (h .days)) (outcome NotInLog row) (
     check (allGood (dayCells cell h d)) (outcome Unsound row) (
-    outcome Done (figures (goods (dayCells cell h d)) ++ drop rowNumbers row)))
+    outcome Done (figures (goods (dayCells cell h d)) (goods (twiceCells cell h d)) ++ drop rowNumbers row)))
 
 -- 1: "lent output too short"; 28: "lent log with a wrong header, length"
 unfoldable pub reportOf : View → ℕ → List ℕ → Outcome ReportAnswer (List ℕ)

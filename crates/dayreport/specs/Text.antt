@@ -1,4 +1,4 @@
--- The day report's text, in ASCII. Source: document 01, "Marked examples": the report of a file.
+-- The day report's text, in ASCII. Source: document 01, "Marked examples": the report of a file; document 02, CR 5: "a last column `doubled`".
 use Prim.Native.Nat.{ℕ, _+_, _*_}
 use mathlib.Core.Bool.{cond}
 use mathlib.Core.List.{List, [], _∷_, _++_}
@@ -31,7 +31,7 @@ lineFeed = 10
 
 unfoldable pub headingText : List ℕ
 unfolding ascii
-headingText = ascii "date gap empty measured E+ E- R+ R-\n"
+headingText = ascii "date gap empty measured E+ E- R+ R- doubled\n"
 
 -- each number in decimal digits, behind a space
 unfoldable pub numbersText : List ℕ → List ℕ

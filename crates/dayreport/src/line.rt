@@ -24,7 +24,7 @@ pub const LINE_FEED: u8 = 10;
 pub fn put_heading(out: &mut [u8]) -> TextAnswer
     ensures { λ r. ⌜ outcome r (now (out .exit)) ≡ putText headingText (now (out .entry)) ⌝ }
 {
-    put_text(b"date gap empty measured E+ E- R+ R-\n", out)
+    put_text(b"date gap empty measured E+ E- R+ R- doubled\n", out)
 }
 
 pub fn put_line(date: Date, row: [u32; REPORT_NUMBERS], out: &mut [u8]) -> TextAnswer

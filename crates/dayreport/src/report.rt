@@ -1,4 +1,4 @@
-// The day report: how many cells of a day are gaps, empty and measured, and the sums of what was measured.
+// The day report: how many cells of a day are gaps, empty and measured, the sums of what was measured, and how many measured cells come twice.
 ghost use mathlib.Core.Path.{_≡_};
 ghost use Prim.Native.Nat.{_≤_};
 ghost use mathlib.Core.List.{_++_};
@@ -36,7 +36,7 @@ impl ReportAnswer {
     }
 }
 
-pub const REPORT_NUMBERS: usize = 7;
+pub const REPORT_NUMBERS: usize = 8;
 
 // Sets the row's first numbers; a refusal leaves it as it was.
 pub fn day_report(log: &[u8], day: u8, row: &mut [u32]) -> ReportAnswer
@@ -58,19 +58,18 @@ fn report_in(log: &[u8], h: Header, day: u8, row: &mut [u32]) -> ReportAnswer
     if h.days <= day {
         return ReportAnswer::NotInLog;
     }
-    let slots = slots::slots_of(h.minutes);
-    match crate::tallies::tally(log, (day as u16) * (slots as u16), slots) {
-        Tallied::All(t) => {
-            put_row(row, t);
+    match crate::tallies::tally(log, h, day) {
+        Tallied::All(t, doubled) => {
+            put_row(row, t, doubled);
             ReportAnswer::Done
         }
         Tallied::Bad => ReportAnswer::Unsound,
     }
 }
 
-fn put_row(row: &mut [u32], t: Tallies)
+fn put_row(row: &mut [u32], t: Tallies, doubled: u32)
     requires { ⌜ rowNumbers ≤ length (now row) ⌝ }
-    ensures { λ _. ⌜ now (row .exit) ≡ rowOf t ++ drop rowNumbers (now (row .entry)) ⌝ }
+    ensures { λ _. ⌜ now (row .exit) ≡ rowOf t doubled ++ drop rowNumbers (now (row .entry)) ⌝ }
 {
     row[0] = t.gaps;
     row[1] = t.empties;
@@ -79,4 +78,5 @@ fn put_row(row: &mut [u32], t: Tallies)
     row[4] = t.em;
     row[5] = t.rp;
     row[6] = t.rm;
+    row[7] = doubled;
 }

@@ -1,23 +1,27 @@
 // The strip of a day of a lent log: its date, and a character a slot.
 ghost use mathlib.Core.Path.{_≡_};
-ghost use mathlib.Core.Bool.{true};
-ghost use mathlib.Core.List.{map};
+ghost use mathlib.Core.Bool.{not};
 ghost use Rattle.refusal.specs.Outcome.{outcome};
 ghost use Rattle.words.specs.Place.{written};
-ghost use Rattle.log.specs.Image.{cellAt, allGood, goods};
-ghost use Rattle.log.specs.View.{viewOf, seenFrom};
+ghost use Rattle.slots.specs.Day.{slotsOf};
+ghost use Rattle.log.specs.Image.{cellAt};
+ghost use Rattle.log.specs.Interval.{nightOn};
+ghost use Rattle.log.specs.View.{viewOf};
 ghost use Rattle.dayreport.specs.Report.{dayCells};
-ghost use Rattle.dayreport.specs.Strip.{mark, marksAt, stripOf, stripDated, stripOn, stripText};
+ghost use Rattle.dayreport.specs.Text.{putText};
+ghost use Rattle.dayreport.specs.Strip.{mark, marksAt, dayMarks, stripOf, stripDated, stripOn, stripText};
 use crate::answer::TextAnswer;
 use crate::line::DATE_BYTES;
 use crate::line::LINE_FEED;
 use crate::line::SPACE;
+use crate::tallies::Tallied;
 use calendar::Date;
 use log::Cell;
 use log::CellAnswer;
 use log::DayAnswer;
 use log::Header;
 use log::Lent;
+use season_nights::Night;
 
 // Where the marks begin: behind the date and a space.
 const MARKS: usize = DATE_BYTES + 1;
@@ -35,7 +39,8 @@ pub fn put_strip(log: &[u8], day: u8, out: &mut [u8]) -> TextAnswer
 }
 
 fn put_on(log: &[u8], h: Header, on: DayAnswer, day: u8, out: &mut [u8]) -> TextAnswer
-    ensures { λ r. ⌜ outcome r (now (out .exit)) ≡ stripOn on (dayCells (cellAt (now (log .entry))) h day) (now (out .entry)) ⌝ }
+    ensures { λ r. ⌜ outcome r (now (out .exit))
+        ≡ stripOn on (dayCells (cellAt (now (log .entry))) h day) (dayMarks (cellAt (now (log .entry))) h day) (now (out .entry)) ⌝ }
 {
     match on {
         DayAnswer::On(date) => put_dated(log, h, date, day, out),
@@ -43,49 +48,57 @@ fn put_on(log: &[u8], h: Header, on: DayAnswer, day: u8, out: &mut [u8]) -> Text
     }
 }
 
+// A bad cell is found before a byte is written.
 fn put_dated(log: &[u8], h: Header, date: Date, day: u8, out: &mut [u8]) -> TextAnswer
-    ensures { λ r. ⌜ outcome r (now (out .exit)) ≡ stripDated date (dayCells (cellAt (now (log .entry))) h day) (now (out .entry)) ⌝ }
+    ensures { λ r. ⌜ outcome r (now (out .exit))
+        ≡ stripDated date (dayCells (cellAt (now (log .entry))) h day) (dayMarks (cellAt (now (log .entry))) h day) (now (out .entry)) ⌝ }
 {
-    // A bad cell shows only once it is met, and a refusal leaves what is lent as it was.
-    let mut line = [0u8; STRIP_MOST];
+    match crate::tallies::tally(log, h, day) {
+        Tallied::All(_, _) => put_marked(log, h, date, day, out),
+        Tallied::Bad => TextAnswer::Unsound,
+    }
+}
+
+fn put_marked(log: &[u8], h: Header, date: Date, day: u8, out: &mut [u8]) -> TextAnswer
+    ensures { λ r. ⌜ outcome r (now (out .exit)) ≡ putText (stripOf date (dayMarks (cellAt (now (log .entry))) h day)) (now (out .entry)) ⌝ }
+{
     let slots = slots::slots_of(h.minutes);
-    if write_strip(&mut line, date, log, (day as u16) * (slots as u16), slots) {
-        return crate::line::put_text(&line[..MARKS + slots as usize + 1], out);
+    let end = MARKS + slots as usize;
+    if out.len() <= end {
+        return TextAnswer::TooShort;
     }
-    TextAnswer::Unsound
+    text::put_date(out, 0, date);
+    words::put_byte(out, DATE_BYTES, SPACE);
+    put_marks(out, log, h, day, log::night_on(h, day), slots);
+    words::put_byte(out, end, LINE_FEED);
+    TextAnswer::Done(end + 1)
 }
 
-// Whether all the slots' cells are good; only then the line is whole.
-fn write_strip(line: &mut [u8], date: Date, log: &[u8], first: u16, slots: u8) -> bool
-    ensures { λ r. ⌜ (r ≡ allGood (seenFrom (cellAt (now (log .entry))) first slots))
-        × (r ≡ true → now (line .exit) ≡ written (now (line .entry)) 0 (stripOf date (goods (seenFrom (cellAt (now (log .entry))) first slots)))) ⌝ }
+fn put_marks(out: &mut [u8], log: &[u8], h: Header, day: u8, night: Night, slots: u8)
+    requires { ⌜ night ≡ nightOn h day ⌝ }
+    requires { ⌜ slots ≡ slotsOf (h .minutes) ⌝ }
+    ensures { λ _. ⌜ now (out .exit) ≡ written (now (out .entry)) marksAt (dayMarks (cellAt (now (log .entry))) h day) ⌝ }
 {
-    text::put_date(line, 0, date);
-    words::put_byte(line, DATE_BYTES, SPACE);
-    let good = write_marks(line, log, first, slots);
-    words::put_byte(line, MARKS + slots as usize, LINE_FEED);
-    good
-}
-
-// Stops at the first bad cell.
-fn write_marks(line: &mut [u8], log: &[u8], first: u16, slots: u8) -> bool
-    ensures { λ r. ⌜ (r ≡ allGood (seenFrom (cellAt (now (log .entry))) first slots))
-        × (r ≡ true → now (line .exit) ≡ written (now (line .entry)) marksAt (map mark (goods (seenFrom (cellAt (now (log .entry))) first slots)))) ⌝ }
-{
-    let mut i: u8 = 0;
-    while i < slots {
-        let CellAnswer::Good(c) = log::cell_at(log, first as usize + i as usize) else {
-            return false;
-        };
-        words::put_byte(line, MARKS + i as usize, mark_of(c));
-        i += 1;
+    let first = (day as usize) * (slots as usize);
+    let mut slot: u8 = 0;
+    while slot < slots {
+        let missing = season_nights::is_missing(night, h.minutes, slot);
+        let mark = mark_at(log, missing, first + slot as usize);
+        words::put_byte(out, MARKS + slot as usize, mark);
+        slot += 1;
     }
-    true
 }
 
-fn mark_of(c: Cell) -> u8
-    ensures { λ r. ⌜ r ≡ mark c ⌝ }
+// Of the slot with this cell. The cell of a slot that does not exist is not read.
+fn mark_at(log: &[u8], missing: bool, i: usize) -> u8
+    ensures { λ r. ⌜ r ≡ mark (not missing) (cellAt (now (log .entry)) i) ⌝ }
 {
+    if missing {
+        return b'-';
+    }
+    let CellAnswer::Good(c) = log::cell_at(log, i) else {
+        return b'?';
+    };
     match c {
         Cell::Gap => b'.',
         Cell::Empty => b'o',

@@ -29,9 +29,9 @@ use Rattle.meter_record.specs.declared.record.RecordAnswer.the-variants as give
 use Rattle.meter.specs.Bench as bench
 use Rattle.meter.specs.Reply.{isSound}
 use Rattle.log.specs.Fresh as fresh
-use Rattle.log.specs.Header.{headerSize, isHeader, cellsOf, lengthOf, markRight, versionRight, headerOf, ifRight, soundOf}
+use Rattle.log.specs.Header.{headerSize, isHeader, lengthOf, markRight, versionAt, ifRight}
 use Rattle.log.specs.Image.{applied, allGood}
-use Rattle.log.specs.View.{View, viewOf, seenFrom}
+use Rattle.log.specs.View.{View, viewOf}
 use Rattle.log.proofs.HeaderLaws.{by-sound}
 use Rattle.log.specs.Interval.{intervalOf, dayDate}
 use Rattle.log.proofs.IntervalLaws.{by-at}
@@ -45,7 +45,8 @@ use Rattle.dayreport.specs.declared.report.ReportAnswer.{ReportAnswer}
 use Rattle.dayreport.specs.declared.report.ReportAnswer.the-variants as reported
 use Rattle.dayreport.specs.Text as text
 use Rattle.dayreport.specs.Day as day
-use Rattle.logfile.specs.File.{fileLength, cellsGood}
+use Rattle.logfile.specs.Row.{rowAt}
+use Rattle.logfile.specs.File.{isVersion, fileHeader, fileLength, cellsRight}
 use Rattle.logfile.specs.Read as reading
 use Rattle.logfile.specs.Write as writing
 use Rattle.logger.specs.Ask as asking
@@ -173,12 +174,12 @@ unfolding reading.readFile reading.readFields reading.readCells inTable
 read-file f out =
     let P = EndsBy reading.readNumber out in
     by-check P (leb reading.markSize (length f) && markRight f) (stays 30 out refl) (
-    by-check P (versionRight f) (stays 31 out refl) (
+    by-check P (isVersion (versionAt f)) (stays 31 out refl) (
     by-check P (leb headerSize (length f)) (stays 32 out refl) (
-    by-right P (headerOf f) (stays 32 out refl) (λ h.
+    by-right P (fileHeader f) (stays 32 out refl) (λ h.
     by-check P (eqb (length f) (fileLength h)) (stays 33 out refl) (
     by-check P (crcFits f) (stays 34 out refl) (
-    by-check P (cellsGood f (cellsOf h)) (stays 35 out refl) (
+    by-check P (cellsRight h (rowAt f)) (stays 35 out refl) (
     by-check P (leb (lengthOf h) (length out)) (stays 1 out refl) (done out _))))))))
 
 pub write-file : (v : View) (out : List ℕ) → EndsBy writing.writeNumber out (writing.writtenFile v out)
@@ -187,7 +188,7 @@ write-file v out =
     let P = EndsBy writing.writeNumber out in
     by-sound P (v .lent) (λ e. stays 28 out refl) (λ h e.
     by-check P (leb (fileLength h) (length out)) (stays 1 out refl) (
-    by-check P (allGood (seenFrom (v .cell) 0 (cellsOf h))) (stays 28 out refl) (done out _)))
+    by-check P (cellsRight h (v .cell)) (stays 28 out refl) (done out _)))
 
 -- ---- asks, lapses and replies
 

@@ -8,7 +8,10 @@ use Rattle.demands.specs.Demand2Done.{Demand2Done}
 use Rattle.demands.specs.Demand3.{Demand3}
 use Rattle.demands.specs.Faults.{ReplyFaults}
 use Rattle.demands.specs.Function4.{Function4}
+use Rattle.demands.specs.Seasons.{Seasons}
 use Rattle.demands.specs.Examples.{Marked}
+use Rattle.logger.proofs.SeasonLaws as seasons-of
+use Rattle.polling.proofs.NextLaws.{next-exists}
 use Rattle.demands.proofs.Again as again
 use Rattle.demands.proofs.Alike as alike
 use Rattle.demands.proofs.Answer as answer
@@ -25,6 +28,7 @@ use Rattle.demands.proofs.Inquiry as inquiry
 use Rattle.demands.proofs.Left as left
 use Rattle.demands.proofs.Range as range
 use Rattle.demands.proofs.Replies as replies
+use Rattle.demands.proofs.Seasons as seasons-in
 
 pub demand-1 : Demand1
 demand-1 = record {
@@ -119,6 +123,18 @@ demand-3 = record {
   elsewhere = history.elsewhere;
   as-long = history.as-long;
   polled = history.polled;
+}
+
+pub seasons : Seasons
+seasons = record {
+  stay-gaps = seasons-in.stay-gaps;
+  ask-refused = seasons-of.ask-refused;
+  reply-refused = seasons-of.reply-refused;
+  never-polled = next-exists;
+  adds-up = seasons-in.adds-up;
+  none-doubled = seasons-in.none-doubled;
+  first-version = seasons-in.first-version;
+  first-version-had = seasons-in.first-version-had;
 }
 
 pub reply-faults : ReplyFaults

@@ -11,9 +11,10 @@ use Rattle.log.specs.Cell.{noCounts, kindBytes, cellBytes, kindFits, cellBy, ki
 use Rattle.log.specs.Fresh.{gaps, freshImage}
 use Rattle.log.specs.Header as log
 use Rattle.slots.specs.Day.{isMinutes, slotsOf}
-use Rattle.log.specs.Header.{cellsOf, daysRight, isHeader, dateBytes, headerBytes, headerAt, markRight, versionRight, fieldsRight, headerOf, fittedTo, soundOf}
+use Rattle.log.specs.Header.{cellsOf, daysRight, isHeader, dateBytes, headerBytesAs, headerAt, markRight, versionRight, fieldsRight, headerOf, fittedTo, soundOf}
 use Rattle.log.specs.Image.{cellAt, putCell, applied, cellsBytes, imageOf}
-use Rattle.log.specs.Interval.{intervalOf}
+use Rattle.season_nights.specs.Night.{missing}
+use Rattle.log.specs.Interval.{nightOn, exists, intervalOf}
 use Rattle.logger.specs.Ask as Ask
 use Rattle.logger.specs.Reply.{rowOf}
 use Rattle.logger.specs.Take as Take
@@ -36,8 +37,8 @@ use Rattle.demands.specs.Examples.{all, examples}
 pub together : all examples ≡ true
 unfolding all examples framed bytesOf requestFrame crcOf crcFrom byteStep eightBits times bitStep lastSunday dateOf dateAt countOff dayNumber starts
     lengthOf daysInMonth monthLengths leap runOf step Ask.asked Take.taken Take.decided Take.updated Take.updateOf Take.sameCounts rowOf formOf lengthFor functionFor headOf
-    crcFits numberAt number written isDate isMinutes slotsOf cellsOf log.lengthOf daysRight isHeader dateBytes headerBytes headerAt markRight
+    crcFits numberAt number written isDate isMinutes slotsOf cellsOf log.lengthOf daysRight isHeader dateBytes headerBytesAs headerAt markRight
     versionRight fieldsRight headerOf fittedTo soundOf noCounts kindBytes cellBytes kindFits cellBy kindCell cellOf cellAt putCell applied cellsBytes imageOf
-    intervalOf gaps freshImage verdictOf verdictBy changeVerdict checked passed argumentFits telemetryFits isTelemetry parameterByte functionOf
+    missing nightOn exists intervalOf gaps freshImage verdictOf verdictBy changeVerdict checked passed argumentFits telemetryFits isTelemetry parameterByte functionOf
     parameterOf firstOf dataFits telemetryOf telemetryBytes fresh quietSecond
 together = refl

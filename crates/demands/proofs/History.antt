@@ -19,7 +19,7 @@ use Rattle.log.specs.Fresh.{freshImage, freshNumber, freshOf, gaps}
 use Rattle.log.specs.declared.fresh.FreshAnswer.{FreshAnswer}
 use Rattle.log.specs.declared.fresh.FreshAnswer.the-variants as made
 use Rattle.log.proofs.FreshLaws.{length-gaps, length-freshImage, gap-at, fresh-front}
-use Rattle.log.specs.Header.{isHeader, cellsOf, lengthOf, soundOf}
+use Rattle.log.specs.Header.{version, isHeader, cellsOf, lengthOf, soundOf}
 use Rattle.log.specs.Image.{applied, imageOf, AllCells}
 use Rattle.log.specs.View.{viewOf}
 use Rattle.log.proofs.ViewLaws as layout
@@ -40,7 +40,7 @@ use Rattle.logfile.specs.File.{fileBytes}
 use Rattle.logfile.specs.Read.{readFile}
 use Rattle.logfile.specs.declared.read.ReadAnswer.{ReadAnswer}
 use Rattle.logfile.specs.declared.read.ReadAnswer.the-variants as read
-use Rattle.logfile.proofs.FileLaws.{length-image, accepted, read-written}
+use Rattle.logfile.proofs.FileLaws.{IsLog, known-today, seasons-today, length-image, accepted, read-written}
 use Rattle.polling.specs.Reached.{Polled}
 use Rattle.demands.specs.Demand3.{Start, begin, ran, booked, logAfresh, Elsewhere}
 
@@ -143,6 +143,7 @@ fresh-start h e = record {
   right = e;
   count = length-gaps (cellsOf h);
   each = λ i l. rw (gap-at (cellsOf h) i (rw length-gaps at l)) gap-is-cell;
+  gaps = λ i l x. gap-at (cellsOf h) i (rw length-gaps at l);
   image = refl;
 }
 
@@ -170,11 +171,15 @@ file f out n k p =
     let s = imageOf (a .header) (a .cells) in
     let front : take n y ≡ s = ap (take n) (a .given) ∙ take-at s (drop n out) n (a .size) in
     let w = a .whole in
-    subst Start (sym front) (record { header = a .header; cells = a .cells; right = w .right; count = w .count; each = w .each; image = refl })
+    subst Start (sym front) (record { header = a .header; cells = a .cells; right = w .right; count = w .count; each = w .each; gaps = w .gaps; image = refl })
 
 pub fresh-had : (h : Header) (out : List ℕ) → isHeader h ≡ true → lengthOf h ≤ length out
     → freshOf h out ≡ outcome (made.Done (lengthOf h)) (freshImage h ++ drop (lengthOf h) out)
 fresh-had h out e l = fresh-front h out e l
+
+-- what stands in a start's file
+pub start-is : {s : List ℕ} (start : Start s) → IsLog (start .header) (start .cells)
+start-is start = record { right = start .right; count = start .count; each = start .each; gaps = start .gaps }
 
 pub file-had : (s out : List ℕ) (start : Start s) → length s ≤ length out
     → readFile (fileBytes (start .header) (start .cells)) out ≡ outcome (read.Done (length s)) (s ++ drop (length s) out)
@@ -182,7 +187,7 @@ file-had s out start l =
     let h = start .header in
     let cs = start .cells in
     let size : length s ≡ lengthOf h = ap length (start .image) ∙ length-image h cs (start .count) in
-    read-written h cs (record { right = start .right; count = start .count; each = start .each }) out (omega arith)
+    read-written version h cs known-today (seasons-today h) (start-is start) out (omega arith)
     ∙ ap₂ (λ (k : ℕ) (x : List ℕ). outcome (read.Done k) (x ++ drop k out)) (sym size) (sym (start .image))
 
 module _ (s : List ℕ) (start : Start s) (calls : List Call) (k : AllBytes calls) where

@@ -17,6 +17,7 @@ pub mod Left
 pub mod Again
 pub mod Function4
 pub mod History
+pub mod Seasons
 pub mod Faults
 pub mod Examples
 pub mod Claims

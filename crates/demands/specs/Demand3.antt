@@ -1,13 +1,14 @@
 -- Demand 3. "Take a fresh log, or one read from a file, with no ask open. Then come asks, lapses and replies, refused ones included, in
--- any list and whatever bytes the replies hold. Each call that takes the log or the open ask gets it as the calls before left it."
+-- any list and whatever bytes the replies hold. Each call that takes the log or the open ask gets it as the calls before left it." Document 02, CR 5:
+-- "Demand 3 reads the same over slots that exist": the cells of the others are gaps at the start, and stay so.
 --
 -- The calls run by the definitions that the contracts of `put_ask`, `lapse` and `take_reply` cite (`logger/specs/Run.antt`). The history
 -- is the plain book's (`logger/specs/Book.antt`), which never sees an image. Proofs: `demand-3`, proofs/Claims.antt.
 use mathlib.Core.Path.{_≡_}
-use mathlib.Core.Bool.{true}
+use mathlib.Core.Bool.{true, false}
 use mathlib.Core.List.{List, _++_}
-use Prim.Native.Nat.{ℕ, _≤_}
-use lib.ListN.{length, take, drop}
+use Prim.Native.Nat.{ℕ, _≤_, _<_}
+use lib.ListN.{length, take, drop, getD}
 use Rattle.refusal.specs.Outcome.{Outcome, outcome}
 use Rattle.words.specs.Number.{Bytes}
 use Rattle.words.specs.Place.{byteAt}
@@ -15,7 +16,9 @@ use Rattle.log.specs.Fresh.{freshImage, freshOf}
 use Rattle.log.specs.declared.fresh.FreshAnswer.the-variants as made
 use Rattle.log.specs.Header.{isHeader, cellsOf, lengthOf, soundOf}
 use Rattle.log.specs.Image.{OutsideCell, imageOf, AllCells}
+use Rattle.log.specs.Interval.{existsAt}
 use Rattle.log.specs.declared.cell.Cell.{Cell}
+use Rattle.log.specs.declared.cell.Cell.the-variants.{Gap}
 use Rattle.log.specs.declared.header.Header.{Header}
 use Rattle.log.specs.declared.header.Lent.the-variants.{Sound}
 use Rattle.logfile.specs.File.{fileBytes}
@@ -34,6 +37,8 @@ pub record Start (s : List ℕ) : Type 0 where
   pub right : isHeader header ≡ true
   pub count : length cells ≡ cellsOf header
   pub each : AllCells cells
+  -- "their cells stay gap" (CR 5): those of slots that do not exist
+  pub gaps : (i : ℕ) → i < length cells → existsAt header i ≡ false → getD cells i Gap ≡ Gap
   pub image : s ≡ imageOf header cells
 
 -- the log with no ask open, and the calls run over it

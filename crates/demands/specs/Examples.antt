@@ -45,7 +45,7 @@ all (b ∷ bs) = b && all bs
 
 -- P4, P9: a fresh log that starts on 17 May
 abbrev fresh-log : List ℕ
-fresh-log = freshImage (record { start = record { year = 24; month = 5; day = 17 }; days = 1; minutes = 30; ke = 100 })
+fresh-log = freshImage (record { start = record { year = 24; month = 5; day = 17 }; days = 1; minutes = 30; ke = 100; seasons = 0 })
 
 -- P9: three replies on one cell of a fresh log
 abbrev slice-reply : ℕ → ℕ → List ℕ

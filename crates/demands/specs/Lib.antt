@@ -8,5 +8,6 @@ pub mod Demand2ByZero
 pub mod Demand2Again
 pub mod Function4
 pub mod Demand3
+pub mod Seasons
 pub mod Faults
 pub mod Examples

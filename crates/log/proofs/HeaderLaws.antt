@@ -20,9 +20,9 @@ use Rattle.calendar.specs.declared.date.Date.{Date}
 use Rattle.calendar.specs.declared.date.DateAnswer.{DateAnswer}
 use Rattle.calendar.specs.declared.date.DateAnswer.the-variants.{On, NotADate, OutOfRange}
 use Rattle.log.specs.Cell.{cellSize}
-use Rattle.log.specs.Header.{headerSize, daysMost, cellsMost, imageMost, version, ifSound, cellsOf, lengthOf, daysRight, isHeader, dateBytes, headerBytes, headerAt}
-use Rattle.log.specs.Header.{markRight, versionRight, fieldsRight, headerOf, fittedTo, soundOf}
-use Rattle.log.proofs.ByteLaws.{run, take-run, low, high, low-of, high-of, bytes-cons, bytes-append}
+use Rattle.log.specs.Header.{headerSize, daysMost, cellsMost, imageMost, version, ifSound, cellsOf, lengthOf, daysRight, isHeader, dateBytes, headerBytesAs, headerBytes, headerAt}
+use Rattle.log.specs.Header.{markRight, versionAt, versionRight, fieldsRight, headerOf, fittedTo, soundOf}
+use Rattle.log.proofs.ByteLaws.{run, take-run, low, high, low-of, high-of, bytes-nil, bytes-cons, bytes-append}
 use Rattle.log.specs.declared.header.Header.{Header}
 use Rattle.log.specs.declared.header.HeaderAnswer.the-variants.{Right, Wrong}
 use Rattle.log.specs.declared.header.Lent.{Lent}
@@ -45,11 +45,13 @@ pub record HeaderRanges (h : Header) : Type 0 where
   pub minutes : isMinutes (h .minutes) ≡ true
   pub ke-from : 1 ≤ h .ke
   pub ke-to : h .ke ≤ 65535
+  pub seasons-to : h .seasons ≤ 1
 
 pub header-ranges : (h : Header) → isHeader h ≡ true → HeaderRanges h
 unfolding isHeader daysRight
 header-ranges h e =
-    let a = both _ _ e in
+    let z = both _ _ e in
+    let a = both _ _ (z .0) in
     let b = both _ _ (a .0) in
     let c = both _ _ (b .0) in
     let d = both _ _ (c .0) in
@@ -63,6 +65,7 @@ header-ranges h e =
       minutes = c .1;
       ke-from = leb-true _ _ (b .1);
       ke-to = leb-true _ _ (a .1);
+      seasons-to = leb-true _ _ (z .1);
     }
 
 abbrev pub isOn : DateAnswer → Bool
@@ -82,38 +85,42 @@ has-date d n = go (isDate d) (ltb (dayNumber d + n) centuryDays) (dateOf (dayNum
 
 -- ---- a header and its bytes
 
-pub length-headerBytes : (h : Header) → length (headerBytes h) ≡ headerSize
-unfolding headerBytes dateBytes bytesOf
-length-headerBytes h = refl
+pub length-headerBytes : (v : ℕ) (h : Header) → length (headerBytesAs v h) ≡ headerSize
+unfolding headerBytesAs dateBytes bytesOf
+length-headerBytes v h = refl
 
-pub headerAt-bytes : (h : Header) (rest : List ℕ) → h .ke ≤ 65535 → headerAt (headerBytes h ++ rest) ≡ h
-unfolding headerAt headerBytes dateBytes bytesOf numberAt number
-headerAt-bytes h rest k =
+pub headerAt-bytes : (v : ℕ) (h : Header) (rest : List ℕ) → h .ke ≤ 65535 → headerAt (headerBytesAs v h ++ rest) ≡ h
+unfolding headerAt headerBytesAs dateBytes bytesOf numberAt number
+headerAt-bytes v h rest k =
     let e : (0 * 256 + h .ke / 256 % 256) * 256 + h .ke % 256 ≡ h .ke = omega arith in
     rw e
 
--- bytes that begin with a header's are read as that header
-module _ (h : Header) (rest : List ℕ) where
-  pub mark-right : markRight (headerBytes h ++ rest) ≡ true
-  unfolding markRight headerBytes dateBytes bytesOf
+-- bytes that begin with a header's, of whatever version, are read as that header
+module _ (v : ℕ) (h : Header) (rest : List ℕ) where
+  pub mark-right : markRight (headerBytesAs v h ++ rest) ≡ true
+  unfolding markRight headerBytesAs dateBytes bytesOf
   mark-right = refl
 
-  pub version-right : versionRight (headerBytes h ++ rest) ≡ true
-  unfolding versionRight headerBytes dateBytes bytesOf numberAt number
-  version-right = refl
+  pub version-at : v ≤ 65535 → versionAt (headerBytesAs v h ++ rest) ≡ v
+  unfolding headerBytesAs dateBytes bytesOf numberAt number
+  version-at k = let e : (0 * 256 + v / 256 % 256) * 256 + v % 256 ≡ v = omega arith in e
 
-  zeros-right : eqb (numberAt (headerBytes h ++ rest) 12 2) 0 ≡ true
-  unfolding headerBytes dateBytes bytesOf numberAt number
-  zeros-right = refl
+  zero-right : eqb (byteAt (headerBytesAs v h ++ rest) 13) 0 ≡ true
+  unfolding headerBytesAs dateBytes bytesOf
+  zero-right = refl
 
-  pub header-right : isHeader h ≡ true → headerOf (headerBytes h ++ rest) ≡ Right h
+  pub header-right : isHeader h ≡ true → headerOf (headerBytesAs v h ++ rest) ≡ Right h
   unfolding headerOf fieldsRight
-  header-right e = simp (headerAt-bytes h rest (header-ranges h e .ke-to), e, zeros-right)
+  header-right e = simp (headerAt-bytes v h rest (header-ranges h e .ke-to), e, zero-right)
 
-  -- and where they are as long as it says, they are a log
-  pub sound-bytes : isHeader h ≡ true → length (headerBytes h ++ rest) ≡ lengthOf h → soundOf (headerBytes h ++ rest) ≡ Sound h
-  unfolding soundOf fittedTo
-  sound-bytes e l = simp (mark-right, version-right, header-right e, eq-eqb _ _ l)
+pub version-right : (h : Header) (rest : List ℕ) → versionRight (headerBytes h ++ rest) ≡ true
+unfolding versionRight
+version-right h rest = eq-eqb _ _ (version-at version h rest (omega arith))
+
+-- and where they are of today's version and as long as it says, they are a log
+pub sound-bytes : (h : Header) (rest : List ℕ) → isHeader h ≡ true → length (headerBytes h ++ rest) ≡ lengthOf h → soundOf (headerBytes h ++ rest) ≡ Sound h
+unfolding soundOf fittedTo
+sound-bytes h rest e l = simp (mark-right version h rest, version-right h rest, header-right version h rest e, eq-eqb _ _ l)
 
 minutes-byte : (m : ℕ) → isMinutes m ≡ true → m < 256
 unfolding isMinutes
@@ -125,22 +132,24 @@ minutes-byte m e = go (eqb m 15) refl (eqb m 30) refl e
     go false p false q e = absurd (false≢true e)
 
 -- a right header's bytes are bytes
-pub bytes-header : (h : Header) → isHeader h ≡ true → Bytes (headerBytes h)
-unfolding headerBytes dateBytes
-bytes-header h e =
+pub bytes-header : (v : ℕ) (h : Header) → isHeader h ≡ true → Bytes (headerBytesAs v h)
+unfolding headerBytesAs dateBytes
+bytes-header v h e =
     let r = header-ranges h e in
     let d = ranges (h .start) (r .start) in
     let m = month-length (h .start .year) (h .start .month) (record { year-below = d .year-below; month-from = d .month-from; month-to = d .month-to }) in
-    let ke = bytesOf 2 (h .ke) ++ bytesOf 2 0 in
+    let seasons = h .seasons ∷ 0 ∷ [] in
+    let ke = bytesOf 2 (h .ke) ++ seasons in
     let length = h .days ∷ h .minutes ∷ ke in
     let start = h .start .year ∷ h .start .month ∷ h .start .day ∷ length in
-    let versioned = bytesOf 2 version ++ start in
+    let versioned = bytesOf 2 v ++ start in
     three 71 69 76 versioned (omega arith) (omega arith) (omega arith)
-    (bytes-append (bytesOf 2 version) start (bytes-bytesOf 2 version)
+    (bytes-append (bytesOf 2 v) start (bytes-bytesOf 2 v)
     (three (h .start .year) (h .start .month) (h .start .day) length (omega (arith, d .year-below)) (omega (arith, d .month-to)) (omega (arith, d .day-to, m .at-most))
     (bytes-cons (h .days) (h .minutes ∷ ke) (omega (arith, r .days-to))
     (bytes-cons (h .minutes) ke (minutes-byte (h .minutes) (r .minutes))
-    (bytes-append (bytesOf 2 (h .ke)) (bytesOf 2 0) (bytes-bytesOf 2 (h .ke)) (bytes-bytesOf 2 0))))))
+    (bytes-append (bytesOf 2 (h .ke)) seasons (bytes-bytesOf 2 (h .ke))
+    (bytes-cons (h .seasons) (0 ∷ []) (omega (arith, r .seasons-to)) (bytes-cons 0 [] (omega arith) bytes-nil)))))))
   where
     three : (a b c : ℕ) (xs : List ℕ) → a < 256 → b < 256 → c < 256 → Bytes xs → Bytes (a ∷ b ∷ c ∷ xs)
     three a b c xs x y z k = bytes-cons a (b ∷ c ∷ xs) x (bytes-cons b (c ∷ xs) y (bytes-cons c xs z k))
@@ -150,7 +159,7 @@ bytes-header h e =
 pub record SoundLog (s : List ℕ) (h : Header) : Type 0 where
   pub mark : markRight s ≡ true
   pub version : versionRight s ≡ true
-  pub zeros : numberAt s 12 2 ≡ 0
+  pub zero : byteAt s 13 ≡ 0
   pub header : headerAt s ≡ h
   pub ranges : isHeader h ≡ true
   pub size : length s ≡ lengthOf h
@@ -176,7 +185,7 @@ sound-log s h p =
     record {
       mark = m .0;
       version = m .1;
-      zeros = eqb-true _ _ (f .1);
+      zero = eqb-true _ _ (f .1);
       header = e;
       ranges = sym (ap isHeader e) ∙ f .0;
       size = eqb-true _ _ (c .0) ∙ ap lengthOf e;
@@ -185,7 +194,7 @@ sound-log s h p =
 -- ---- what bytes have that are read as a header
 
 pub record RightHeader (s : List ℕ) (h : Header) : Type 0 where
-  pub zeros : numberAt s 12 2 ≡ 0
+  pub zero : byteAt s 13 ≡ 0
   pub header : headerAt s ≡ h
   pub ranges : isHeader h ≡ true
 
@@ -195,33 +204,36 @@ wrong≢right h p = let z : _≡_ {A = ℕ} 0 1 = cc in omega arith
 pub right-header : (s : List ℕ) (h : Header) → headerOf s ≡ Right h → RightHeader s h
 unfolding headerOf fieldsRight
 right-header s h p =
-    let a = chosen (isHeader (headerAt s) && eqb (numberAt s 12 2) 0) (Right (headerAt s)) Wrong p (wrong≢right h) in
+    let a = chosen (isHeader (headerAt s) && eqb (byteAt s 13) 0) (Right (headerAt s)) Wrong p (wrong≢right h) in
     let b = both _ _ (a .0) in
     let e : headerAt s ≡ h = cc (a .1) in
-    record { zeros = eqb-true _ _ (b .1); header = e; ranges = sym (ap isHeader e) ∙ b .0 }
+    record { zero = eqb-true _ _ (b .1); header = e; ranges = sym (ap isHeader e) ∙ b .0 }
+
+pub version-is : (s : List ℕ) → versionRight s ≡ true → versionAt s ≡ version
+unfolding versionRight
+version-is s e = eqb-true (versionAt s) version e
 
 -- their first fourteen are its
-header-listed : (s : List ℕ) (h : Header) → Bytes s → markRight s ≡ true → versionRight s ≡ true → RightHeader s h → run s 0 headerSize ≡ headerBytes (headerAt s)
-unfolding run headerBytes dateBytes headerAt bytesOf markRight versionRight
-header-listed s h bytes mark right l =
+header-listed : (v : ℕ) (s : List ℕ) (h : Header) → Bytes s → markRight s ≡ true → versionAt s ≡ v → RightHeader s h
+    → run s 0 headerSize ≡ headerBytesAs v (headerAt s)
+unfolding run headerBytesAs dateBytes headerAt bytesOf markRight
+header-listed v s h bytes mark right l =
     let m = both _ _ mark in
     let n = both _ _ (m .0) in
-    let v = eqb-true (numberAt s 3 2) version right in
     simp (
       eqb-true (byteAt s 0) 71 (n .0),
       eqb-true (byteAt s 1) 69 (n .1),
       eqb-true (byteAt s 2) 76 (m .1),
-      low-of s 3 version bytes v,
-      high-of s 3 version bytes v,
+      low-of s 3 v bytes right,
+      high-of s 3 v bytes right,
       low s bytes 10,
       high s bytes 10,
-      low-of s 12 0 bytes (l .zeros),
-      high-of s 12 0 bytes (l .zeros),
+      l .zero,
     )
 
-pub header-front : (s : List ℕ) (h : Header) → Bytes s → markRight s ≡ true → versionRight s ≡ true → RightHeader s h → headerSize ≤ length s
-    → take headerSize s ≡ headerBytes h
-header-front s h bytes mark right l long = take-run headerSize 0 s long ∙ header-listed s h bytes mark right l ∙ ap headerBytes (l .header)
+pub header-front : (v : ℕ) (s : List ℕ) (h : Header) → Bytes s → markRight s ≡ true → versionAt s ≡ v → RightHeader s h → headerSize ≤ length s
+    → take headerSize s ≡ headerBytesAs v h
+header-front v s h bytes mark right l long = take-run headerSize 0 s long ∙ header-listed v s h bytes mark right l ∙ ap (headerBytesAs v) (l .header)
 
 pub sound-long : (s : List ℕ) (h : Header) → soundOf s ≡ Sound h → headerSize ≤ length s
 unfolding lengthOf
@@ -244,7 +256,7 @@ image-at-most s h p =
 pub sound-front : (s : List ℕ) (h : Header) → Bytes s → soundOf s ≡ Sound h → take headerSize s ≡ headerBytes h
 sound-front s h bytes p =
     let l = sound-log s h p in
-    header-front s h bytes (l .mark) (l .version) (record { zeros = l .zeros; header = l .header; ranges = l .ranges }) (sound-long s h p)
+    header-front version s h bytes (l .mark) (version-is s (l .version)) (record { zero = l .zero; header = l .header; ranges = l .ranges }) (sound-long s h p)
 
 -- what holds of both values holds of the one that is chosen
 pub by-sound : {A : Type 0} (P : A → Type 0) (l : Lent) {x : A} {f : Header → A}

@@ -16,7 +16,7 @@ use Rattle.words.specs.Place.{byteAt, numberAt, written}
 use Rattle.words.proofs.PlaceLaws.{onward, length-written, written-fits, written-past, part-kept, part-written, byteAt-kept, numberAt-kept}
 use Rattle.words.proofs.Part.{written-from, written-part, written-rest}
 use Rattle.log.proofs.ByteLaws.{bytes-part, bytes-nil, bytes-append}
-use Rattle.log.specs.Header.{headerSize, cellsOf, lengthOf, isHeader, headerBytes, headerAt, markRight, versionRight, fieldsRight, headerOf, soundOf}
+use Rattle.log.specs.Header.{headerSize, version, cellsOf, lengthOf, isHeader, headerBytes, headerAt, markRight, versionRight, fieldsRight, headerOf, soundOf}
 use Rattle.log.proofs.HeaderLaws.{length-headerBytes, bytes-header, sound-bytes, sound-log, sound-front}
 use Rattle.log.specs.Cell.{cellSize, cellOf, knownCell, cellBytes, IsCell}
 use Rattle.log.proofs.CellLaws.{length-cellBytes, bytes-cell, cellOf-bytes, known-good, good-bytes, good-is-cell}
@@ -47,13 +47,15 @@ module _ (s : List ℕ) (i : ℕ) (c : Cell) where
   pub headerAt-putCell : headerAt (putCell s i c) ≡ headerAt s
   unfolding headerAt
   headerAt-putCell =
-      simp (byte-kept 5 (omega arith), byte-kept 6 (omega arith), byte-kept 7 (omega arith), byte-kept 8 (omega arith), byte-kept 9 (omega arith), number-kept 10 (omega arith))
+      let day = byte-kept 7 (omega arith) in
+      let ke = number-kept 10 (omega arith) in
+      simp (byte-kept 5 (omega arith), byte-kept 6 (omega arith), day, byte-kept 8 (omega arith), byte-kept 9 (omega arith), ke, byte-kept 12 (omega arith))
 
   -- the header and the length stay, whatever the index
   pub soundOf-putCell : soundOf (putCell s i c) ≡ soundOf s
   unfolding soundOf markRight versionRight headerOf fieldsRight
   soundOf-putCell =
-      simp (byte-kept 0 (omega arith), byte-kept 1 (omega arith), byte-kept 2 (omega arith), number-kept 3 (omega arith), headerAt-putCell, number-kept 12 (omega arith), length-putCell)
+      simp (byte-kept 0 (omega arith), byte-kept 1 (omega arith), byte-kept 2 (omega arith), number-kept 3 (omega arith), headerAt-putCell, byte-kept 13 (omega arith), length-putCell)
 
 -- ---- what is read
 
@@ -109,7 +111,7 @@ length-cellsBytes (c ∷ cs) = length-append (cellBytes c) (cellsBytes cs) ∙ o
 
 pub length-imageOf : (h : Header) (cs : List Cell) → length (imageOf h cs) ≡ headerSize + cellSize * length cs
 unfolding imageOf
-length-imageOf h cs = length-append (headerBytes h) (cellsBytes cs) ∙ omega (arith, length-headerBytes h, length-cellsBytes cs)
+length-imageOf h cs = length-append (headerBytes h) (cellsBytes cs) ∙ omega (arith, length-headerBytes version h, length-cellsBytes cs)
 
 -- it is bytes
 bytes-cells : (cs : List Cell) → Bytes (cellsBytes cs)
@@ -119,7 +121,7 @@ bytes-cells (c ∷ cs) = bytes-append (cellBytes c) (cellsBytes cs) (bytes-cell 
 
 pub bytes-image : (h : Header) (cs : List Cell) → isHeader h ≡ true → Bytes (imageOf h cs)
 unfolding imageOf
-bytes-image h cs e = bytes-append (headerBytes h) (cellsBytes cs) (bytes-header h e) (bytes-cells cs)
+bytes-image h cs e = bytes-append (headerBytes h) (cellsBytes cs) (bytes-header version h e) (bytes-cells cs)
 
 -- it is a log
 pub sound-image : (h : Header) (cs : List Cell) → isHeader h ≡ true → length cs ≡ cellsOf h → soundOf (imageOf h cs) ≡ Sound h
@@ -143,7 +145,7 @@ drop-cells (c ∷ cs) (suc i) =
 drop-header : (h : Header) (cs : List Cell) (n : ℕ) → drop (headerSize + n) (imageOf h cs) ≡ drop n (cellsBytes cs)
 unfolding imageOf
 drop-header h cs n =
-    ap (λ (k : ℕ). drop (k + n) (headerBytes h ++ cellsBytes cs)) (sym (length-headerBytes h)) ∙ drop-append-add (headerBytes h) (cellsBytes cs) n
+    ap (λ (k : ℕ). drop (k + n) (headerBytes h ++ cellsBytes cs)) (sym (length-headerBytes version h)) ∙ drop-append-add (headerBytes h) (cellsBytes cs) n
 
 -- its i-th cell is the i-th cell
 pub cellAt-image : (h : Header) (cs : List Cell) (i : ℕ) → i < length cs → IsCell (getD cs i Gap) → cellAt (imageOf h cs) i ≡ Good (getD cs i Gap)
@@ -183,7 +185,7 @@ putCells-written s i (c ∷ cs) =
 pub image-put : (s t u : List ℕ) (h : Header) (cs : List Cell) → t ≡ written s 0 (headerBytes h) → u ≡ putCells t 0 cs → u ≡ written s 0 (imageOf h cs)
 unfolding imageOf
 image-put s t u h cs p q =
-    onward s t u 0 headerSize (headerBytes h) (cellsBytes cs) p (q ∙ putCells-written t 0 cs) (zero-add (length (headerBytes h)) ∙ length-headerBytes h)
+    onward s t u 0 headerSize (headerBytes h) (cellsBytes cs) p (q ∙ putCells-written t 0 cs) (zero-add (length (headerBytes h)) ∙ length-headerBytes version h)
 
 -- a put into an image is a put into its cells; past the end neither changes
 pub putCell-image : (h : Header) (cs : List Cell) (i : ℕ) (c : Cell) → putCell (imageOf h cs) i c ≡ imageOf h (set cs i c)
@@ -191,7 +193,7 @@ unfolding putCell imageOf
 putCell-image h cs i c =
     sym (written-from headerSize (headerBytes h ++ cellsBytes cs) (cellSize * i) (cellBytes c))
     ∙ ap₂ (λ (a b : List ℕ). a ++ written b (cellSize * i) (cellBytes c))
-    (take-at (headerBytes h) (cellsBytes cs) headerSize (length-headerBytes h)) (drop-at (headerBytes h) (cellsBytes cs) headerSize (length-headerBytes h))
+    (take-at (headerBytes h) (cellsBytes cs) headerSize (length-headerBytes version h)) (drop-at (headerBytes h) (cellsBytes cs) headerSize (length-headerBytes version h))
     ∙ ap (λ (l : List ℕ). headerBytes h ++ l) (put-cells cs i c)
 
 -- ---- a log is the image of its header and its cells

@@ -4,5 +4,6 @@ pub mod CellLaws
 pub mod ImageLaws
 pub mod ViewLaws
 pub mod IntervalLaws
+pub mod MissingLaws
 pub mod FreshLaws
 pub mod Examples

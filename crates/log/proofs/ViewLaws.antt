@@ -16,7 +16,7 @@ use Rattle.words.proofs.PlaceLaws.{byteAt-kept}
 use Rattle.log.specs.Header.{cellsOf, lengthOf, isHeader, soundOf}
 use Rattle.log.specs.Cell.{cellBytes, IsCell}
 use Rattle.log.specs.Image.{cellStart, OutsideCell, cellAt, putCell, applied, imageOf, allGood, goods, AllCells}
-use Rattle.log.specs.View.{View, viewOf, seenFrom}
+use Rattle.log.specs.View.{View, viewOf, seenFrom, seenWhere}
 use Rattle.log.proofs.CellLaws.{length-cellBytes, bad≢good}
 use Rattle.log.proofs.HeaderLaws.{sound-log}
 use Rattle.log.proofs.ImageLaws.{length-putCell, soundOf-putCell, cell-within, cellAt-past, cellAt-put, cellAt-put-other, read-is-cell, length-imageOf, sound-image, cellAt-image, image-of-log}
@@ -96,6 +96,27 @@ seen-next cell first i n l =
 pub seen-end : (cell : ℕ → CellAnswer) (i n : ℕ) → n ≡ 0 → seenFrom cell i n ≡ []
 unfolding seenFrom
 seen-end cell i n e = rw e refl
+
+-- the same over the cells that a test names
+module _ (there : ℕ → Bool) (cell : ℕ → CellAnswer) (first i n : ℕ) (l : i < n) where
+  where-next : seenWhere there cell (first + i) (n - i)
+      ≡ cond (there (first + i)) (cell (first + i) ∷ seenWhere there cell (first + (i + 1)) (n - (i + 1))) (seenWhere there cell (first + (i + 1)) (n - (i + 1)))
+  unfolding seenWhere
+  where-next =
+      let e : n - i ≡ suc (n - (i + 1)) = omega arith in
+      let f : suc (first + i) ≡ first + (i + 1) = omega arith in
+      rw (e, ← f)
+
+  pub where-there : there (first + i) ≡ true
+      → seenWhere there cell (first + i) (n - i) ≡ cell (first + i) ∷ seenWhere there cell (first + (i + 1)) (n - (i + 1))
+  where-there e = where-next ∙ simp e
+
+  pub where-not : there (first + i) ≡ false → seenWhere there cell (first + i) (n - i) ≡ seenWhere there cell (first + (i + 1)) (n - (i + 1))
+  where-not e = where-next ∙ simp e
+
+pub where-end : (there : ℕ → Bool) (cell : ℕ → CellAnswer) (i n : ℕ) → n ≡ 0 → seenWhere there cell i n ≡ []
+unfolding seenWhere
+where-end there cell i n e = rw e refl
 
 -- ---- what is seen of bytes
 

@@ -16,13 +16,13 @@ use Rattle.log.specs.declared.header.HeaderAnswer.the-variants.{Right, W
 use Rattle.log.specs.declared.header.Lent.{Lent}
 use Rattle.log.specs.declared.header.Lent.the-variants.{Sound, Unsound}
 
--- "two zero bytes: 14 bytes"
+-- "14 bytes"
 abbrev pub headerSize : ℕ
 headerSize = 14
 
--- "version 1"
+-- "The file becomes version 2" (document 02, CR 5), and an image is of the same version
 abbrev pub version : ℕ
-version = 1
+version = 2
 
 -- "1 to 62 days"
 abbrev pub daysMost : ℕ
@@ -48,19 +48,25 @@ lengthOf h = headerSize + cellSize * cellsOf h
 unfoldable pub daysRight : Header → Bool
 daysRight h = leb 1 (h .days) && leb (h .days) daysMost && ltb (dayNumber (h .start) + (h .days - 1)) centuryDays
 
--- "a start date (2000..2099), 1 to 62 days .., an interval of 15 or 30 minutes, and Ke (1..65,535)"
+-- "a start date (2000..2099), 1 to 62 days .., an interval of 15 or 30 minutes, and Ke (1..65,535)"; document 02, CR 5: "1 follows the automatic
+-- seasons, 0 doesn't"
 unfoldable pub isHeader : Header → Bool
-isHeader h = isDate (h .start) && daysRight h && isMinutes (h .minutes) && leb 1 (h .ke) && leb (h .ke) 65535
+isHeader h = isDate (h .start) && daysRight h && isMinutes (h .minutes) && leb 1 (h .ke) && leb (h .ke) 65535 && leb (h .seasons) 1
 
 -- "year - 2000, month, day"
 unfoldable pub dateBytes : Date → List ℕ
 dateBytes d = d .year ∷ d .month ∷ d .day ∷ []
 
--- ""GEL", version 1 (16 bits, low first), year - 2000, month, day, days, minutes, Ke (2, low first), two zero bytes: 14 bytes"
-unfoldable pub headerBytes : Header → List ℕ
-headerBytes h =
+-- ""GEL", version 1 (16 bits, low first), year - 2000, month, day, days, minutes, Ke (2, low first), two zero bytes: 14 bytes", of which "the
+-- first of the two zero bytes" is the seasons' (document 02, CR 5), with a version
+unfoldable pub headerBytesAs : ℕ → Header → List ℕ
+headerBytesAs v h =
     71 ∷ 69 ∷ 76 ∷ []
-    ++ (bytesOf 2 version ++ (dateBytes (h .start) ++ (h .days ∷ [] ++ (h .minutes ∷ [] ++ (bytesOf 2 (h .ke) ++ bytesOf 2 0)))))
+    ++ (bytesOf 2 v ++ (dateBytes (h .start) ++ (h .days ∷ [] ++ (h .minutes ∷ [] ++ (bytesOf 2 (h .ke) ++ (h .seasons ∷ 0 ∷ []))))))
+
+-- a header's bytes, in memory and in a file that is written
+abbrev pub headerBytes : Header → List ℕ
+headerBytes h = headerBytesAs version h
 
 -- the fields, as their bytes say
 unfoldable pub headerAt : List ℕ → Header
@@ -70,19 +76,23 @@ headerAt s =
       days = byteAt s 8;
       minutes = byteAt s 9;
       ke = numberAt s 10 2;
+      seasons = byteAt s 12;
     }
 
 -- the file reader's 30: the mark
 unfoldable pub markRight : List ℕ → Bool
 markRight s = eqb (byteAt s 0) 71 && eqb (byteAt s 1) 69 && eqb (byteAt s 2) 76
 
--- the file reader's 31: the version
-unfoldable pub versionRight : List ℕ → Bool
-versionRight s = eqb (numberAt s 3 2) version
+-- "version 1 (16 bits, low first)", of whatever version
+abbrev pub versionAt : List ℕ → ℕ
+versionAt s = numberAt s 3 2
 
--- the file reader's 32: the fields, with the two zero bytes
+unfoldable pub versionRight : List ℕ → Bool
+versionRight s = eqb (versionAt s) version
+
+-- the file reader's 32: the fields, with the zero byte behind them
 unfoldable pub fieldsRight : List ℕ → Bool
-fieldsRight s = isHeader (headerAt s) && eqb (numberAt s 12 2) 0
+fieldsRight s = isHeader (headerAt s) && eqb (byteAt s 13) 0
 
 -- the header of bytes whose mark and version are right
 unfoldable pub headerOf : List ℕ → HeaderAnswer

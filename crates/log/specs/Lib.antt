@@ -1,6 +1,6 @@
 pub mod Cell
 pub mod Header
 pub mod Image
-pub mod View
 pub mod Interval
+pub mod View
 pub mod Fresh

@@ -5,7 +5,8 @@ ghost use Prim.Native.Nat.{_+_};
 ghost use lib.Dec.{ltb};
 ghost use Rattle.words.specs.Place.{written};
 ghost use Rattle.calendar.specs.Date.{isDate, dayNumber, centuryDays};
-ghost use Rattle.log.specs.Header.{cellsOf, lengthOf, isHeader, headerBytes, headerAt, dateBytes, markRight, versionRight, headerOf, fittedTo, soundOf};
+ghost use Rattle.log.specs.Header.{cellsOf, lengthOf, isHeader, headerBytes, headerAt, dateBytes};
+ghost use Rattle.log.specs.Header.{markRight, versionAt, versionRight, headerOf, fittedTo, soundOf};
 use crate::cell::CELL_BYTES;
 
 pub struct Header {
@@ -15,6 +16,8 @@ pub struct Header {
     pub minutes: u8,
     // Milliwatt-hours for a count.
     pub ke: u16,
+    // 1 where the automatic seasons are followed, else 0.
+    pub seasons: u8,
 }
 
 pub enum HeaderAnswer {
@@ -38,7 +41,10 @@ pub const CELLS_MOST: usize = DAYS_MOST as usize * slots::SLOTS_MOST as usize;
 // The longest image.
 pub const IMAGE_MOST: usize = HEADER_BYTES + CELL_BYTES * CELLS_MOST;
 
-const VERSION: u16 = 1;
+// The image's, and that of a file that is written.
+pub const VERSION: u16 = 2;
+
+const SEASONS_MOST: u8 = 1;
 
 pub fn cells_of(h: Header) -> usize
     ensures { λ r. ⌜ r ≡ cellsOf h ⌝ }
@@ -64,6 +70,9 @@ pub fn is_header(h: Header) -> bool
         return false;
     }
     if h.ke == 0 {
+        return false;
+    }
+    if SEASONS_MOST < h.seasons {
         return false;
     }
     if slots::slots_of(h.minutes) == 0 {
@@ -96,10 +105,16 @@ pub fn mark_right(log: &[u8]) -> bool
     words::byte_at(log, 2) == b'L'
 }
 
-pub fn version_right(log: &[u8]) -> bool
+pub fn version_at(log: &[u8]) -> u16
+    ensures { λ r. ⌜ r ≡ versionAt (now (log .entry)) ⌝ }
+{
+    words::u16_at(log, 3)
+}
+
+fn version_right(log: &[u8]) -> bool
     ensures { λ r. ⌜ r ≡ versionRight (now (log .entry)) ⌝ }
 {
-    words::u16_at(log, 3) == VERSION
+    version_at(log) == VERSION
 }
 
 // The header that the fields say, right or not.
@@ -116,6 +131,7 @@ fn header_at(log: &[u8]) -> Header
         days: words::byte_at(log, 8),
         minutes: words::byte_at(log, 9),
         ke: words::u16_at(log, 10),
+        seasons: words::byte_at(log, 12),
     }
 }
 
@@ -124,7 +140,7 @@ pub fn header_of(log: &[u8]) -> HeaderAnswer
     ensures { λ r. ⌜ r ≡ headerOf (now (log .entry)) ⌝ }
 {
     let h = header_at(log);
-    if words::u16_at(log, 12) != 0 {
+    if words::byte_at(log, 13) != 0 {
         return HeaderAnswer::Wrong;
     }
     if is_header(h) {
@@ -171,7 +187,8 @@ pub fn write_header(out: &mut [u8], h: Header)
     words::put_byte(out, 8, h.days);
     words::put_byte(out, 9, h.minutes);
     words::put_u16(out, 10, h.ke);
-    words::put_u16(out, 12, 0);
+    words::put_byte(out, 12, h.seasons);
+    words::put_byte(out, 13, 0);
 }
 
 fn write_date(out: &mut [u8], d: calendar::Date)

@@ -1,5 +1,5 @@
 // The log of slices as it stands in memory, its image: fourteen bytes of header, and behind them a cell for each interval. It says
-// which lent bytes are a sound log, reads and writes single cells, finds an interval's cell and a day's date, and makes a fresh log.
+// which lent bytes are a sound log, reads and writes single cells, finds an interval's cell, a day's date and its night, and makes a fresh log.
 // Other crates speak of a log by these functions and their definitions alone, so that a change of the layout stays in here.
 mod cell;
 mod fresh;
@@ -22,13 +22,14 @@ pub use header::Header;
 pub use header::HeaderAnswer;
 pub use header::IMAGE_MOST;
 pub use header::Lent;
+pub use header::VERSION;
 pub use header::cells_of;
 pub use header::header_of;
 pub use header::is_header;
 pub use header::length_of;
 pub use header::mark_right;
 pub use header::sound;
-pub use header::version_right;
+pub use header::version_at;
 pub use header::write_header;
 pub use image::Change;
 pub use image::apply;
@@ -38,4 +39,7 @@ pub use image::put_cell;
 pub use interval::DayAnswer;
 pub use interval::Interval;
 pub use interval::date_of;
+pub use interval::exists;
 pub use interval::interval_of;
+pub use interval::missing_cells;
+pub use interval::night_on;

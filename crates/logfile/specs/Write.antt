@@ -1,5 +1,5 @@
 -- A log, written as a file. Source: document 01, "Refusal numbers": "a file to write 28 (header, length), 1, 28 (all cells, before any
--- output)".
+-- output)"; document 02, CR 5: "28 where a cell that 35 so refuses is written out".
 use Prim.Native.Nat.{ℕ}
 use mathlib.Core.List.{List}
 use lib.Dec.{leb}
@@ -7,9 +7,9 @@ use lib.ListN.{length}
 use Rattle.refusal.specs.Outcome.{Outcome, outcome, check}
 use Rattle.words.specs.Place.{written}
 use Rattle.log.specs.Header.{cellsOf, ifSound}
-use Rattle.log.specs.Image.{allGood, goods}
+use Rattle.log.specs.Image.{goods}
 use Rattle.log.specs.View.{View, seenFrom}
-use Rattle.logfile.specs.File.{fileBytes, fileLength}
+use Rattle.logfile.specs.File.{fileBytes, fileLength, cellsRight}
 use Rattle.logfile.specs.declared.write.WriteAnswer.{WriteAnswer}
 use Rattle.logfile.specs.declared.write.WriteAnswer.the-variants.{Done, Unsound, TooShort}
 
@@ -24,6 +24,5 @@ unfoldable pub writtenFile : View → List ℕ → Outcome WriteAnswer (List ℕ
 writtenFile v out =
     ifSound (v .lent) (outcome Unsound out) (λ h.
     check (leb (fileLength h) (length out)) (outcome TooShort out) (
-    let seen = seenFrom (v .cell) 0 (cellsOf h) in
-    check (allGood seen) (outcome Unsound out) (
-    outcome (Done (fileLength h)) (written out 0 (fileBytes h (goods seen))))))
+    check (cellsRight h (v .cell)) (outcome Unsound out) (
+    outcome (Done (fileLength h)) (written out 0 (fileBytes h (goods (seenFrom (v .cell) 0 (cellsOf h))))))))

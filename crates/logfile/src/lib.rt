@@ -1,10 +1,13 @@
 // The file of a log: its header, a row for each of its cells, and their CRC-16. A log is written to the front of a lent buffer once all
-// its cells are seen to be good; a file is checked in document 01's order, and then its header and its cells, read row by row, are put
-// into an image. What a row looks like is said here, and how a log lies in memory in the crate log alone.
+// its cells are seen to be good, and gaps where their slots do not exist; a file, of today's version or an earlier one, is checked in document
+// 01's order, and then its header and its cells, read row by row, are put into an image. What a row looks like is said here, and how a log
+// lies in memory in the crate log alone.
 mod cursor;
 mod file;
+mod missing;
 mod read;
 mod row;
+mod version;
 mod walk;
 mod write;
 

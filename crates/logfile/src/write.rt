@@ -5,11 +5,11 @@ ghost use mathlib.Core.Bool.{true};
 ghost use Rattle.words.specs.Place.{written};
 ghost use Prim.Native.Nat.{_≤_};
 ghost use lib.ListN.{length};
-ghost use Rattle.log.specs.Header.{headerSize, cellsOf};
+ghost use Rattle.log.specs.Header.{headerSize, isHeader, cellsOf};
 ghost use Rattle.log.specs.Image.{cellAt, allGood, goods};
 ghost use Rattle.log.specs.View.{viewOf, seenFrom};
 ghost use Rattle.logfile.specs.Row.{rowStart, rowsBytes};
-ghost use Rattle.logfile.specs.File.{fileBytes, fileLength};
+ghost use Rattle.logfile.specs.File.{fileBytes, fileLength, cellsRight};
 ghost use Rattle.logfile.specs.Write.{writeNumber, writtenFile};
 use crate::row::ROW_BYTES;
 use log::HEADER_BYTES;
@@ -45,11 +45,22 @@ pub fn write_file(log: &[u8], out: &mut [u8]) -> WriteAnswer
     if out.len() < length {
         return WriteAnswer::TooShort;
     }
-    if crate::walk::cells_good(log, log::cells_of(h)) {
+    if cells_right(log, h) {
         put_file(log, h, out);
         return WriteAnswer::Done(length);
     }
     WriteAnswer::Unsound
+}
+
+// Whether each cell is one, and a gap where there is no slot.
+fn cells_right(log: &[u8], h: log::Header) -> bool
+    requires { ⌜ isHeader h ≡ true ⌝ }
+    ensures { λ r. ⌜ r ≡ cellsRight h (cellAt (now (log .entry))) ⌝ }
+{
+    if crate::walk::cells_good(log, log::cells_of(h)) {
+        return crate::missing::cells_gaps(log, h);
+    }
+    false
 }
 
 // The file of a log with this header, whose cells are all good, where there is room for it.

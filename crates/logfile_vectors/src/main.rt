@@ -1,23 +1,51 @@
 // Damaged copies of a log's file, read one after the other. Each line has what was done to the good file, document 01's number, the
-// image's length where there is one, and the output's first byte, which was 255 before. The file is document 01's example: a log from
-// 2024-05-17, 1 day, 30 minutes, Ke 100, slot 0 measured 12 0 3 0, slot 1 empty, all others gaps. stdout was written by hand from
-// document 01's table, and not by this code.
+// image's length where there is one, and the output's first byte, which was 255 before. The file is document 01's example, of version 1: a log
+// from 2024-05-17, 1 day, 30 minutes, Ke 100, slot 0 measured 12 0 3 0, slot 1 empty, all others gaps. Then files of versions 1 and 2 over the days
+// on which the clock is moved. stdout was written by hand from the tables of documents 01 and 02, and not by this code.
 use libc::STDOUT_FILENO;
+use logfile::ROW_BYTES;
 use logfile::ReadAnswer;
+use logfile::WriteAnswer;
 
-// Where the first two cells and the last one begin.
+// Where rows begin: the first two, those of the hour from 02:00 with its neighbours, and the last one. Of half hours first.
 const SLOT_0: usize = log::HEADER_BYTES;
 
-const SLOT_1: usize = SLOT_0 + log::CELL_BYTES;
+const SLOT_1: usize = SLOT_0 + ROW_BYTES;
 
-const SLOT_47: usize = SLOT_0 + 47 * log::CELL_BYTES;
+const SLOT_3: usize = SLOT_0 + 3 * ROW_BYTES;
 
-// The image, the file and one byte more, which is 0.
-const IMAGE: usize = SLOT_47 + log::CELL_BYTES;
+const SLOT_4: usize = SLOT_0 + 4 * ROW_BYTES;
 
-const FILE: usize = IMAGE + frame::layout::CRC_BYTES;
+const SLOT_5: usize = SLOT_0 + 5 * ROW_BYTES;
+
+const SLOT_6: usize = SLOT_0 + 6 * ROW_BYTES;
+
+const SLOT_47: usize = SLOT_0 + 47 * ROW_BYTES;
+
+// Of quarters.
+const SLOT_7: usize = SLOT_0 + 7 * ROW_BYTES;
+
+const SLOT_8: usize = SLOT_0 + 8 * ROW_BYTES;
+
+const SLOT_11: usize = SLOT_0 + 11 * ROW_BYTES;
+
+const SLOT_12: usize = SLOT_0 + 12 * ROW_BYTES;
+
+// The file's CRC, the file and one byte more, which is 0; and its image.
+const CRC: usize = SLOT_47 + ROW_BYTES;
+
+const FILE: usize = CRC + frame::layout::CRC_BYTES;
 
 const LONGER: usize = FILE + 1;
+
+const IMAGE: usize = log::HEADER_BYTES + 48 * log::CELL_BYTES;
+
+// Those of a day of quarters.
+const QUARTERS_CRC: usize = SLOT_0 + 96 * ROW_BYTES;
+
+const QUARTERS_FILE: usize = QUARTERS_CRC + frame::layout::CRC_BYTES;
+
+const QUARTERS_IMAGE: usize = log::HEADER_BYTES + 96 * log::CELL_BYTES;
 
 fn main() {
     lengths();
@@ -28,6 +56,10 @@ fn main() {
     cells();
     outputs();
     first_of_two();
+    first_version();
+    second_version();
+    missing_hour();
+    written_out();
 }
 
 // The whole file, too little to say, nothing behind the header, and a byte too few or too many.
@@ -39,7 +71,7 @@ fn lengths() {
     show(b"5 bytes", good(), 5);
     show(b"13 bytes", good(), 13);
     show(b"14 bytes", good(), log::HEADER_BYTES);
-    show(b"the image alone", good(), IMAGE);
+    show(b"all but the CRC", good(), CRC);
     show(b"a byte short", good(), FILE - 1);
     show(b"a byte long", good(), LONGER);
 }
@@ -50,7 +82,10 @@ fn marks() {
     damaged(b"mark GEl", 2, b"l");
     damaged(b"version 0", 3, b"\x00");
     damaged(b"version 2", 3, b"\x02");
-    damaged(b"version 257", 4, b"\x01");
+    sealed_again(b"version 2", 3, b"\x02");
+    sealed_again(b"version 3", 3, b"\x03");
+    sealed_again(b"version 257", 4, b"\x01");
+    sealed_again(b"version 258", 3, b"\x02\x01");
 }
 
 // The start, and the end by 2099-12-31.
@@ -76,12 +111,12 @@ fn fields() {
     damaged(b"15 minutes", 9, b"\x0F");
     damaged(b"Ke 0", 10, b"\x00");
     sealed_again(b"Ke 65535", 10, b"\xFF\xFF");
-    damaged(b"first zero byte 1", 12, b"\x01");
+    sealed_again(b"first zero byte 1", 12, b"\x01");
     damaged(b"second zero byte 128", 13, b"\x80");
 }
 
 fn crcs() {
-    damaged(b"CRC 0", IMAGE, b"\x00\x00");
+    damaged(b"CRC 0", CRC, b"\x00\x00");
     damaged(b"year 2025", 5, b"\x19");
     sealed_again(b"year 2025", 5, b"\x19");
     damaged(b"slot 0 counts 13", SLOT_0 + 1, b"\x0D");
@@ -111,8 +146,8 @@ fn outputs() {
 
 // Of two faults the one that comes first in the table answers.
 fn first_of_two() {
-    damaged(b"mark and version", 0, b"GEM\x02");
-    damaged(b"version and month 13", 3, b"\x02\x00\x18\x0D");
+    damaged(b"mark and version", 0, b"GEM\x03");
+    damaged(b"version and month 13", 3, b"\x03\x00\x18\x0D");
     show(
         b"month 13, a byte short",
         with(good(), 6, b"\x0D"),
@@ -120,12 +155,119 @@ fn first_of_two() {
     );
     show(
         b"CRC 0, a byte short",
-        with(good(), IMAGE, b"\x00\x00"),
+        with(good(), CRC, b"\x00\x00"),
         FILE - 1,
     );
     damaged(b"slot 0 kind 3", SLOT_0, b"\x03");
     into_less(b"slot 0 kind 3", sealed(with(good(), SLOT_0, b"\x03")));
-    into_less(b"CRC 0", with(good(), IMAGE, b"\x00\x00"));
+    into_less(b"CRC 0", with(good(), CRC, b"\x00\x00"));
+}
+
+// Version 1 over the last Sundays of March and of October, with cells in the hour from 02:00: it follows no seasons, and is written as version 2.
+fn first_version() {
+    half_hours(
+        b"version 1, 31 March 2024",
+        b"GEL\x01\x00\x18\x03\x1F\x01\x1E\x64\x00\x00\x00",
+        SLOT_4,
+        SLOT_5,
+        b"\x3F\xFC",
+    );
+    half_hours(
+        b"version 1, 27 October 2024",
+        b"GEL\x01\x00\x18\x0A\x1B\x01\x1E\x64\x00\x00\x00",
+        SLOT_4,
+        SLOT_5,
+        b"\xD3\x42",
+    );
+    quarters(
+        b"version 1, 31 March 2024",
+        b"GEL\x01\x00\x18\x03\x1F\x01\x0F\x64\x00\x00\x00",
+        SLOT_8,
+        SLOT_11,
+        b"\x3D\x6D",
+    );
+    quarters(
+        b"version 1, 27 October 2024",
+        b"GEL\x01\x00\x18\x0A\x1B\x01\x0F\x64\x00\x00\x00",
+        SLOT_8,
+        SLOT_11,
+        b"\xA4\x56",
+    );
+}
+
+// Version 2 that follows the seasons: in March with cells beside the hour alone, in October in it.
+fn second_version() {
+    half_hours(
+        b"version 2, 31 March 2024",
+        b"GEL\x02\x00\x18\x03\x1F\x01\x1E\x64\x00\x01\x00",
+        SLOT_3,
+        SLOT_6,
+        b"\x79\x03",
+    );
+    half_hours(
+        b"version 2, 27 October 2024",
+        b"GEL\x02\x00\x18\x0A\x1B\x01\x1E\x64\x00\x01\x00",
+        SLOT_4,
+        SLOT_5,
+        b"\xDA\x0D",
+    );
+    quarters(
+        b"version 2, 31 March 2024",
+        b"GEL\x02\x00\x18\x03\x1F\x01\x0F\x64\x00\x01\x00",
+        SLOT_7,
+        SLOT_12,
+        b"\xFB\x2D",
+    );
+    quarters(
+        b"version 2, 27 October 2024",
+        b"GEL\x02\x00\x18\x0A\x1B\x01\x0F\x64\x00\x01\x00",
+        SLOT_8,
+        SLOT_11,
+        b"\x68\x64",
+    );
+}
+
+// The hour that 31 March 2024 does not have where the seasons are followed.
+fn missing_hour() {
+    in_spring(b"all gaps", SLOT_0, b"\x00");
+    in_spring(b"slot 3 empty", SLOT_3, b"\x01");
+    in_spring(b"slot 4 empty", SLOT_4, b"\x01");
+    in_spring(b"slot 4 measured 1", SLOT_4, b"\x02\x01");
+    in_spring(b"slot 5 empty", SLOT_5, b"\x01");
+    in_spring(b"slot 5 kind 3", SLOT_5, b"\x03");
+    in_spring(b"slot 6 empty", SLOT_6, b"\x01");
+    in_spring(b"seasons 2", 12, b"\x02");
+    in_spring(b"seasons 255", 12, b"\xFF");
+    in_spring(b"last zero byte 1", 13, b"\x01");
+    in_spring(b"version 1", 3, b"\x01");
+    with_slot_4(b"seasons 0", 12, b"\x00");
+    with_slot_4(b"30 March", 7, b"\x1E");
+    with_slot_4(b"24 March", 7, b"\x18");
+    with_slot_4(b"30 March 2025", 5, b"\x19\x03\x1E");
+    with_slot_4(b"27 October", 6, b"\x0A\x1B");
+    with_slot_4(b"seasons 2", 12, b"\x02");
+    into_less(
+        b"spring, slot 4 empty",
+        sealed(with(spring(), SLOT_4, b"\x01")),
+    );
+    show(
+        b"spring, slot 4 empty",
+        with(spring(), SLOT_4, b"\x01"),
+        FILE,
+    );
+}
+
+// What a log is written as that no file gives: cells in the hour that is none, and an image of version 1.
+fn written_out() {
+    let mut image = [0u8; IMAGE];
+    logfile::read_file(&in_october(), &mut image);
+    write(b"27 October", &image);
+    words::put_bytes(&mut image, 6, b"\x03\x1F");
+    write(b"31 March", &image);
+    words::put_bytes(&mut image, 12, b"\x00");
+    write(b"31 March, seasons 0", &image);
+    words::put_bytes(&mut image, 3, b"\x01");
+    write(b"31 March, seasons 0, version 1", &image);
 }
 
 fn good() -> [u8; LONGER] {
@@ -143,9 +285,33 @@ fn good() -> [u8; LONGER] {
     sealed(file)
 }
 
+// All gaps over a March day, the seasons followed.
+fn spring() -> [u8; LONGER] {
+    let mut file = [0u8; LONGER];
+    words::put_bytes(
+        &mut file,
+        0,
+        b"GEL\x02\x00\x18\x03\x1F\x01\x1E\x64\x00\x01\x00",
+    );
+    sealed(file)
+}
+
+// The second version's October day.
+fn in_october() -> [u8; FILE] {
+    let mut file = [0u8; FILE];
+    put_day(
+        &mut file,
+        b"GEL\x02\x00\x18\x0A\x1B\x01\x1E\x64\x00\x01\x00",
+        SLOT_4,
+        SLOT_5,
+    );
+    words::put_bytes(&mut file, CRC, b"\xDA\x0D");
+    file
+}
+
 // The file with the CRC of what it now holds.
 fn sealed(mut file: [u8; LONGER]) -> [u8; LONGER] {
-    frame::seal(&mut file, IMAGE);
+    frame::seal(&mut file, CRC);
     file
 }
 
@@ -164,6 +330,96 @@ fn damaged(what: &[u8], at: usize, bytes: &[u8]) {
 fn sealed_again(what: &[u8], at: usize, bytes: &[u8]) {
     say(what);
     show(b", sealed again", sealed(with(good(), at, bytes)), FILE);
+}
+
+// The same of the March day.
+fn in_spring(what: &[u8], at: usize, bytes: &[u8]) {
+    say(b"spring, ");
+    say(what);
+    show(b", sealed again", sealed(with(spring(), at, bytes)), FILE);
+}
+
+// And with a cell in the hour from 02:00.
+fn with_slot_4(what: &[u8], at: usize, bytes: &[u8]) {
+    say(b"slot 4 empty, ");
+    say(what);
+    show(
+        b", sealed again",
+        sealed(with(with(spring(), SLOT_4, b"\x01"), at, bytes)),
+        FILE,
+    );
+}
+
+// A stored file, with a CRC that another program reckoned: read, and what was read written again.
+fn half_hours(what: &[u8], head: &[u8], measured: usize, empty: usize, crc: &[u8]) {
+    let mut file = [0u8; FILE];
+    put_day(&mut file, head, measured, empty);
+    words::put_bytes(&mut file, CRC, crc);
+    let mut image = [255u8; IMAGE];
+    let mut again = [255u8; FILE];
+    say(what);
+    say(b", 30 minutes");
+    read_and_write(&file, &mut image, &mut again);
+}
+
+fn quarters(what: &[u8], head: &[u8], measured: usize, empty: usize, crc: &[u8]) {
+    let mut file = [0u8; QUARTERS_FILE];
+    put_day(&mut file, head, measured, empty);
+    words::put_bytes(&mut file, QUARTERS_CRC, crc);
+    let mut image = [255u8; QUARTERS_IMAGE];
+    let mut again = [255u8; QUARTERS_FILE];
+    say(what);
+    say(b", 15 minutes");
+    read_and_write(&file, &mut image, &mut again);
+}
+
+// A header, and the rows of two cells, where all others are gaps.
+fn put_day(file: &mut [u8], head: &[u8], measured: usize, empty: usize) {
+    words::put_bytes(file, 0, head);
+    words::put_bytes(file, measured, b"\x02\x0C\x00\x00\x00\x03\x00\x00\x00");
+    words::put_bytes(file, empty, b"\x01");
+}
+
+// The image's version and seasons, and the length and the CRC of the file that it is written as.
+fn read_and_write(file: &[u8], image: &mut [u8], again: &mut [u8]) {
+    read(file, image);
+    say(b"its image: version");
+    number(log::version_at(image) as u64);
+    say(b", seasons");
+    number(words::byte_at(image, 12) as u64);
+    say(b", written");
+    answer_of(logfile::write_file(image, again), again);
+}
+
+fn write(what: &[u8], image: &[u8]) {
+    let mut out = [255u8; FILE];
+    say(what);
+    say(b", written:");
+    answer_of(logfile::write_file(image, &mut out), &out);
+}
+
+// The first byte of a file that was not written, and the CRC of one that was.
+fn answer_of(answer: WriteAnswer, out: &[u8]) {
+    number(answer.number() as u64);
+    match answer {
+        WriteAnswer::Done(n) => {
+            number(n as u64);
+            say(b" ");
+            let mut digits = [0u8; 4];
+            text::put_hex(&mut digits, 0, &[from_end(out, 2), from_end(out, 1)]);
+            say(&digits);
+        }
+        WriteAnswer::Unsound => number(words::byte_at(out, 0) as u64),
+        WriteAnswer::TooShort => number(words::byte_at(out, 0) as u64),
+    }
+    say(b"\n");
+}
+
+fn from_end(bytes: &[u8], n: usize) -> u8 {
+    if bytes.len() < n {
+        return 0;
+    }
+    words::byte_at(bytes, bytes.len() - n)
 }
 
 // The first n bytes, into an output that has room.
@@ -207,7 +463,7 @@ fn read(file: &[u8], out: &mut [u8]) {
 
 fn show_crc(file: [u8; LONGER]) {
     let mut digits = [0u8; 4];
-    text::put_hex(&mut digits, 0, &[file[IMAGE], file[IMAGE + 1]]);
+    text::put_hex(&mut digits, 0, &[file[CRC], file[CRC + 1]]);
     say(b"its CRC: ");
     say(&digits);
     say(b"\n");

@@ -2,3 +2,4 @@ pub mod AskLaws
 pub mod TakeLaws
 pub mod BookLaws
 pub mod StepLaws
+pub mod SeasonLaws

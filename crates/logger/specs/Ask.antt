@@ -1,5 +1,6 @@
 -- Asking for an interval. Source: document 01, "The reader and the log": "The reader has at most one ask open, with its address
--- (0..255)"; "An ask gets 1, 21 or 22 by the table, else 0 and opens"; 28 "stands right after 1".
+-- (0..255)"; "An ask gets 1, 21 or 22 by the table, else 0 and opens"; 28 "stands right after 1"; document 02, CR 5: "22
+-- also for a slot that doesn't exist", which `intervalOf` says.
 use mathlib.Core.Bool.{cond}
 use mathlib.Core.List.{List}
 use Prim.Native.Nat.{ℕ, _+_}

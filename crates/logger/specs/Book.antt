@@ -122,7 +122,7 @@ bookReply h held kept y =
     ifOk (resultOf y) (entry (record { number = 24; result = resultOf y; length = 0 }) Closed kept) (
     keepReply kept (placeOf h day slot) (rowOf y))))
 
--- "An ask gets 1, 21 or 22 by the table, else 0 and opens."
+-- "An ask gets 1, 21 or 22 by the table, else 0 and opens"; document 02, CR 5: "22 also for a slot that doesn't exist"
 unfoldable pub bookAsk : Header → OpenAsk → (ℕ → List Row) → ℕ → ℕ → ℕ → List ℕ → Outcome Answer Book
 bookAsk h held kept address day slot out =
     cond (ltb (length out) readSize) (entry (plain 1) held kept) (

@@ -98,10 +98,10 @@ length-kept file.WrongCrc n r = refl
 length-kept file.WrongCell n r = refl
 length-kept file.TooShort n r = refl
 
-pub log-fresh : (year month day days minutes ke : ℕ) (log : List ℕ) (n : ℕ)
-    → EndsForC (n, log) (sized freshNumber imageLength (freshOf (headerFrom year month day days minutes ke) log) n)
-log-fresh year month day days minutes ke log n =
-    let h = headerFrom year month day days minutes ke in
+pub log-fresh : (year month day days minutes ke seasons : ℕ) (log : List ℕ) (n : ℕ)
+    → EndsForC (n, log) (sized freshNumber imageLength (freshOf (headerFrom year month day days minutes ke seasons) log) n)
+log-fresh year month day days minutes ke seasons log n =
+    let h = headerFrom year month day days minutes ke seasons in
     sized-ends freshNumber imageLength image-kept (freshOf h log) log n (claims.demand-1 .fresh-log h log)
 
 pub day-report : (v : View) (day : ℕ) (row : List ℕ) → EndsForC row (numbered reportNumber (reportOf v day row))

@@ -49,8 +49,8 @@ pub record RefusedOutput (number : ℕ) (f before after : List ℕ) : Type 0 whe
 
 pub record Demand1C : Type 0 where
   -- the log: length and image, length and file, the row
-  pub log-fresh : (year month day days minutes ke : ℕ) (log : List ℕ) (length : ℕ)
-      → EndsForC (length, log) (sized freshNumber imageLength (freshOf (headerFrom year month day days minutes ke) log) length)
+  pub log-fresh : (year month day days minutes ke seasons : ℕ) (log : List ℕ) (length : ℕ)
+      → EndsForC (length, log) (sized freshNumber imageLength (freshOf (headerFrom year month day days minutes ke seasons) log) length)
   pub day-report : (v : View) (day : ℕ) (row : List ℕ) → EndsForC row (numbered reportNumber (reportOf v day row))
   pub write-file : (v : View) (out : List ℕ) (length : ℕ) → EndsForC (length, out) (sized writeNumber fileLength (writtenFile v out) length)
   pub read-file : (file out : List ℕ) (length : ℕ) → EndsForC (length, out) (sized readNumber lengthAfter (readFile file out) length)

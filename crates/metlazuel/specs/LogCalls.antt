@@ -27,9 +27,9 @@ use Rattle.c_values.specs.declared.ask.AskRead.the-variants.{Read, Unreadable}
 use Rattle.metlazuel.specs.Calls.{unreadNumber, resultAfter, receivedAfter}
 
 -- the numbers that C hands over, as a log's header
-abbrev pub headerFrom : ℕ → ℕ → ℕ → ℕ → ℕ → ℕ → Header
-headerFrom year month day days minutes ke =
-    record { start = record { year = year; month = month; day = day }; days = days; minutes = minutes; ke = ke }
+abbrev pub headerFrom : ℕ → ℕ → ℕ → ℕ → ℕ → ℕ → ℕ → Header
+headerFrom year month day days minutes ke seasons =
+    record { start = record { year = year; month = month; day = day }; days = days; minutes = minutes; ke = ke; seasons = seasons }
 
 -- ---- the lent length: a fresh image's, a file's, a read image's, and untouched by a refusal
 

@@ -19,9 +19,10 @@ ghost use Rattle.metlazuel.specs.Calls.{sized};
 ghost use Rattle.metlazuel.specs.LogCalls.{headerFrom, imageLength, fileLength, askLeft, askForC, lapseLeft, lapseForC, closes, takeForC};
 
 // uint8_t metlazuel_log_fresh(uint8_t *log, size_t room, uint8_t year, uint8_t month, uint8_t day, uint8_t days, uint8_t minutes,
-//     uint16_t ke, size_t *length)
+//     uint16_t ke, uint8_t seasons, size_t *length)
 //
-// A fresh log; `year` counts from 2000. The image's length goes to `length`.
+// A fresh log; `year` counts from 2000, and `seasons` is 1 where the automatic seasons are followed, else 0. The image's length goes to
+// `length`.
 #[no_mangle]
 pub extern "C" fn metlazuel_log_fresh(
     log: &mut [u8],
@@ -31,10 +32,11 @@ pub extern "C" fn metlazuel_log_fresh(
     days: u8,
     minutes: u8,
     ke: u16,
+    seasons: u8,
     length: &mut usize,
 ) -> u8
     ensures { λ n. ⌜ outcome n (now (length .exit), now (log .exit))
-        ≡ sized freshNumber imageLength (freshOf (headerFrom year month day days minutes ke) (now (log .entry))) (now (length .entry)) ⌝ }
+        ≡ sized freshNumber imageLength (freshOf (headerFrom year month day days minutes ke seasons) (now (log .entry))) (now (length .entry)) ⌝ }
 {
     let header = Header {
         start: Date {
@@ -45,6 +47,7 @@ pub extern "C" fn metlazuel_log_fresh(
         days: days,
         minutes: minutes,
         ke: ke,
+        seasons: seasons,
     };
     let answer = log::fresh_log(header, log);
     *length = image_length(answer, *length);

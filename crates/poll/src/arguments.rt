@@ -48,7 +48,7 @@ const MOST_SHORT: u64 = 65535;
 
 const MOST_LONG: u64 = 4294967295;
 
-// Where the words of `poll DEVICE ADDRESS LOGFILE ..` and of `poll new LOGFILE YEAR MONTH DAY DAYS MINUTES KE` stand.
+// Where the words of `poll DEVICE ADDRESS LOGFILE ..` and of `poll new LOGFILE YEAR MONTH DAY DAYS MINUTES KE SEASONS` stand.
 pub const DEVICE: usize = 1;
 
 pub const ADDRESS: usize = 2;
@@ -89,6 +89,8 @@ const DAYS: usize = 6;
 const MINUTES: usize = 7;
 
 const KE: usize = 8;
+
+const SEASONS: usize = 9;
 
 const FIRST_YEAR: u16 = 2000;
 
@@ -156,7 +158,7 @@ fn one_day(i: usize) -> Chosen {
     }
 }
 
-// YEAR MONTH DAY DAYS MINUTES KE: a word that is no number is no header's either.
+// YEAR MONTH DAY DAYS MINUTES KE SEASONS: a word that is no number is no header's either.
 pub fn start_words() -> Start {
     let ShortArgument::Short(year) = short_argument(YEAR) else {
         return Start::OutOfRange;
@@ -176,10 +178,13 @@ pub fn start_words() -> Start {
     let ShortArgument::Short(ke) = short_argument(KE) else {
         return Start::OutOfRange;
     };
-    start_of(year, month, day, days, minutes, ke)
+    let ByteArgument::Byte(seasons) = byte_argument(SEASONS) else {
+        return Start::OutOfRange;
+    };
+    start_of(year, month, day, days, minutes, ke, seasons)
 }
 
-fn start_of(year: u16, month: u8, day: u8, days: u8, minutes: u8, ke: u16) -> Start {
+fn start_of(year: u16, month: u8, day: u8, days: u8, minutes: u8, ke: u16, seasons: u8) -> Start {
     if year < FIRST_YEAR {
         return Start::OutOfRange;
     }
@@ -196,6 +201,7 @@ fn start_of(year: u16, month: u8, day: u8, days: u8, minutes: u8, ke: u16) -> St
         days: days,
         minutes: minutes,
         ke: ke,
+        seasons: seasons,
     })
 }
 

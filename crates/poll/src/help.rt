@@ -29,12 +29,15 @@ fn uses() {
     );
     put(b"    before are not asked for: the wire names no year.\n");
     put(b"    One poll at a time has a log (LOGFILE.lock) and a line (/var/lock/LCK..NAME).\n");
-    put(b"poll new LOGFILE YEAR MONTH DAY DAYS MINUTES KE\n");
+    put(b"poll new LOGFILE YEAR MONTH DAY DAYS MINUTES KE SEASONS\n");
     put(
         b"    makes the file of a fresh log, all gaps: 1 to 62 days from a date of 2000 to 2099 on, intervals of 15 or\n",
     );
     put(
-        b"    30 minutes, Ke milliwatt-hours a count (1 to 65535). A file that is there is left as it is.\n",
+        b"    30 minutes, Ke milliwatt-hours a count (1 to 65535). SEASONS is 1 where the meter follows the automatic seasons, else 0:\n",
+    );
+    put(
+        b"    with 1 the hour from 02:00 on the last Sunday of March is not asked for. A file that is there is left as it is.\n",
     );
     put(b"poll mercury DEVICE ADDRESS\n");
     put(

@@ -15,7 +15,7 @@ mod session;
 mod wire;
 
 // The arguments of each form, the program's own name among them.
-const NEW_WORDS: usize = 9;
+const NEW_WORDS: usize = 10;
 
 const MERCURY_WORDS: usize = 4;
 

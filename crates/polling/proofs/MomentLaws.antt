@@ -10,7 +10,8 @@ use Rattle.calendar.proofs.DateLaws.{number-below}
 use Rattle.calendar.specs.declared.date.Date.{Date}
 use Rattle.calendar.specs.declared.date.DayAnswer.the-variants.{Day, NotADate}
 use Rattle.polling.specs.Moment.{daysTo}
-use Rattle.polling.specs.Standing.{endsSummer, overAt}
+use Rattle.season_nights.specs.Night.{nightOf, isAutumn}
+use Rattle.polling.specs.Standing.{overAt}
 
 -- no date lies beyond the hundred years
 days-below : (d : Date) → daysTo d < centuryDays
@@ -27,7 +28,7 @@ days-most d n e = rw e (days-below d)
 -- an interval is over at its end or at 03:00
 pub over-most : (d : Date) (e n : ℕ) → n ≡ overAt d e → n ≤ e + 180
 unfolding overAt
-over-most d e n p = rw p (go (endsSummer d && (ltb 120 e && ltb e 180)))
+over-most d e n p = rw p (go (isAutumn (nightOf d) && (ltb 120 e && ltb e 180)))
   where
     go : (b : Bool) → cond b 180 e ≤ e + 180
     go true = omega arith

@@ -1,10 +1,10 @@
 -- The interval that is asked for next. Source: document 01, "The reader and the log": "A cell is a gap, empty, or measured"; "cells in
--- time order"; "Every day has 48 or 96 slots".
-use Prim.Native.Nat.{ℕ, zero, suc, _+_, _*_, _-_}
+-- time order"; "Every day has 48 or 96 slots"; document 02, CR 5: slots that do not exist "can't be asked for".
+use Prim.Native.Nat.{ℕ, zero, suc, _-_}
 use mathlib.Core.Bool.{Bool, true, false, cond}
-use lib.Dec.{ltb}
 use Rattle.slots.specs.Day.{slotsOf}
 use Rattle.log.specs.Header.{ifSound}
+use Rattle.log.specs.Interval.{intervalOf, ifAt}
 use Rattle.log.specs.View.{View}
 use Rattle.log.specs.declared.header.Header.{Header}
 use Rattle.log.specs.declared.cell.Cell.the-variants.{Gap, Empty, Measured}
@@ -23,14 +23,18 @@ isWanted GapsAndEmpties (Good Empty) = true
 isWanted w (Good (Measured e+ e- r+ r-)) = false
 isWanted w Bad = false
 
--- the first wanted among n slots from k on, where the cell of slot 0 has this index
-unfoldable pub wantedFrom : Wanted → (ℕ → CellAnswer) → ℕ → ℕ → ℕ → Next
-wantedFrom w cell first k zero = Nothing
-wantedFrom w cell first k (suc n) = cond (isWanted w (cell (first + k))) (Slot k) (wantedFrom w cell first (suc k) n)
+-- whether slot k of day d is asked for: it is in the log, and its cell is wanted. One that does not exist is not, whatever its bytes are
+unfoldable pub asksFor : Wanted → Header → (ℕ → CellAnswer) → ℕ → ℕ → Bool
+asksFor w h cell d k = ifAt (intervalOf h d k) false (λ i. isWanted w (cell i))
 
--- among a day's slots from k on; a day outside the log has none
+-- the first that a test names among n slots from k on
+unfoldable pub firstFrom : (ℕ → Bool) → ℕ → ℕ → Next
+firstFrom asks k zero = Nothing
+firstFrom asks k (suc n) = cond (asks k) (Slot k) (firstFrom asks (suc k) n)
+
+-- the first that is asked for among a day's slots from k on; a day outside the log has none
 unfoldable pub nextIn : Wanted → Header → (ℕ → CellAnswer) → ℕ → ℕ → Next
-nextIn w h cell d k = cond (ltb d (h .days)) (wantedFrom w cell (d * slotsOf (h .minutes)) k (slotsOf (h .minutes) - k)) Nothing
+nextIn w h cell d k = firstFrom (asksFor w h cell d) k (slotsOf (h .minutes) - k)
 
 -- the slot of a day that is asked for next, from slot k on: the first whose cell is wanted; bytes that are no log have none
 unfoldable pub nextWanted : Wanted → View → ℕ → ℕ → Next

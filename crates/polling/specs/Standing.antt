@@ -1,32 +1,22 @@
 -- Which intervals of a log a meter can be asked for at a moment. Source: 002, section 4.13: a slice is stored when the next interval begins, and
 -- zeros are answered for one that the meter does not have; a request names month, day and number, and no year.
 use Prim.Native.Nat.{ℕ, _+_, _*_}
-use mathlib.Core.Bool.{Bool, false, cond, _&&_}
-use lib.Dec.{eqb, ltb, leb}
+use mathlib.Core.Bool.{cond, _&&_}
+use lib.Dec.{ltb, leb}
 use Rattle.calendar.specs.Date.{daysLater}
-use Rattle.calendar.specs.Sunday.{lastSundayOf}
 use Rattle.calendar.specs.declared.date.Date.{Date}
 use Rattle.calendar.specs.declared.date.DateAnswer.{DateAnswer}
 use Rattle.calendar.specs.declared.date.DateAnswer.the-variants.{On, NotADate, OutOfRange}
+use Rattle.season_nights.specs.Night.{nightOf, isAutumn}
 use Rattle.log.specs.declared.header.Header.{Header}
 use Rattle.polling.specs.Moment.{dayMinutes, daysTo}
 use Rattle.polling.specs.declared.standing.Standing.{Standing}
 use Rattle.polling.specs.declared.standing.Standing.the-variants.{Due, NotOver, TooOld}
 
--- whether a day of a month is that of a date
-unfoldable pub isDayOf : DateAnswer → ℕ → Bool
-isDayOf (On date) day = eqb (date .day) day
-isDayOf NotADate day = false
-isDayOf OutOfRange day = false
-
--- whether summer time ends on a date: the last Sunday of October (document 01, "Seasons")
-unfoldable pub endsSummer : Date → Bool
-endsSummer d = eqb (d .month) 10 && isDayOf (lastSundayOf (d .year) 10) (d .day)
-
--- the minute of a date at which an interval that ends at minute e is over. The day on which summer time ends has the hour from 02:00
--- to 03:00 twice, under one key, so what ends within it is over at 03:00
+-- the minute of a date at which an interval that ends at minute e is over. "The October day has that hour twice, under one key" (document 02,
+-- CR 5), so what ends between 02:00 and 03:00 is over at 03:00, whether or not the log follows the seasons: to wait is no loss
 unfoldable pub overAt : Date → ℕ → ℕ
-overAt date e = cond (endsSummer date && (ltb 120 e && ltb e 180)) 180 e
+overAt date e = cond (isAutumn (nightOf date) && (ltb 120 e && ltb e 180)) 180 e
 
 -- the key of a slice has no year: one that ended so long ago could be answered with another year's
 abbrev pub oldMinutes : ℕ

@@ -1,13 +1,14 @@
 // The interval that is asked for next.
 ghost use mathlib.Core.Path.{_≡_};
-ghost use Prim.Native.Nat.{_-_};
-ghost use Rattle.polling.specs.Next.{nextWanted, nextGap, isWanted, wantedFrom};
+ghost use Rattle.polling.specs.Next.{nextWanted, nextGap, nextIn, asksFor, isWanted};
 ghost use Rattle.log.specs.Image.{cellAt};
 ghost use Rattle.log.specs.View.{viewOf};
 ghost use Rattle.log.specs.declared.cell.Cell.the-variants.{Empty};
 ghost use Rattle.log.specs.declared.cell.CellAnswer.the-variants.{Good};
 use log::Cell;
 use log::CellAnswer;
+use log::Header;
+use log::Interval;
 use log::Lent;
 
 pub enum Next {
@@ -23,7 +24,8 @@ pub enum Wanted {
     GapsAndEmpties,
 }
 
-// The first slot of a day, from a slot on, whose cell is a gap. Bytes that are no log have none, and neither has a day outside it.
+// The first slot of a day, from a slot on, that exists and whose cell is a gap. Bytes that are no log have none, and neither has a day
+// outside it.
 pub fn next_gap(log: &[u8], day: u8, slot: u8) -> Next
     ensures { λ r. ⌜ r ≡ nextGap (viewOf (now (log .entry))) day slot ⌝ }
 {
@@ -35,24 +37,18 @@ pub fn next_wanted(log: &[u8], day: u8, slot: u8, wanted: Wanted) -> Next
     ensures { λ r. ⌜ r ≡ nextWanted wanted (viewOf (now (log .entry))) day slot ⌝ }
 {
     match log::sound(log) {
-        Lent::Sound(h) => {
-            if h.days <= day {
-                return Next::Nothing;
-            }
-            let slots = slots::slots_of(h.minutes);
-            first_wanted(log, (day as u16) * (slots as u16), slot, slots, wanted)
-        }
+        Lent::Sound(h) => first_wanted(log, h, day, slot, wanted),
         Lent::Unsound => Next::Nothing,
     }
 }
 
-// Of the cells that follow a day's first one, from a slot on and before an end.
-fn first_wanted(log: &[u8], first: u16, slot: u8, end: u8, wanted: Wanted) -> Next
-    ensures { λ r. ⌜ r ≡ wantedFrom wanted (cellAt (now (log .entry))) first slot (end - slot) ⌝ }
+fn first_wanted(log: &[u8], h: Header, day: u8, slot: u8, wanted: Wanted) -> Next
+    ensures { λ r. ⌜ r ≡ nextIn wanted h (cellAt (now (log .entry))) day slot ⌝ }
 {
+    let end = slots::slots_of(h.minutes);
     let mut i = slot;
     while i < end {
-        if is_wanted(wanted, log::cell_at(log, first as usize + i as usize)) {
+        if asks_for(log, h, day, i, wanted) {
             return Next::Slot(i);
         }
         i += 1;
@@ -60,7 +56,17 @@ fn first_wanted(log: &[u8], first: u16, slot: u8, end: u8, wanted: Wanted) -> Ne
     Next::Nothing
 }
 
-// A bad cell is not.
+// A slot that is not in the log is never asked for, and one that does not exist is not in it.
+fn asks_for(log: &[u8], h: Header, day: u8, slot: u8, wanted: Wanted) -> bool
+    ensures { λ r. ⌜ r ≡ asksFor wanted h (cellAt (now (log .entry))) day slot ⌝ }
+{
+    match log::interval_of(h, day, slot) {
+        Interval::At(i) => is_wanted(wanted, log::cell_at(log, i)),
+        Interval::Outside => false,
+    }
+}
+
+// A bad cell is not wanted.
 fn is_wanted(wanted: Wanted, answer: CellAnswer) -> bool
     ensures { λ r. ⌜ r ≡ isWanted wanted answer ⌝ }
 {

@@ -1,11 +1,13 @@
 // Which intervals a meter can be asked for at a moment.
 ghost use mathlib.Core.Path.{_≡_};
-ghost use Rattle.polling.specs.Standing.{standingOf, overAt, isDayOf, endsSummer, byNow};
+ghost use Rattle.season_nights.specs.Night.{nightOf, isAutumn};
+ghost use Rattle.polling.specs.Standing.{standingOf, overAt, byNow};
 use crate::moment::DAY_MINUTES;
 use crate::moment::days_to;
 use calendar::Date;
 use calendar::DateAnswer;
 use log::Header;
+use season_nights::Night;
 
 pub enum Standing {
     Due,
@@ -14,8 +16,6 @@ pub enum Standing {
     // A request names no year, so that another year's interval could answer.
     TooOld,
 }
-
-const OCTOBER: u8 = 10;
 
 // The hour that comes twice where summer time ends.
 const TWICE_FROM: u32 = 120;
@@ -65,20 +65,11 @@ fn over_at(date: Date, end: u32) -> u32
 }
 
 fn ends_summer(date: Date) -> bool
-    ensures { λ r. ⌜ r ≡ endsSummer date ⌝ }
+    ensures { λ r. ⌜ r ≡ isAutumn (nightOf date) ⌝ }
 {
-    if date.month == OCTOBER {
-        return is_day_of(calendar::last_sunday_of_october(date.year), date.day);
-    }
-    false
-}
-
-fn is_day_of(answer: DateAnswer, day: u8) -> bool
-    ensures { λ r. ⌜ r ≡ isDayOf answer day ⌝ }
-{
-    match answer {
-        DateAnswer::On(date) => date.day == day,
-        DateAnswer::NotADate => false,
-        DateAnswer::OutOfRange => false,
+    match season_nights::night_of(date) {
+        Night::Plain => false,
+        Night::Spring => false,
+        Night::Autumn => true,
     }
 }

@@ -18,17 +18,18 @@ use Rattle.words.specs.Number.{Bytes}
 use Rattle.words.specs.Place.{written}
 use Rattle.words.proofs.PlaceLaws.{written-append}
 use Rattle.frame.specs.Sealing.{crcFits}
-use Rattle.log.specs.Header.{headerSize, daysMost, imageMost, cellsOf, lengthOf, markRight, versionRight, headerOf, ifRight}
+use Rattle.log.specs.Header.{headerSize, daysMost, imageMost, lengthOf, markRight, versionAt, ifRight}
 use Rattle.log.proofs.ByteLaws.{bytes-nil}
-use Rattle.log.proofs.HeaderLaws.{image-most, right-header}
+use Rattle.log.proofs.HeaderLaws.{image-most}
 use Rattle.log.specs.Image.{imageOf}
 use Rattle.log.proofs.ImageLaws.{bytes-image}
 use Rattle.log.specs.declared.header.Header.{Header}
 use Rattle.log.specs.declared.header.HeaderAnswer.{HeaderAnswer}
 use Rattle.log.specs.declared.header.HeaderAnswer.the-variants.{Right, Wrong}
-use Rattle.logfile.specs.File.{fileLength, cellsGood}
+use Rattle.logfile.specs.Row.{rowAt}
+use Rattle.logfile.specs.File.{isVersion, fileHeader, fileLength, cellsRight}
 use Rattle.logfile.specs.Read.{readNumber, ifRead, markSize, readCells, readFields, readFile}
-use Rattle.logfile.proofs.FileLaws.{accepted}
+use Rattle.logfile.proofs.FileLaws.{file-header-right, accepted}
 use Rattle.logfile.specs.declared.read.ReadAnswer.{ReadAnswer}
 use Rattle.logfile.specs.declared.read.ReadAnswer.the-variants.{Done, WrongMark, WrongVersion, WrongHeader, WrongLength, WrongCrc, WrongCell, TooShort}
 use Rattle.dayreport.specs.Text.{lineFeed, headingText, lineMost}
@@ -59,20 +60,20 @@ Room o = readNumber (o .result) ≡ 1 → ⊥
 cells-room : (f : List ℕ) (h : Header) (out : List ℕ) → lengthOf h ≤ length out → Room (readCells f h out)
 unfolding readCells
 cells-room f h out l =
-    either Room (cellsGood f (cellsOf h)) (rw (le-leb _ _ l) (λ e. omega (arith, e))) (λ e. omega (arith, e))
+    either Room (cellsRight h (rowAt f)) (rw (le-leb _ _ l) (λ e. omega (arith, e))) (λ e. omega (arith, e))
 
 fields-room : (f out : List ℕ) → imageMost ≤ length out → Room (readFields f out)
 unfolding readFields
-fields-room f out l = either Room (leb headerSize (length f)) (go (headerOf f) refl) (λ e. omega (arith, e))
+fields-room f out l = either Room (leb headerSize (length f)) (go (fileHeader f) refl) (λ e. omega (arith, e))
   where
-    go : (a : HeaderAnswer) → headerOf f ≡ a
+    go : (a : HeaderAnswer) → fileHeader f ≡ a
         → Room (ifRight a (outcome WrongHeader out) (λ h.
         check (eqb (length f) (fileLength h)) (outcome WrongLength out) (
         check (crcFits f) (outcome WrongCrc out) (
         readCells f h out))))
     go Wrong p = λ e. omega (arith, e)
     go (Right h) p =
-        let short : lengthOf h ≤ length out = omega (arith, image-most h (right-header f h p .ranges)) in
+        let short : lengthOf h ≤ length out = omega (arith, image-most h (file-header-right f h p)) in
         either Room (eqb (length f) (fileLength h))
         (either Room (crcFits f) (cells-room f h out short) (λ e. omega (arith, e)))
         (λ e. omega (arith, e))
@@ -87,7 +88,7 @@ unfolding readFile
 never-short f =
     let l : imageMost ≤ length room = omega (arith, room-size) in
     either Room (leb markSize (length f) && markRight f)
-    (either Room (versionRight f) (fields-room f room l) (λ e. omega (arith, e)))
+    (either Room (isVersion (versionAt f)) (fields-room f room l) (λ e. omega (arith, e)))
     (λ e. omega (arith, e))
 
 -- ---- past the last line there is none
@@ -112,7 +113,7 @@ strips-past f d out l = strip-past (imageIn (readFile f room .result) (readFile 
 
 -- ---- the longest line's room is enough for each, and so is the longest strip's
 
-length-heading : length headingText ≡ 36
+length-heading : length headingText ≡ 44
 unfolding headingText ascii
 length-heading = refl
 

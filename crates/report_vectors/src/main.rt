@@ -1,39 +1,55 @@
-// What is printed for document 01's example of a file, a log from 2024-05-17, 1 day, 30 minutes, Ke 100, slot 0 measured 12 0 3 0, slot 1
-// empty, all others gaps, and its strip; for the same with version 2, `refused 31`; and with a wrong CRC. stdout was written by hand from
-// document 01, and not by this code.
+// What is printed for files of a log of 1 day, 30 minutes, Ke 100, a slot measured 12 0 3 0, the next one empty, all others gaps, and its strip.
+// First document 01's example, from 2024-05-17 with slots 0 and 1; the same with version 3, `refused 31`; and with a wrong CRC. Then document
+// 02's, CR 5, where the seasons are followed: the March day, which has no slots 4 and 5; the October day, which has them twice; a March day with
+// cells in them, `refused 35`; and that one where the seasons are not followed. stdout was written by hand from the two documents, and not by
+// this code.
 ghost use mathlib.Core.Path.{_≡_};
 ghost use lib.ListN.{take};
 use dayreport::LINE_MOST;
 use dayreport::STRIP_MOST;
 use dayreport::TextAnswer;
 use libc::STDOUT_FILENO;
+use logfile::ROW_BYTES;
 
-// Where the file's version stands.
+// Where the file's version stands, the rows of the day's first slot and of that at 02:00, and the CRC.
 const VERSION: usize = 3;
 
-const IMAGE: usize = log::HEADER_BYTES + 48 * log::CELL_BYTES;
+const SLOT_0: usize = log::HEADER_BYTES;
 
-const FILE: usize = IMAGE + frame::layout::CRC_BYTES;
+const SLOT_4: usize = SLOT_0 + 4 * ROW_BYTES;
+
+const CRC: usize = SLOT_0 + 48 * ROW_BYTES;
+
+const FILE: usize = CRC + frame::layout::CRC_BYTES;
 
 fn main() {
-    show(good());
-    show(with(good(), VERSION, b"\x02"));
-    show(with(good(), IMAGE, b"\x00\x00"));
+    first_version();
+    second_version();
 }
 
-fn good() -> [u8; FILE] {
+fn first_version() {
+    show(may());
+    show(with(may(), VERSION, b"\x03"));
+    show(with(may(), CRC, b"\x00\x00"));
+}
+
+fn may() -> [u8; FILE] {
+    file(b"GEL\x01\x00\x18\x05\x11\x01\x1E\x64\x00\x00\x00", SLOT_0)
+}
+
+fn second_version() {
+    show(file(b"GEL\x02\x00\x18\x03\x1F\x01\x1E\x64\x00\x01\x00", SLOT_0));
+    show(file(b"GEL\x02\x00\x18\x0A\x1B\x01\x1E\x64\x00\x01\x00", SLOT_4));
+    show(file(b"GEL\x02\x00\x18\x03\x1F\x01\x1E\x64\x00\x01\x00", SLOT_4));
+    show(file(b"GEL\x02\x00\x18\x03\x1F\x01\x1E\x64\x00\x00\x00", SLOT_4));
+}
+
+// The file with this header, measured in the row at a place and empty in the next.
+fn file(header: &[u8], row: usize) -> [u8; FILE] {
     let mut file = [0u8; FILE];
-    words::put_bytes(
-        &mut file,
-        0,
-        b"GEL\x01\x00\x18\x05\x11\x01\x1E\x64\x00\x00\x00",
-    );
-    words::put_bytes(
-        &mut file,
-        log::HEADER_BYTES,
-        b"\x02\x0C\x00\x00\x00\x03\x00\x00\x00\x01",
-    );
-    frame::seal(&mut file, IMAGE);
+    words::put_bytes(&mut file, 0, header);
+    words::put_bytes(&mut file, row, b"\x02\x0C\x00\x00\x00\x03\x00\x00\x00\x01");
+    frame::seal(&mut file, CRC);
     file
 }
 

@@ -1,5 +1,5 @@
 //! Demand 3 of the model: histories of asks, lapses and replies of any bytes, given to the log's calls and to the plain book. Every
-//! answer, the ask left open and the log's bytes are those of the book.
+//! answer, the ask left open and the log's bytes are those of the book. Half of the logs begin about a season day.
 
 #[path = "compare/damage.rs"]
 #[allow(dead_code)]
@@ -10,12 +10,12 @@ mod random;
 
 use damage::{damaged, damaged_and_sealed};
 use metlazuel_check::model::book::Book;
-use metlazuel_check::model::calendar::date_of;
-use metlazuel_check::model::count_bytes;
+use metlazuel_check::model::calendar::{date_of, last_sunday};
 use metlazuel_check::model::crc::sealed;
 use metlazuel_check::model::log::{self, Ask, Header};
 use metlazuel_check::model::reader::{READ, READ_SHOWN};
 use metlazuel_check::model::refusal::Refusal;
+use metlazuel_check::model::{count_bytes, slots};
 use random::Random;
 use std::collections::BTreeSet;
 
@@ -25,31 +25,40 @@ const HEADER_BYTES: usize = 14;
 const SLICE: u8 = 36;
 const SEED: u64 = 2;
 
+/// What the histories led to.
+#[derive(Default)]
+struct Seen {
+    numbers: BTreeSet<u8>,
+    /// Asks that got 22 though the log has a cell for them.
+    missing: u32,
+}
+
 #[test]
 fn every_history_is_the_books() {
-    let mut numbers = BTreeSet::new();
+    let mut seen = Seen::default();
     for case in 0..HISTORIES {
         let random = &mut Random::of(SEED, case);
         let fresh = log::fresh(any_header(random)).expect("a header in its ranges");
-        let first = history(random, fresh, &mut numbers);
+        let first = history(random, fresh, &mut seen);
         let file = log::write_file(&first).expect("a sound log");
-        history(random, log::read_file(&file).expect("a log's file"), &mut numbers);
+        history(random, log::read_file(&file).expect("a log's file"), &mut seen);
     }
     let told = [0, 20, 21, 22, 24, 25, 50, 51, 52, 53, 54];
-    assert_eq!(numbers, BTreeSet::from(told), "the numbers that the histories led to");
+    assert_eq!(seen.numbers, BTreeSet::from(told), "the numbers that the histories led to");
+    assert!(seen.missing >= 500, "{} asks for slots that do not exist", seen.missing);
 }
 
 /// A history from a log with no ask open; gives the log after it.
-fn history(random: &mut Random, mut image: Vec<u8>, numbers: &mut BTreeSet<u8>) -> Vec<u8> {
+fn history(random: &mut Random, mut image: Vec<u8>, seen: &mut Seen) -> Vec<u8> {
     let header = log::header(&image).expect("a sound log");
     let front = image[..HEADER_BYTES].to_vec();
     let mut book = Book::begin(header, |day, slot| log::cell(&image, day, slot).expect("a sound cell"));
     let mut open = None;
     for _ in 0..CALLS {
-        let (ours, books) = call(random, &mut image, &mut open, &mut book);
+        let (ours, books) = call(random, &mut image, &mut open, &mut book, seen);
         assert_eq!(ours, books);
         assert_eq!(open, book.open());
-        numbers.insert(ours.map_or_else(Refusal::number, |()| 0));
+        seen.numbers.insert(ours.map_or_else(Refusal::number, |()| 0));
     }
     assert_eq!(image, [front, book.cells()].concat());
     image
@@ -58,11 +67,20 @@ fn history(random: &mut Random, mut image: Vec<u8>, numbers: &mut BTreeSet<u8>) 
 type Answer = Result<(), Refusal>;
 
 /// One call of each, and both answers.
-fn call(random: &mut Random, image: &mut [u8], open: &mut Option<Ask>, book: &mut Book) -> (Answer, Answer) {
+fn call(
+    random: &mut Random,
+    image: &mut [u8],
+    open: &mut Option<Ask>,
+    book: &mut Book,
+    seen: &mut Seen,
+) -> (Answer, Answer) {
     match random.below(16) {
         0..=6 => {
             let ask = any_ask(random, image);
-            (log::ask(image, open, ask).map(|_| ()), book.ask(ask))
+            let ours = log::ask(image, open, ask).map(|_| ());
+            let has_a_cell = ask.day < image[8] && ask.slot < slots(image[9]);
+            seen.missing += u32::from(has_a_cell && ours == Err(Refusal::NotInLog));
+            (ours, book.ask(ask))
         }
         7 => {
             log::lapse(open);
@@ -77,16 +95,25 @@ fn call(random: &mut Random, image: &mut [u8], open: &mut Option<Ask>, book: &mu
 }
 
 fn any_header(random: &mut Random) -> Header {
-    let (year, month, day) = date_of(random.below(36_500) as u32);
+    let (year, month, day) = if random.one_in(2) { season_day(random) } else { date_of(random.below(36_500) as u32) };
     let (days, minutes) = (random.within(1, 3), random.pick(&[15, 30]));
-    Header { year, month, day, days, minutes, ke: random.word().max(1) }
+    Header { year, month, day, days, minutes, ke: random.word().max(1), seasons: random.pick(&[0, 1, 1]) }
 }
 
-/// One of two intervals most often, so that replies meet; else any.
+/// The last Sunday of March or October, or one of the two days before it.
+fn season_day(random: &mut Random) -> (u8, u8, u8) {
+    let (year, month) = (random.within(0, 99), random.pick(&[3, 3, 3, 10]));
+    (year, month, last_sunday(year, month) - random.pick(&[0, 0, 0, 1, 2]))
+}
+
+/// One of two intervals most often, so that replies meet; else one about the hour from 02:00, or any.
 fn any_ask(random: &mut Random, image: &[u8]) -> Ask {
     let days = image[8];
-    let (day, slot) =
-        if random.one_in(4) { (random.within(0, days), random.within(0, 96)) } else { (0, random.within(0, 1)) };
+    let (day, slot) = match random.below(8) {
+        0 => (random.within(0, days), random.within(0, 96)),
+        1..=3 => (random.within(0, days - 1), random.within(3, 12)),
+        _ => (0, random.within(0, 1)),
+    };
     Ask { address: random.pick(&[0, 1, 255]), day, slot }
 }
 

@@ -67,16 +67,16 @@ fn log_and_reader() {
         (&format!("save {path}"), "28"),
         ("lapse", "0"),
         ("open", "0 closed"),
-        ("log 2024 5 17 1 20 100", "27"),
-        ("log 1999 5 17 1 30 100", "27"),
-        ("log 2024 5 17 1 30 100", "0"),
+        ("log 2024 5 17 1 20 100 0", "27"),
+        ("log 1999 5 17 1 30 100 0", "27"),
+        ("log 2024 5 17 1 30 100 0", "0"),
         ("reply 00", "20"),
         ("ask 1 0 48", "22"),
         ("ask 1 1 0", "22"),
         ("ask 1 0 0", "0 010324051100536B"),
         ("ask 1 0 48", "21"),
         ("open", "0 1 0 0"),
-        ("log 2024 5 17 0 30 100", "27"),
+        ("log 2024 5 17 0 30 100 0", "27"),
         ("open", "0 1 0 0"),
         // a reply thrown away: length, CRC, address, function, top bit, parameter; the ask stays
         ("reply", "50 0"),
@@ -93,14 +93,14 @@ fn log_and_reader() {
         ("open", "0 closed"),
         ("cell 0 0", "0 gap"),
         ("cell 0 48", "22"),
-        ("report 0", "0 48 0 0 0 0 0 0"),
+        ("report 0", "0 48 0 0 0 0 0 0 0"),
         ("report 1", "22"),
         (&format!("save {path}"), "0"),
-        ("log 2000 1 1 62 15 1", "0"),
+        ("log 2000 1 1 62 15 1 0", "0"),
         ("ask 9 61 95", "0 09032403025FFF2A"),
         (&format!("load {path}"), "0"),
         ("open", "0 closed"),
-        ("report 0", "0 48 0 0 0 0 0 0"),
+        ("report 0", "0 48 0 0 0 0 0 0 0"),
         ("load /nowhere/at/all", "?"),
         ("save /nowhere/at/all", "?"),
         ("request 1 36 5 17 0", "0 010324051100536B"),
@@ -130,7 +130,7 @@ fn a_carriage_return_at_a_lines_end() {
 #[test]
 fn the_report_of_document_01_with_p9() {
     talk(&[
-        ("log 2024 5 17 1 30 100", "0"),
+        ("log 2024 5 17 1 30 100 0", "0"),
         ("ask 1 0 0", "0 010324051100536B"),
         ("reply 010324000000000000000000D63A", "0"),
         ("cell 0 0", "0 empty"),
@@ -142,7 +142,7 @@ fn the_report_of_document_01_with_p9() {
         ("cell 0 0", "0 measured 12 0 3 0"),
         ("ask 1 0 1", "0 01032405110192AB"),
         ("reply 010324000000000000000000D63A", "0"),
-        ("report 0", "0 46 1 1 12 0 3 0"),
+        ("report 0", "0 46 1 1 12 0 3 0 0"),
     ]);
 }
 
@@ -208,10 +208,59 @@ fn function_4() {
         ("slice 5 17 0 65535 0 0 0", "0"),
         ("inquire4 1 36 5 17 0", "0 4F7FFE00 00000000 00000000 00000000"),
         // the log takes function 3 only
-        ("log 2024 5 17 1 30 100", "0"),
+        ("log 2024 5 17 1 30 100 0", "0"),
         ("ask 1 0 0", "0 010324051100536B"),
         ("reply 0104240052499D3A0000000052499D39000000008FA4", "50 22"),
         ("reply 010424000C00000003000000CC5F", "53"),
         ("open", "0 1 0 0"),
     ]);
+}
+
+#[test]
+fn the_two_season_days() {
+    let path = std::env::temp_dir().join(format!("metlazuel-check-seasons-{}.gel", std::process::id()));
+    let path = path.to_str().expect("a plain path");
+    talk(&[
+        ("log 2024 3 31 1 30 100", "?"),
+        ("log 2024 3 31 1 30 100 1 1", "?"),
+        ("log 2024 3 31 1 30 100 256", "?"),
+        ("log 2024 3 31 1 30 100 2", "27"),
+        ("log 2024 3 31 1 30 100 255", "27"),
+        // the March day: no slots 4 and 5, and 03:00 is there
+        ("log 2024 3 31 1 30 100 1", "0"),
+        ("cell 0 3", "0 gap"),
+        ("cell 0 4", "22"),
+        ("cell 0 5", "22"),
+        ("cell 0 6", "0 gap"),
+        ("ask 1 0 4", "22"),
+        ("ask 1 0 5", "22"),
+        ("open", "0 closed"),
+        ("ask 1 0 6", "0 010324031F063708"),
+        ("reply 010324000C00000003000000D62B", "0"),
+        ("report 0", "0 45 0 1 12 0 3 0 0"),
+        (&format!("save {path}"), "0"),
+        ("log 2024 3 31 1 30 100 0", "0"),
+        ("cell 0 4", "0 gap"),
+        ("report 0", "0 48 0 0 0 0 0 0 0"),
+        (&format!("load {path}"), "0"),
+        ("cell 0 4", "22"),
+        ("report 0", "0 45 0 1 12 0 3 0 0"),
+        ("log 2024 3 31 1 15 100 1", "0"),
+        ("report 0", "0 92 0 0 0 0 0 0 0"),
+        ("cell 0 8", "22"),
+        ("cell 0 11", "22"),
+        ("cell 0 12", "0 gap"),
+        // the October day: 4 and 5 are counted once more when they are measured, 03:00 is not
+        ("log 2024 10 27 1 30 100 1", "0"),
+        ("ask 1 0 4", "0 0103240A1B04640B"),
+        ("reply 010324000000000000000000D63A", "0"),
+        ("report 0", "0 47 1 0 0 0 0 0 0"),
+        ("ask 1 0 4", "0 0103240A1B04640B"),
+        ("reply 010324000C00000003000000D62B", "0"),
+        ("report 0", "0 47 0 1 12 0 3 0 1"),
+        ("ask 1 0 6", "0 0103240A1B06E5CA"),
+        ("reply 010324000C00000003000000D62B", "0"),
+        ("report 0", "0 46 0 2 24 0 6 0 1"),
+    ]);
+    std::fs::remove_file(path).expect("the file was written");
 }

@@ -98,10 +98,10 @@ impl Console {
     // Log and reader
 
     fn log(&mut self, words: &[&str]) -> Line {
-        let [year, month, day, days, minutes, ke] = *words else { return None };
-        let [month, day, days, minutes] = bytes(&[month, day, days, minutes])?;
+        let [year, month, day, days, minutes, ke, seasons] = *words else { return None };
+        let [month, day, days, minutes, seasons] = bytes(&[month, day, days, minutes, seasons])?;
         let (year, ke) = (since_2000(word(year)?), word(ke)?);
-        let image = year.and_then(|year| log::fresh(Header { year, month, day, days, minutes, ke }));
+        let image = year.and_then(|year| log::fresh(Header { year, month, day, days, minutes, ke, seasons }));
         Some(done(image.map(|image| self.hold(image))))
     }
 

@@ -3,7 +3,9 @@
 
 use crate::damage::{change_byte, damaged, damaged_and_sealed};
 use crate::library;
-use crate::logs::{any_image, any_log, fitting, right_header, spoil, start, with_faulty_cell};
+use crate::logs::{
+    about_the_hour, any_file_image, any_log, day_of_the_hour, fitting, right_header, spoil, start, with_faulty_cell,
+};
 use crate::random::Random;
 use crate::run::{same, same_bytes, Answer, Group, Same};
 use crate::twin::{number, told_length, told_result};
@@ -24,6 +26,8 @@ const SLICE: u8 = 36;
 /// What is lent before a call.
 const LENT: u8 = 0xA5;
 const LENT_LENGTH: usize = usize::MAX;
+/// At least so many asks of the histories, with none open, are for a slot that does not exist.
+const ASKS_FOR_NO_SLOT: u32 = 4_000;
 
 #[test]
 fn fresh_logs() {
@@ -51,12 +55,15 @@ fn files_written() {
         let random = &mut Random::of(group.seed, case);
         let log = any_log(random);
         let room = room(random, log.len() + 2);
-        let short = log::header(&log).is_ok() && room < log.len() + 2;
-        let outcome = if short { Err(Refusal::OutputTooShort) } else { log::write_file(&log) };
-        let answer = same_output(&outcome, room, |out, length| library::write_file(&log, out, length));
-        group.call(case, answer, || format!("{} bytes into {room}, from {:?}", log.len(), start(&log)));
+        group.call(case, write_both(&log, room), || format!("{} bytes into {room}, from {:?}", log.len(), start(&log)));
     }
     group.end(&[0, 1, 28]);
+}
+
+pub fn write_both(log: &[u8], room: usize) -> Answer {
+    let short = log::header(log).is_ok() && room < log.len() + 2;
+    let outcome = if short { Err(Refusal::OutputTooShort) } else { log::write_file(log) };
+    same_output(&outcome, room, |out, length| library::write_file(log, out, length))
 }
 
 /// The number, the length and the whole output; a refusal leaves length and output.
@@ -89,7 +96,7 @@ fn room(random: &mut Random, wanted: usize) -> usize {
 }
 
 #[derive(Debug)]
-enum Call {
+pub enum Call {
     /// An ask, and the room of its output.
     Ask(Ask, usize),
     Lapse,
@@ -98,7 +105,7 @@ enum Call {
 
 /// A log and the bytes of its open ask, as the model has them and as the library has them.
 #[derive(Clone)]
-struct Logs {
+pub struct Logs {
     image: Vec<u8>,
     ask: Vec<u8>,
     library_image: Vec<u8>,
@@ -108,11 +115,13 @@ struct Logs {
 #[test]
 fn histories() {
     let mut group = Group::new("histories of asks, lapses and replies");
+    let mut missing = 0;
     for case in 0..HISTORIES {
         let random = &mut Random::of(group.seed, case);
         let mut logs = begun(random);
         for _ in 0..CALLS_OF_A_HISTORY {
             let call = any_call(random, &logs);
+            missing += u32::from(logs.meet_no_slot(&call));
             if random.one_in(16) {
                 let mut other = logs.with_other_bytes(random);
                 compare(&mut group, case, &mut other, &call);
@@ -121,10 +130,11 @@ fn histories() {
             }
         }
     }
+    assert!(missing >= ASKS_FOR_NO_SLOT, "asks for slots that do not exist: {missing}");
     group.end(&[0, 1, 20, 21, 22, 24, 25, 28, 50, 51, 52, 53, 54]);
 }
 
-fn compare(group: &mut Group, case: u64, logs: &mut Logs, call: &Call) {
+pub fn compare(group: &mut Group, case: u64, logs: &mut Logs, call: &Call) {
     let before = logs.ask.clone();
     let answer = logs.call(call);
     group.call(case, answer, || format!("{call:?} with the ask {before:?} and the log {:?}", start(&logs.image)));
@@ -146,7 +156,7 @@ fn fresh(random: &mut Random) -> (Vec<u8>, Vec<u8>) {
 
 fn read(random: &mut Random) -> (Vec<u8>, Vec<u8>) {
     loop {
-        let file = sealed(any_image(random));
+        let file = sealed(any_file_image(random));
         if let Ok(image) = read_file(&file) {
             let mut library_image = vec![LENT; image.len()];
             library::read_file(&file, &mut library_image, &mut 0);
@@ -172,6 +182,25 @@ fn bytes_of(open: Option<Ask>) -> Vec<u8> {
 }
 
 impl Logs {
+    /// The same log for both, with an ask or none open.
+    pub fn of(image: &[u8], open: Option<Ask>) -> Logs {
+        let ask = bytes_of(open);
+        Logs { image: image.to_vec(), ask: ask.clone(), library_image: image.to_vec(), library_ask: ask }
+    }
+
+    /// Whether an ask with none open has a cell in the log and no slot.
+    fn meet_no_slot(&self, call: &Call) -> bool {
+        match (call, log::header(&self.image)) {
+            (Call::Ask(ask, _), Ok(header)) => {
+                self.ask[0] == 0
+                    && ask.day < header.days
+                    && ask.slot < header.slots()
+                    && !header.holds(ask.day, ask.slot)
+            }
+            _ => false,
+        }
+    }
+
     fn call(&mut self, call: &Call) -> Answer {
         match call {
             Call::Ask(ask, room) => self.ask(*ask, *room),
@@ -253,11 +282,12 @@ impl Logs {
     /// The same for both, with a fault in the log or in the ask.
     fn with_other_bytes(&self, random: &mut Random) -> Logs {
         let (mut image, mut ask) = (self.image.clone(), self.ask.clone());
-        match random.below(5) {
+        match random.below(6) {
             0 => image = damaged(random, image),
             1 => change_byte(random, &mut image[..HEADER_BYTES]),
             2 => image = with_faulty_cell(random, image),
             3 => ask = damaged(random, ask),
+            4 => ask = vec![1, 1, day_of_the_hour(random, &self.image), about_the_hour(random)],
             _ => ask = vec![random.within(0, 2), random.byte(), random.within(0, 63), random.within(0, 96)],
         }
         Logs { image: image.clone(), ask: ask.clone(), library_image: image, library_ask: ask }
@@ -272,12 +302,13 @@ fn any_call(random: &mut Random, logs: &Logs) -> Call {
     }
 }
 
-/// One of a few intervals most often, so that replies meet; else one near the log's end or outside.
+/// One of a few intervals most often, so that replies meet; else one near the log's end or outside, or about the hour from 02:00.
 fn any_ask(random: &mut Random, image: &[u8]) -> Ask {
     let (days, slots) = (image[8], if image[9] == 15 { 96 } else { 48 });
     let (day, slot) = match random.below(8) {
         0 => (random.pick(&[days - 1, days, 255]), random.pick(&[0, slots - 1, slots, 255])),
         1 => (random.within(0, days - 1), random.within(0, slots - 1)),
+        2 | 3 => (day_of_the_hour(random, image), about_the_hour(random)),
         _ => (0, random.within(0, 1)),
     };
     Ask { address: random.pick(&[0, 1, 7, 255]), day, slot }

@@ -15,6 +15,7 @@ mod c {
             days: u8,
             minutes: u8,
             ke: u16,
+            seasons: u8,
             length: *mut usize,
         ) -> u8;
         pub fn metlazuel_cell(log: *const u8, n: usize, day: u8, slot: u8, kind: *mut u8, counts: *mut u16) -> u8;
@@ -209,9 +210,10 @@ pub fn write_file(log: &[u8], out: &mut [u8], length: &mut usize) -> u8 {
 }
 
 pub fn fresh(log: &mut [u8], header: &Header, length: &mut usize) -> u8 {
-    let Header { year, month, day, days, minutes, ke } = *header;
+    let Header { year, month, day, days, minutes, ke, seasons } = *header;
     guarded(log, |log| unsafe {
-        c::metlazuel_log_fresh(log.as_mut_ptr(), log.len(), year, month, day, days, minutes, ke, length)
+        let (room, log) = (log.len(), log.as_mut_ptr());
+        c::metlazuel_log_fresh(log, room, year, month, day, days, minutes, ke, seasons, length)
     })
 }
 

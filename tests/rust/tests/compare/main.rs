@@ -13,6 +13,7 @@ mod logs;
 mod mercury;
 mod random;
 mod run;
+mod seasons;
 mod settings;
 mod shown;
 mod sweep;

@@ -38,6 +38,9 @@ byte-requires-4 c κs = search needs
 short-requires : tie.Need-short-requires
 short-requires c κs = search needs
 
+byte-requires-5 : tie.Need-byte-requires-5
+byte-requires-5 c κs = search needs
+
 fresh-of-requires : tie.Need-fresh-of-requires
 fresh-of-requires c κs = search needs
 
@@ -47,14 +50,23 @@ same-length c = search needs
 returns-2 : tie.Need-returns-2
 unfolding freshIn
 returns-2 c =
-    let year = c .before .before .before .before .before .before .before .before .before .before .before .before .year in
-    let year2 = c .before .before .before .before .before .before .before .before .before .before .year2 in
-    let byte = c .before .before .before .before .before .before .before .before .byte in
-    let byte2 = c .before .before .before .before .before .before .before .byte2 in
-    let byte3 = c .before .before .before .before .before .before .byte3 in
-    let byte4 = c .before .before .before .before .before .byte4 in
-    let short = c .before .before .before .before .short in
-    rw (sym (year .ensures) ∙ year2 .given .1, sym (byte .ensures), sym (byte2 .ensures), sym (byte3 .ensures), sym (byte4 .ensures), sym (short .ensures)) (c .before .before .fresh-of .ensures)
+    let year = c .before .before .before .before .before .before .before .before .before .before .before .before .before .year in
+    let year2 = c .before .before .before .before .before .before .before .before .before .before .before .year2 in
+    let byte = c .before .before .before .before .before .before .before .before .before .byte in
+    let byte2 = c .before .before .before .before .before .before .before .before .byte2 in
+    let byte3 = c .before .before .before .before .before .before .before .byte3 in
+    let byte4 = c .before .before .before .before .before .before .byte4 in
+    let short = c .before .before .before .before .before .short in
+    let byte5 = c .before .before .before .before .byte5 in
+    rw (
+      sym (year .ensures) ∙ year2 .given .1,
+      sym (byte .ensures),
+      sym (byte2 .ensures),
+      sym (byte3 .ensures),
+      sym (byte4 .ensures),
+      sym (short .ensures),
+      sym (byte5 .ensures),
+    ) (c .before .before .fresh-of .ensures)
 
 pub fresh-from-spec : {M : Type 1} → statement M
 fresh-from-spec =
@@ -70,6 +82,7 @@ fresh-from-spec =
     byte-requires-3
     byte-requires-4
     short-requires
+    byte-requires-5
     fresh-of-requires
     same-length
     returns-2)

@@ -1,4 +1,4 @@
--- `put_row` meets its contract: seven stores from the front on are the row's numbers, with the rest behind them as it was (`sets-eq`).
+-- `put_row` meets its contract: eight stores from the front on are the row's numbers, with the rest behind them as it was (`sets-eq`).
 use Rattle.dayreport.specs.Tallies.{rowOf}
 use lib.Seq.{sets-eq}
 use lib.ListN.{length-set}
@@ -26,14 +26,17 @@ slice-write-row-6 : tie.Need-slice-write-row-6
 slice-write-row-6 c = simp length-set (omega arith)
 
 slice-write-row-7 : tie.Need-slice-write-row-7
-slice-write-row-7 c = search needs
+slice-write-row-7 c = simp length-set (omega arith)
+
+slice-write-row-8 : tie.Need-slice-write-row-8
+slice-write-row-8 c = search needs
 
 same-length : tie.Need-same-length
 same-length c = search needs
 
 returns : tie.Need-returns
 unfolding rowOf
-returns c = sets-eq (rowOf (c .args .t)) (c .args .row .now) 0 (c .pre)
+returns c = sets-eq (rowOf (c .args .t) (c .args .doubled)) (c .args .row .now) 0 (c .pre)
 
 pub put-row-spec : {M : Type 1} → statement M
 put-row-spec =
@@ -46,5 +49,6 @@ put-row-spec =
     slice-write-row-5
     slice-write-row-6
     slice-write-row-7
+    slice-write-row-8
     same-length
     returns)

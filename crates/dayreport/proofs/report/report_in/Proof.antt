@@ -1,12 +1,8 @@
 -- `report_in` meets its contract: the day's bound is `reportIn`'s test, and what `tally` says of the day's cells settles the row or 28.
-use Prim.Native.Nat.{_≤_}
-use native.Mathlib.Omega.{arith}
-use native.Mathlib.Nat.{mul-le-mul}
 use mathlib.Core.Path.{sym, ap, _∙_}
 use borrow.Author.Tests.{le-ltb, lt-ltb}
 use Rattle.refusal.specs.Outcome.{outcome}
-use Rattle.log.specs.Image.{cellAt}
-use Rattle.dayreport.proofs.TalliesLaws.{report-all, report-bad, day-tallied}
+use Rattle.dayreport.proofs.TalliesLaws.{report-all, report-bad}
 use Rattle.dayreport.specs.Report.{reportIn}
 use borrow.Author.Needs.{needs}
 use Rattle.dayreport.proofs.report.report_in.Statement.{statement}
@@ -15,19 +11,6 @@ use Rattle.dayreport.proofs.report.report_in.Tie as tie
 returns : tie.Need-returns
 unfolding reportIn
 returns c = simp (le-ltb _ _ (c .if1 .taken))
-
-slots-of-requires : tie.Need-slots-of-requires
-slots-of-requires c κs = search needs
-
-cast-tally : tie.Need-cast-tally
-cast-tally c = search needs
-
-mul-tally : tie.Need-mul-tally
-mul-tally c =
-    let start = c .before .before .before .before .before in
-    let d : start .args .day ≤ 255 = search needs in
-    let n : c .slots-of .result ≤ 255 = search needs in
-    omega (arith, mul-le-mul d n)
 
 tally-requires : tie.Need-tally-requires
 tally-requires c κs = search needs
@@ -49,28 +32,23 @@ unfolding reportIn
 returns-2 c =
     let t = c .before .before .before .before .before .t in
     let walked = c .before .before .before .before .before .before .before in
-    let start = walked .before .before .before .before .before .before in
-    let day = day-tallied (cellAt (start .args .log .now)) (start .args .h) (start .args .day) _ (walked .before .slots-of .ensures) in
-    let cells = day ∙ sym (walked .tally .ensures) ∙ t .given .1 in
-    simp (lt-ltb _ _ (walked .before .before .if1 .left)) (ap (outcome _) (c .before .before .put-row .ensures) ∙ sym (report-all _ (start .args .row .now) _ cells))
+    let start = walked .before .before .before .before .before in
+    let cells = sym (walked .tally .ensures) ∙ t .given .1 in
+    simp (lt-ltb _ _ (walked .before .if1 .left)) (ap (outcome _) (c .before .before .put-row .ensures) ∙ sym (report-all _ _ (start .args .row .now) _ _ cells))
 
 returns-3 : tie.Need-returns-3
 unfolding reportIn
 returns-3 c =
     let walked = c .before .before in
-    let start = walked .before .before .before .before .before .before in
-    let day = day-tallied (cellAt (start .args .log .now)) (start .args .h) (start .args .day) _ (walked .before .slots-of .ensures) in
-    let cells = day ∙ sym (walked .tally .ensures) ∙ c .enum-told .given .1 in
-    simp (lt-ltb _ _ (walked .before .before .if1 .left)) (sym (report-bad _ (start .args .row .now) cells))
+    let start = walked .before .before .before .before .before in
+    let cells = sym (walked .tally .ensures) ∙ c .enum-told .given .1 in
+    simp (lt-ltb _ _ (walked .before .if1 .left)) (sym (report-bad _ _ (start .args .row .now) cells))
 
 pub report-in-spec : {M : Type 1} → statement M
 report-in-spec =
     tie.close
     (tie.spec
     returns
-    slots-of-requires
-    cast-tally
-    mul-tally
     tally-requires
     enum-known-t
     put-row-requires

@@ -22,13 +22,18 @@ byte-at-requires-5 c κs = search needs
 u16-at-requires : tie.Need-u16-at-requires
 u16-at-requires c κs = search needs
 
+byte-at-requires-6 : tie.Need-byte-at-requires-6
+byte-at-requires-6 c κs = search needs
+
 returns : tie.Need-returns
 unfolding headerAt
 returns c =
-    let byte-at = c .before .before .before .before .before .byte-at in
-    let byte-at2 = c .before .before .before .before .byte-at2 in
-    let byte-at3 = c .before .before .before .byte-at3 in
-    simp (c .u16-at .ensures, c .before .byte-at5 .ensures, c .before .before .byte-at4 .ensures, byte-at3 .ensures, byte-at2 .ensures, byte-at .ensures)
+    let ke = c .before in
+    let byte-at = ke .before .before .before .before .before .byte-at in
+    let byte-at2 = ke .before .before .before .before .byte-at2 in
+    let byte-at3 = ke .before .before .before .byte-at3 in
+    let byte-at4 = ke .before .before .byte-at4 in
+    simp (c .byte-at6 .ensures, ke .u16-at .ensures, ke .before .byte-at5 .ensures, byte-at4 .ensures, byte-at3 .ensures, byte-at2 .ensures, byte-at .ensures)
 
 pub header-at-spec : {M : Type 1} → statement M
 header-at-spec =
@@ -40,4 +45,5 @@ header-at-spec =
     byte-at-requires-4
     byte-at-requires-5
     u16-at-requires
+    byte-at-requires-6
     returns)

@@ -4,12 +4,12 @@ use borrow.Author.Needs.{needs}
 use Rattle.log.proofs.header.version_right.Statement.{statement}
 use Rattle.log.proofs.header.version_right.Tie as tie
 
-u16-at-requires : tie.Need-u16-at-requires
-u16-at-requires c κs = search needs
+version-at-requires : tie.Need-version-at-requires
+version-at-requires c κs = search needs
 
 returns : tie.Need-returns
 unfolding versionRight
-returns c = simp (c .u16-at .ensures)
+returns c = simp (c .version-at .ensures)
 
 pub version-right-spec : {M : Type 1} → statement M
-version-right-spec = tie.close (tie.spec u16-at-requires returns)
+version-right-spec = tie.close (tie.spec version-at-requires returns)

@@ -1,8 +1,8 @@
--- `write_header` meets its contract: the seven parts, put one behind the other, are `headerBytes` (`onward`).
+-- `write_header` meets its contract: the eight parts, put one behind the other, are `headerBytes` (`onward`).
 use mathlib.Core.Path.{refl}
 use Rattle.words.proofs.PlaceLaws.{onward}
 use Rattle.words.specs.Number.{bytesOf}
-use Rattle.log.specs.Header.{dateBytes, headerBytes}
+use Rattle.log.specs.Header.{dateBytes, headerBytesAs}
 use borrow.Author.Needs.{needs}
 use Rattle.log.proofs.header.write_header.Statement.{statement}
 use Rattle.log.proofs.header.write_header.Tie as tie
@@ -28,17 +28,21 @@ put-byte-requires-2 c κs = search needs
 put-u16-requires-2 : tie.Need-put-u16-requires-2
 put-u16-requires-2 c κs = search needs
 
-put-u16-requires-3 : tie.Need-put-u16-requires-3
-put-u16-requires-3 c κs = search needs
+put-byte-requires-3 : tie.Need-put-byte-requires-3
+put-byte-requires-3 c κs = search needs
+
+put-byte-requires-4 : tie.Need-put-byte-requires-4
+put-byte-requires-4 c κs = search needs
 
 same-length : tie.Need-same-length
 same-length c = search needs
 
 returns : tie.Need-returns
-unfolding headerBytes dateBytes bytesOf
+unfolding headerBytesAs dateBytes bytesOf
 returns c =
-    let zeros = c .before .before in
-    let ke = zeros .before .before .before .before in
+    let last = c .before .before in
+    let seasons = last .before .before .before .before in
+    let ke = seasons .before .before .before .before in
     let minutes = ke .before .before .before .before in
     let days = minutes .before .before .before .before in
     let date = days .before .before .before .before in
@@ -49,7 +53,8 @@ returns c =
     let to-days = onward _ _ _ _ _ _ _ to-date (days .put-byte .ensures) refl in
     let to-minutes = onward _ _ _ _ _ _ _ to-days (minutes .put-byte2 .ensures) refl in
     let to-ke = onward _ _ _ _ _ _ _ to-minutes (ke .put-u162 .ensures) refl in
-    onward _ _ _ _ _ _ _ to-ke (zeros .put-u163 .ensures) refl
+    let to-seasons = onward _ _ _ _ _ _ _ to-ke (seasons .put-byte3 .ensures) refl in
+    onward _ _ _ _ _ _ _ to-seasons (last .put-byte4 .ensures) refl
 
 pub write-header-spec : {M : Type 1} → statement M
 write-header-spec =
@@ -62,6 +67,7 @@ write-header-spec =
     put-byte-requires
     put-byte-requires-2
     put-u16-requires-2
-    put-u16-requires-3
+    put-byte-requires-3
+    put-byte-requires-4
     same-length
     returns)

@@ -1,43 +1,37 @@
--- `first_wanted` meets its contract: in the loop, the first wanted from `i` on is the one from `slot` on; a wanted one at `i` is it, and at the end there is none.
+-- `first_wanted` meets its contract: in the loop, the first that is asked for from `i` on is the one from `slot` on; one at `i` is it, and at the end there is none.
 use Rattle.polling.proofs.NextLaws.{walk-stops, walk-on, walk-ends}
 use Rattle.log.specs.Image.{cellAt}
-use Rattle.polling.specs.Next.{wantedFrom, isWanted}
+use Rattle.polling.specs.Next.{asksFor, firstFrom, nextIn}
 use borrow.Author.Needs.{needs}
 use native.Mathlib.Omega.{arith}
-use Prim.Native.Nat.{_-_}
+use Prim.Native.Nat.{ℕ, _-_}
 use mathlib.Core.Path.{_≡_, refl, sym, ap, _∙_}
 use Rattle.polling.proofs.next.first_wanted.Statement.{statement}
 use Rattle.polling.proofs.next.first_wanted.Tie as tie
 
 abbrev Inv-loop : tie.InvT-loop
-Inv-loop log first slot end wanted i₀ i = wantedFrom wanted (cellAt log) first i (end - i) ≡ wantedFrom wanted (cellAt log) first slot (end - slot)
+Inv-loop log h day slot wanted end i₀ i = firstFrom (asksFor wanted h (cellAt log) day) i (end - i) ≡ nextIn wanted h (cellAt log) day slot
 
 abbrev μ-loop : tie.MeasureT-loop
-μ-loop log first slot end wanted i₀ i = end - i
+μ-loop log h day slot wanted end i₀ i = end - i
+
+slots-of-requires : tie.Need-slots-of-requires Inv-loop μ-loop
+slots-of-requires c κs = search needs
 
 loop-holds : tie.Need-loop-holds Inv-loop μ-loop
-loop-holds c = refl
+unfolding nextIn
+loop-holds c =
+    let args = c .before .before .args in
+    ap (λ (n : ℕ). firstFrom (asksFor (args .wanted) (args .h) (cellAt (args .log .now)) (args .day)) (args .slot) (n - args .slot)) (c .slots-of .ensures)
 
-cast-cell-at : tie.Need-cast-cell-at Inv-loop μ-loop
-cast-cell-at c = search needs
-
-add-cell-at : tie.Need-add-cell-at Inv-loop μ-loop
-add-cell-at c = omega arith
-
-cell-at-requires : tie.Need-cell-at-requires Inv-loop μ-loop
-cell-at-requires c κs = search needs
-
-is-wanted-requires : tie.Need-is-wanted-requires Inv-loop μ-loop
-is-wanted-requires c κs = search needs
+asks-for-requires : tie.Need-asks-for-requires Inv-loop μ-loop
+asks-for-requires c κs = search needs
 
 returns : tie.Need-returns Inv-loop μ-loop
 returns c =
-    let loop-test = c .before .before .before .loop-test in
-    let start = c .before .before .before .before .before .before in
-    let turn = c .before .before .before .before .loop in
-    sym (walk-stops (start .args .wanted) (cellAt (start .args .log .now)) (start .args .first) (turn .i) (start .args .end) (loop-test .taken)
-    (ap (isWanted (start .args .wanted)) (sym (c .before .before .cell-at .ensures)) ∙ sym (c .before .is-wanted .ensures) ∙ c .if1 .taken))
-    ∙ turn .inv
+    let loop-test = c .before .before .loop-test in
+    let turn = c .before .before .before .loop in
+    sym (walk-stops _ (turn .i) _ (loop-test .taken) (sym (c .before .asks-for .ensures) ∙ c .if1 .taken)) ∙ turn .inv
 
 add-i : tie.Need-add-i Inv-loop μ-loop
 add-i c = omega arith
@@ -47,17 +41,14 @@ loop-less c = omega arith
 
 loop-again : tie.Need-loop-again Inv-loop μ-loop
 loop-again c =
-    let loop-test = c .before .before .before .loop-test in
-    let start = c .before .before .before .before .before .before in
-    let turn = c .before .before .before .before .loop in
-    walk-on (start .args .wanted) (cellAt (start .args .log .now)) (start .args .first) (turn .i) (start .args .end) (loop-test .taken)
-    (ap (isWanted (start .args .wanted)) (sym (c .before .before .cell-at .ensures)) ∙ sym (c .before .is-wanted .ensures) ∙ c .if1 .left)
-    ∙ turn .inv
+    let loop-test = c .before .before .loop-test in
+    let turn = c .before .before .before .loop in
+    walk-on _ (turn .i) _ (loop-test .taken) (sym (c .before .asks-for .ensures) ∙ c .if1 .left) ∙ turn .inv
 
 returns-2 : tie.Need-returns-2 Inv-loop μ-loop
 returns-2 c =
-    let args = c .before .before .before .args in
-    sym (walk-ends (args .wanted) (cellAt (args .log .now)) (args .first) (c .before .loop .i) _ (omega arith)) ∙ c .before .loop .inv
+    let turn = c .before .loop in
+    sym (walk-ends _ (turn .i) _ (omega arith)) ∙ turn .inv
 
 pub first-wanted-spec : {M : Type 1} → statement M
 first-wanted-spec =
@@ -65,11 +56,9 @@ first-wanted-spec =
     (tie.spec
     Inv-loop
     μ-loop
+    slots-of-requires
     loop-holds
-    cast-cell-at
-    add-cell-at
-    cell-at-requires
-    is-wanted-requires
+    asks-for-requires
     returns
     add-i
     loop-less

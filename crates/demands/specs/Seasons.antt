@@ -1,0 +1,59 @@
+-- Document 02, CR 5, "The night with two half past twos". Which slots do not exist, and which come twice, is said by `exists` and `comesTwice`
+-- (`log/specs/Interval.antt`). That a history fixes the log byte for byte, from starts whose cells are gaps in such slots, is demand 3's; that a refused call
+-- leaves all that it was lent, demand 1's; here stands what becomes of these slots. Proofs: `seasons`, proofs/Claims.antt.
+use mathlib.Core.Path.{_≡_}
+use mathlib.Core.Bool.{true, false, cond}
+use mathlib.Core.List.{List, _++_}
+use Prim.Native.Nat.{ℕ, _+_, _-_, _≤_, _<_}
+use lib.ListN.{length, take, drop, getD}
+use Rattle.refusal.specs.Outcome.{outcome}
+use Rattle.words.specs.Number.{Bytes}
+use Rattle.frame.specs.Layout.{readSize}
+use Rattle.slots.specs.Day.{slotsOf}
+use Rattle.season_nights.specs.Night.{isSpring, isAutumn}
+use Rattle.season_nights.specs.Run.{hourOf}
+use Rattle.log.specs.Header.{cellsOf, versionAt, soundOf}
+use Rattle.log.specs.Interval.{nightOn, exists, existsAt}
+use Rattle.log.specs.View.{View, viewOf}
+use Rattle.log.specs.declared.cell.Cell.the-variants.{Gap}
+use Rattle.log.specs.declared.cell.CellAnswer.the-variants.{Good}
+use Rattle.log.specs.declared.header.Header.{Header}
+use Rattle.log.specs.declared.header.Lent.the-variants.{Sound}
+use Rattle.dayreport.specs.Report.{reportOf}
+use Rattle.dayreport.specs.declared.report.ReportAnswer.the-variants as report
+use Rattle.logfile.specs.File.{fileBytesAs}
+use Rattle.logfile.specs.Read.{readFile}
+use Rattle.logfile.specs.declared.read.ReadAnswer.the-variants as read
+use Rattle.logger.specs.Ask.{asked, answered}
+use Rattle.logger.specs.Book.{Call, AllBytes}
+use Rattle.logger.specs.Take.{taken}
+use Rattle.logger.specs.declared.ask.AskAnswer.the-variants as ask
+use Rattle.logger.specs.declared.held.OpenAsk.the-variants.{Closed, Open}
+use Rattle.logger.specs.declared.take.TakeAnswer.the-variants as take-answer
+use Rattle.polling.specs.Next.{nextWanted}
+use Rattle.polling.specs.declared.next.Next.the-variants.{Slot}
+use Rattle.polling.specs.declared.next.Wanted.{Wanted}
+use Rattle.demands.specs.Demand3.{Start, ran}
+
+pub record Seasons : Type 0 where
+  -- "their cells stay gap in the image", whatever calls come
+  pub stay-gaps : (s : List ℕ) (start : Start s) (calls : List Call) → AllBytes calls → (i : ℕ) → i < cellsOf (start .header)
+      → existsAt (start .header) i ≡ false → viewOf (ran s calls .left .log) .cell i ≡ Good Gap
+  -- "can't be asked for": "22 also for a slot that doesn't exist", of an ask and of a reply to one; and a poller asks for none
+  pub ask-refused : (v : View) (h : Header) (address day slot : ℕ) (out : List ℕ) → v .lent ≡ Sound h → exists h day slot ≡ false → readSize ≤ length out
+      → asked v Closed address day slot out ≡ answered ask.NotInLog Closed out
+  pub reply-refused : (s : List ℕ) (h : Header) (address day slot : ℕ) (y : List ℕ) → soundOf s ≡ Sound h → exists h day slot ≡ false
+      → taken s (Open address day slot) y ≡ outcome (record { answer = take-answer.NotInLog; held = Open address day slot }) s
+  pub never-polled : (w : Wanted) (v : View) (h : Header) (day from slot : ℕ) → v .lent ≡ Sound h → nextWanted w v day from ≡ Slot slot
+      → exists h day slot ≡ true
+  -- "and aren't counted": a day's three tallies make up the slots that it has, an hour less on the March day; and `doubled`, "the lent row's eighth
+  -- number", is 0 "on all other days" than the October one, "and without 1"
+  pub adds-up : (v : View) (h : Header) (d : ℕ) (row after : List ℕ) → v .lent ≡ Sound h → reportOf v d row ≡ outcome report.Done after
+      → getD after 0 0 + getD after 1 0 + getD after 2 0 ≡ slotsOf (h .minutes) - cond (isSpring (nightOn h d)) (hourOf (h .minutes)) 0
+  pub none-doubled : (v : View) (h : Header) (d : ℕ) (row after : List ℕ) → v .lent ≡ Sound h → reportOf v d row ≡ outcome report.Done after
+      → isAutumn (nightOn h d) ≡ false → getD after 7 0 ≡ 0
+  -- "version 1 is read as 0": what a file of version 1 gives does not follow the seasons, and every start's that does not is read
+  pub first-version : (f out : List ℕ) (n : ℕ) (h : Header) → Bytes f → versionAt f ≡ 1 → readFile f out .result ≡ read.Done n
+      → soundOf (take n (readFile f out .left)) ≡ Sound h → h .seasons ≡ 0
+  pub first-version-had : (s out : List ℕ) (start : Start s) → start .header .seasons ≡ 0 → length s ≤ length out
+      → readFile (fileBytesAs 1 (start .header) (start .cells)) out ≡ outcome (read.Done (length s)) (s ++ drop (length s) out)

@@ -1,0 +1,3 @@
+pub mod NightLaws
+pub mod RunLaws
+pub mod Examples
