@@ -49,6 +49,7 @@ uint8_t c_write_file(c_crc *crc, const uint8_t *log, size_t n, uint8_t *out, siz
 uint8_t c_day_report(const uint8_t *log, size_t n, uint8_t day, uint32_t *row, size_t room);
 uint8_t c_take(uint8_t *log, size_t n, uint8_t *ask, size_t size, const uint8_t *reply, size_t bytes, uint8_t *result,
                size_t *length);
+uint8_t c_lapse(uint8_t *log, size_t n, uint8_t *ask, size_t size);
 
 int meter_right(const struct meter *m);
 int c_load(struct meter *m, const uint8_t *p);

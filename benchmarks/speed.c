@@ -8,7 +8,7 @@
 #include "metlazuel.h"
 #include "plain.h"
 
-enum { DAYS = 62, SLOTS = 96, IMAGE = 14 + 9 * DAYS * SLOTS, FULL = IMAGE + 2 };
+enum { DAYS = 62, SLOTS = 96, CELL = 10, OLD_ROW = 9, IMAGE = 14 + CELL * DAYS * SLOTS, FULL = IMAGE + 2 };
 
 // ---- the input
 
@@ -31,21 +31,23 @@ static void seal(void)
     file[IMAGE + 1] = (uint8_t)(crc >> 8);
 }
 
-// 62 days of 15 minutes from 2024-05-17, Ke 100, with the seasons followed: an eighth gaps, an eighth empty, the rest measured.
+// 62 days of 15 minutes from 2024-05-17, Ke 100, with the seasons followed: an eighth gaps, an eighth empty, the rest measured, as the last
+// one is; a quarter have lapses.
 static void make_file(void)
 {
-    static const uint8_t head[14] = {'G', 'E', 'L', 2, 0, 24, 5, 17, DAYS, 15, 100, 0, 1, 0};
+    static const uint8_t head[14] = {'G', 'E', 'L', 3, 0, 24, 5, 17, DAYS, 15, 100, 0, 1, 0};
     memset(file, 0, sizeof file);
     memcpy(file, head, sizeof head);
     for (size_t i = 0; i < DAYS * SLOTS; i++) {
-        uint8_t *p = file + 14 + 9 * i;
-        unsigned kind = roll() % 8;
+        uint8_t *p = file + 14 + CELL * i;
+        unsigned kind = i + 1 < DAYS * SLOTS ? roll() % 8 : 2;
         p[0] = kind < 2 ? (uint8_t)kind : 2;
         if (p[0] == 2) {
             for (int k = 1; k < 9; k++)
                 p[k] = (uint8_t)roll();
             p[1] |= 1;
         }
+        p[9] = roll() % 4 == 0 ? (uint8_t)roll() : 0;
     }
     seal();
 }
@@ -89,16 +91,40 @@ static void differ(const char *what)
     exit(1);
 }
 
-static void same_read(size_t n, size_t room)
+static void same_read_of(const uint8_t *f, size_t n, size_t room)
 {
     size_t ours = 7, c = 7;
     memset(ours_out, 0xEE, sizeof ours_out);
     memset(c_out, 0xEE, sizeof c_out);
-    uint8_t a = metlazuel_read_file(file, n, ours_out, room, &ours), b = c_read_file(c_crc_appendix, file, n, c_out, room, &c);
+    uint8_t a = metlazuel_read_file(f, n, ours_out, room, &ours), b = c_read_file(c_crc_appendix, f, n, c_out, room, &c);
     if (a != b || ours != c || memcmp(ours_out, c_out, sizeof c_out) != 0)
         differ("read");
     compared++;
     refused += a != 0;
+}
+
+static void same_read(size_t n, size_t room)
+{
+    same_read_of(file, n, room);
+}
+
+// The file's cells as one of version 1 or 2, whose rows have no lapses: with its own length and others, and in less room.
+static void same_older(uint8_t version)
+{
+    static uint8_t older[FULL];
+    size_t n = 14;
+    memcpy(older, file, 14);
+    older[3] = version;
+    for (size_t i = 0; i < DAYS * SLOTS; i++, n += OLD_ROW)
+        memcpy(older + n, file + 14 + CELL * i, OLD_ROW);
+    unsigned crc = c_crc_words(older, n);
+    older[n] = (uint8_t)crc;
+    older[n + 1] = (uint8_t)(crc >> 8);
+    same_read_of(older, n + 2, FULL);
+    same_read_of(older, n + 2, IMAGE - 1);
+    same_read_of(older, n + 1, FULL);
+    older[n] ^= 1;
+    same_read_of(older, n + 2, FULL);
 }
 
 static void same_report(size_t n, unsigned day, size_t room)
@@ -245,6 +271,49 @@ static void same_take(const uint8_t *open, size_t size, const uint8_t *reply, si
     refused += x != 0;
 }
 
+// A lapse of an open ask, over two copies of the file's image.
+static void same_lapse(size_t n, const uint8_t *open, size_t size)
+{
+    uint8_t a[5], b[5];
+    memcpy(a, open, sizeof a);
+    memcpy(b, open, sizeof b);
+    memcpy(ours_out, file, IMAGE);
+    memcpy(c_out, file, IMAGE);
+    uint8_t x = metlazuel_lapse(ours_out, n, a, size), y = c_lapse(c_out, n, b, size);
+    if (x != y || memcmp(a, b, sizeof a) != 0 || memcmp(ours_out, c_out, IMAGE) != 0)
+        differ("lapse");
+    compared++;
+    refused += x != 0;
+}
+
+// Each value of each byte of the ask, of a cell's lapses and of its kind, and other lengths.
+static void compare_lapses(void)
+{
+    uint8_t ask[5] = {1, 1, 30, 7, 0x55}, *cell = file + 14 + CELL * (30 * SLOTS + 7), kind = cell[0], lapses = cell[9];
+    for (size_t i = 0; i < 4; i++) {
+        uint8_t was = ask[i];
+        for (unsigned v = 0; v < 256; v++) {
+            ask[i] = (uint8_t)v;
+            same_lapse(IMAGE, ask, 4);
+        }
+        ask[i] = was;
+    }
+    for (unsigned v = 0; v < 256; v++) {
+        cell[9] = (uint8_t)v;
+        same_lapse(IMAGE, ask, 4);
+        cell[0] = (uint8_t)v;
+        same_lapse(IMAGE, ask, 4);
+        cell[0] = kind;
+    }
+    cell[9] = lapses;
+    for (size_t size = 3; size < 6; size++)
+        same_lapse(IMAGE, ask, size);
+    for (size_t n = 0; n < 20; n++) {
+        same_lapse(n, ask, 4);
+        same_lapse(IMAGE - n, ask, 4);
+    }
+}
+
 static void compare_log(void)
 {
     uint8_t ask[5] = {1, 1, 30, 7, 0x55}, r[64] = {1, 3, 36, 0};
@@ -266,7 +335,7 @@ static void compare_log(void)
             ask[3] = (uint8_t)slot;
             memset(r + 4, counts == 1 ? 3 : 0, 8);
             if (counts == 2)
-                memcpy(r + 4, file + 14 + 9 * (30 * SLOTS + slot) + 1, 8);
+                memcpy(r + 4, file + 14 + CELL * (30 * SLOTS + slot) + 1, 8);
             seal_frame(r, 14);
             for (size_t size = 3; size < 6; size++)
                 same_take(ask, size, r, 14);
@@ -300,28 +369,34 @@ static void compare_log(void)
 // The cells of the hour from 02:00 on, on a day of the log.
 static uint8_t *hour_of(unsigned day)
 {
-    return file + 14 + 9 * (day * SLOTS + 8);
+    return file + 14 + CELL * (day * SLOTS + 8);
 }
 
 // A log in which the last Sunday of March or October is this day: its neighbours and slots, and its file with and without cells that are no
-// gaps in the hour, of both versions, with and without seasons.
+// gaps in the hour, or have lapses, of every version, with and without seasons.
 static void compare_night(unsigned day)
 {
-    uint8_t ask[5] = {1, 1, (uint8_t)day, 0, 0x55}, r[14] = {1, 3, 36, 0, 9}, hour[36];
+    uint8_t ask[5] = {1, 1, (uint8_t)day, 0, 0x55}, r[14] = {1, 3, 36, 0, 9}, hour[4 * CELL];
     memcpy(hour, hour_of(day), sizeof hour);
     seal_frame(r, 14);
     for (unsigned d = day == 0 ? 0 : day - 1; d <= day + 1; d++)
         same_report(IMAGE, d, METLAZUEL_ROW);
-    for (ask[3] = 6; ask[3] < 14; ask[3]++)
+    for (ask[3] = 6; ask[3] < 14; ask[3]++) {
         same_take(ask, 4, r, 14);
-    for (int gaps = 0; gaps < 2; gaps++) {
-        for (int k = 0; k < 4; k++) {
-            file[3] = (uint8_t)(1 + k / 2), file[12] = (uint8_t)(k % 2);
+        same_lapse(IMAGE, ask, 4);
+    }
+    // The cells as they are, gaps of which one has lapses, and gaps alone.
+    for (int gaps = 0; gaps < 3; gaps++) {
+        for (int seasons = 0; seasons < 2; seasons++) {
+            file[12] = (uint8_t)seasons;
             seal();
             same_read(FULL, FULL);
             same_write(IMAGE, FULL);
+            same_older(1);
+            same_older(2);
         }
         memset(hour_of(day), 0, sizeof hour);
+        hour_of(day)[2 * CELL + 9] = gaps == 0;
     }
     memcpy(hour_of(day), hour, sizeof hour);
     seal();
@@ -390,14 +465,14 @@ static void compare(void)
     memcpy(file + 5, start, 4);
     // A byte of a cell changed, under the old CRC and sealed again.
     for (int k = 0; k < 400; k++) {
-        size_t i = 14 + roll() % (IMAGE - 14), kind = 14 + 9 * (roll() % (DAYS * SLOTS));
+        size_t i = 14 + roll() % (IMAGE - 14), kind = 14 + CELL * (roll() % (DAYS * SLOTS));
         uint8_t was = file[i], kind_was = file[kind];
         file[i] ^= (uint8_t)roll();
         same_read(FULL, FULL);
         file[kind] = (uint8_t)(roll() % 4);
         seal();
         same_read(FULL, FULL);
-        same_report(IMAGE, (unsigned)((kind - 14) / 9 / SLOTS), METLAZUEL_ROW);
+        same_report(IMAGE, (unsigned)((kind - 14) / CELL / SLOTS), METLAZUEL_ROW);
         file[kind] = kind_was;
         file[i] = was;
         seal();
@@ -454,14 +529,15 @@ static void plain_displayed(void) { plain_answer(displayed_frame); }
 static void ours_absent(void) { ours_answer(absent_frame); }
 static void plain_absent(void) { plain_answer(absent_frame); }
 
-// The reply to an ask for the last slot of the log, which is measured with the same counts.
-static uint8_t taken[14] = {1, 3, 36, 0}, result;
+// The reply to an ask for the last slot of the log, which is measured with the same counts; and a copy of the log, whose asks lapse.
+static uint8_t taken[14] = {1, 3, 36, 0}, result, lapsing[IMAGE];
 static size_t received;
 
 static void make_reply(void)
 {
-    memcpy(taken + 4, file + IMAGE - 8, 8);
+    memcpy(taken + 4, file + IMAGE - CELL + 1, 8);
     seal_frame(taken, 14);
+    memcpy(lapsing, file, IMAGE);
 }
 
 static void ours_take(void)
@@ -476,6 +552,18 @@ static void plain_take(void)
     sink += c_take(file, IMAGE, ask, 4, taken, 14, &result, &received);
 }
 
+static void ours_lapse(void)
+{
+    uint8_t ask[4] = {1, 1, DAYS - 1, SLOTS - 1};
+    sink += metlazuel_lapse(lapsing, IMAGE, ask, 4);
+}
+
+static void plain_lapse(void)
+{
+    uint8_t ask[4] = {1, 1, DAYS - 1, SLOTS - 1};
+    sink += c_lapse(lapsing, IMAGE, ask, 4);
+}
+
 struct row {
     const char *what;
     void (*ours)(void), (*c)(void);
@@ -486,9 +574,9 @@ struct row {
 #define ROW(what, ours, c, calls) {what, ours, c, #ours, #c, calls}
 
 static const struct row rows[] = {
-    ROW("CRC of 53,582 bytes, C by 002's two tables", ours_crc, appendix_crc, 20),
-    ROW("CRC of 53,582 bytes, C by one 16-bit table", ours_crc, words_crc, 20),
-    ROW("CRC of 53,582 bytes, C by the same fold", ours_crc, fold_crc, 20),
+    ROW("CRC of 59,534 bytes, C by 002's two tables", ours_crc, appendix_crc, 20),
+    ROW("CRC of 59,534 bytes, C by one 16-bit table", ours_crc, words_crc, 20),
+    ROW("CRC of 59,534 bytes, C by the same fold", ours_crc, fold_crc, 20),
     ROW("CRC of 14 bytes, C by 002's two tables", ours_short, appendix_short, 5000),
     ROW("CRC of 14 bytes, C by the same fold", ours_short, fold_short, 5000),
     ROW("file of 5,952 cells read, C by 002's tables", ours_read, plain_read, 20),
@@ -497,6 +585,7 @@ static const struct row rows[] = {
     ROW("file of 5,952 cells written, C by the same fold", ours_write, fold_write, 20),
     ROW("report of a day of 96 slots", ours_report, plain_report, 5000),
     ROW("reply to an ask taken into the log", ours_take, plain_take, 5000),
+    ROW("lapse of an ask", ours_lapse, plain_lapse, 5000),
     ROW("meter: the clock read", ours_clock, plain_clock, 5000),
     ROW("meter: a slice in the last of 2,976 places", ours_last, plain_last, 200),
     ROW("meter: a slice as displayed, in the first place", ours_displayed, plain_displayed, 5000),
@@ -603,6 +692,7 @@ int main(int words, char **word)
     }
     compare();
     compare_log();
+    compare_lapses();
     compare_nights();
     compare_bench();
     compare_meter();

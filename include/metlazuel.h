@@ -12,8 +12,8 @@
 #include <stddef.h>
 #include <stdint.h>
 
-// What is declared here, as major * 10000 + minor * 100 + patch: 4.0.0. What is there today stays as it is while the major number does.
-#define METLAZUEL_VERSION 40000
+// What is declared here, as major * 10000 + minor * 100 + patch: 5.0.0. What is there today stays as it is while the major number does.
+#define METLAZUEL_VERSION 50000
 
 #ifdef __cplusplus
 extern "C" {
@@ -44,7 +44,7 @@ enum metlazuel_answer {
     METLAZUEL_FILE_HEADER = 32,
     METLAZUEL_FILE_LENGTH = 33,
     METLAZUEL_FILE_CRC = 34,
-    METLAZUEL_FILE_CELL = 35,         // a cell that is none, or another than a gap in a slot that does not exist
+    METLAZUEL_FILE_CELL = 35,         // a cell that is none, or another than a gap without lapses in a slot that does not exist
     METLAZUEL_MERCURY_FORM = 40,      // Mercury 206: a frame with a wrong length, CRC, address or command
     METLAZUEL_MERCURY_DIGIT = 41,     // Mercury 206: a figure with a half-byte above 9
     METLAZUEL_REPLY_LENGTH = 50,      // a reply that is not well formed: of a wrong length,
@@ -62,8 +62,8 @@ enum {
     METLAZUEL_REQUEST_BYTES = 8,   // a read request
     METLAZUEL_FRAME_BYTES = 64,    // the longest frame; a reply's output has at least so many
     METLAZUEL_HEADER_BYTES = 14,   // a log's image: its header,
-    METLAZUEL_CELL_BYTES = 9,      //   and each of its cells
-    METLAZUEL_LOG_BYTES = METLAZUEL_HEADER_BYTES + 62 * 96 * METLAZUEL_CELL_BYTES, // the longest log's image: 62 days of 96 slots
+    METLAZUEL_CELL_BYTES = 10,     //   and each of its cells
+    METLAZUEL_LOG_BYTES = METLAZUEL_HEADER_BYTES + 62 * 96 * METLAZUEL_CELL_BYTES, // the longest log's image, 62 days of 96 slots: 59,534
     METLAZUEL_FILE_BYTES = METLAZUEL_LOG_BYTES + 2, // and its file, with a CRC
     METLAZUEL_COUNTS = 4,          // the counts of a cell, in 16-bit numbers: E+, E-, R+, R-
     METLAZUEL_ROW = 8,             // a day's report, in 32-bit numbers
@@ -107,7 +107,8 @@ uint16_t metlazuel_crc16(const uint8_t *bytes, size_t n);
 // A log is its image: bytes that metlazuel_log_fresh or metlazuel_read_file put at the front of a lent buffer, with their number in
 // *length; a refusal leaves both. The other calls are lent exactly these bytes. A slot's cell is a gap as long as no well-formed reply with
 // result 0 came for it; empty where such replies came and all were zeros, which the meter answers for a slice that it does not have, too;
-// and else measured, with the counts of the first such reply that was not all zeros.
+// and else measured, with the counts of the first such reply that was not all zeros. With its kind and counts a cell has its lapses: how many
+// asks for it ended in one, 255 also for more. So a gap with 0 lapses was never asked for, or its asks were refused by the meter or are still open.
 //
 // A log follows the automatic seasons or does not. Where it does, the last Sunday of March has no time between 02:00 and 03:00: those slots
 // (4 and 5 of 30 minutes, 8 to 11 of 15) do not exist on that day. Their cells stay gaps, but they are NOT_IN_LOG to metlazuel_ask,
@@ -126,7 +127,7 @@ enum metlazuel_kind {
 // written by hand may be one that every call refuses.
 enum {
     METLAZUEL_AT_MARK = 0,     // of the header: the letters GEL
-    METLAZUEL_AT_VERSION = 3,  //   2, two bytes
+    METLAZUEL_AT_VERSION = 3,  //   3, two bytes
     METLAZUEL_AT_YEAR = 5,     //   from 2000 on
     METLAZUEL_AT_MONTH = 6,
     METLAZUEL_AT_DAY = 7,
@@ -138,7 +139,8 @@ enum {
     METLAZUEL_AT_EPLUS = 1,    //   the counts, two bytes each
     METLAZUEL_AT_EMINUS = 3,
     METLAZUEL_AT_RPLUS = 5,
-    METLAZUEL_AT_RMINUS = 7
+    METLAZUEL_AT_RMINUS = 7,
+    METLAZUEL_AT_LAPSES = 9    //   how many asks for it lapsed, one byte
 };
 
 // In a slot's place: there is no gap.
@@ -149,9 +151,11 @@ enum { METLAZUEL_NO_GAP = 255 };
 uint8_t metlazuel_log_fresh(uint8_t *log, size_t room, uint8_t year, uint8_t month, uint8_t day, uint8_t days, uint8_t minutes,
                             uint16_t ke, uint8_t seasons, size_t *length);
 
-// The cell of a slot of a day, both counted from 0: its kind to *kind, one of enum metlazuel_kind, and its counts E+, E-, R+, R- to counts,
-// zeros unless it is measured. UNSOUND (log), NOT_IN_LOG, UNSOUND (the cell), else DONE. A refusal leaves both.
-uint8_t metlazuel_cell(const uint8_t *log, size_t n, uint8_t day, uint8_t slot, uint8_t *kind, uint16_t counts[METLAZUEL_COUNTS]);
+// The cell of a slot of a day, both counted from 0: its kind to *kind, one of enum metlazuel_kind, its counts E+, E-, R+, R- to counts, zeros
+// unless it is measured, and how many asks for it lapsed to *lapses, of every kind. UNSOUND (log), NOT_IN_LOG, UNSOUND (the cell), else DONE. A
+// refusal leaves all three.
+uint8_t metlazuel_cell(const uint8_t *log, size_t n, uint8_t day, uint8_t slot, uint8_t *kind, uint16_t counts[METLAZUEL_COUNTS],
+                       uint8_t *lapses);
 
 // The first slot of a day, from a slot on, whose cell is a gap, to *slot; METLAZUEL_NO_GAP where there is none, also from a slot on that
 // the day does not have. A damaged cell is no gap: metlazuel_cell and metlazuel_day_report find it; nor is one of a slot that does not exist.
@@ -168,8 +172,10 @@ uint8_t metlazuel_next_gap(const uint8_t *log, size_t n, uint8_t day, uint8_t fr
 uint8_t metlazuel_ask(const uint8_t *log, size_t n, uint8_t *ask, size_t size, uint8_t address, uint8_t day, uint8_t slot,
                       uint8_t *out, size_t room);
 
-// No well-formed reply came: closes the ask; with none open the bytes stay as they are. UNSOUND, else DONE.
-uint8_t metlazuel_lapse(uint8_t *ask, size_t size);
+// No well-formed reply came: closes the ask, and its cell in the log has one lapse more, at most 255. With none open log and ask stay as they are:
+// DONE, whatever the log is. UNSOUND (ask), and with one open UNSOUND (log), NOT_IN_LOG, UNSOUND (the interval's cell), else DONE. A refusal leaves
+// log and ask, so that the ask is still open.
+uint8_t metlazuel_lapse(uint8_t *log, size_t n, uint8_t *ask, size_t size);
 
 // Takes a reply for the open ask into the log. UNSOUND (log or ask), NO_ASK_OPEN, NOT_IN_LOG, REPLY_LENGTH (the length received is stored
 // through length, which every other answer leaves) to REPLY_PARAMETER, the first that is wrong (the ask stays open), METER_REFUSED (the ask
@@ -183,12 +189,12 @@ uint8_t metlazuel_take(uint8_t *log, size_t n, uint8_t *ask, size_t size, const 
 // a row of at least METLAZUEL_ROW numbers. TOO_SHORT, UNSOUND (log), NOT_IN_LOG, UNSOUND (a cell of an existing slot of the day), else DONE.
 uint8_t metlazuel_day_report(const uint8_t *log, size_t n, uint8_t day, uint32_t *row, size_t room);
 
-// A log, written as a file of version 2 to the front of out, its length to *length. UNSOUND (header, length), TOO_SHORT, UNSOUND (a cell, also
-// one that is no gap in a slot that does not exist), else DONE.
+// A log, written as a file of version 3 to the front of out, its length to *length. UNSOUND (header, length), TOO_SHORT, UNSOUND (a cell, also
+// one that is no gap, or has lapses, in a slot that does not exist), else DONE.
 uint8_t metlazuel_write_file(const uint8_t *log, size_t n, uint8_t *out, size_t room, size_t *length);
 
-// A file of version 2, or of version 1, which follows no seasons, read as a log to the front of out, the image's length to *length. FILE_MARK to
-// FILE_CELL, TOO_SHORT, else DONE.
+// A file of version 3, of version 2, which has no lapses, or of version 1, which follows no seasons either, read as a log to the front of out, the
+// image's length to *length: one byte a cell more than the cells of versions 1 and 2 have. FILE_MARK to FILE_CELL, TOO_SHORT, else DONE.
 uint8_t metlazuel_read_file(const uint8_t *file, size_t n, uint8_t *out, size_t room, size_t *length);
 
 // ---- read requests and their replies, without a log

@@ -67,7 +67,7 @@ static void fill(size_t n)
         expect("ask", metlazuel_ask(image, n, ask, sizeof ask, METER, 0, slot, frame, sizeof frame), METLAZUEL_DONE);
         size_t length = exchange(frame, reply);
         if (slot == 2)
-            expect("lapse", metlazuel_lapse(ask, sizeof ask), METLAZUEL_DONE);
+            expect("lapse", metlazuel_lapse(image, n, ask, sizeof ask), METLAZUEL_DONE);
         else
             expect("take", metlazuel_take(image, n, ask, sizeof ask, reply, length, &result, &received), METLAZUEL_DONE);
     }
@@ -78,14 +78,14 @@ static void fill(size_t n)
 static void show_cells(size_t n)
 {
     static const char *const kinds[] = {"gap", "empty", "measured"};
-    uint8_t kind, first;
+    uint8_t kind, lapses, first;
     uint16_t counts[METLAZUEL_COUNTS];
     unsigned gaps = 0;
     for (uint8_t slot = 0; slot < 3; slot++) {
-        expect("cell", metlazuel_cell(image, n, 0, slot, &kind, counts), METLAZUEL_DONE);
-        printf("slot %u %s, E+ %u, E- %u, R+ %u, R- %u\n", slot, kinds[kind], counts[0], counts[1], counts[2], counts[3]);
+        expect("cell", metlazuel_cell(image, n, 0, slot, &kind, counts, &lapses), METLAZUEL_DONE);
+        printf("slot %u %s, E+ %u, E- %u, R+ %u, R- %u, %u lapses\n", slot, kinds[kind], counts[0], counts[1], counts[2], counts[3], lapses);
     }
-    expect("cell", metlazuel_cell(image, n, 0, 48, &kind, counts), METLAZUEL_NOT_IN_LOG);
+    expect("cell", metlazuel_cell(image, n, 0, 48, &kind, counts, &lapses), METLAZUEL_NOT_IN_LOG);
     expect("next_gap", metlazuel_next_gap(image, n, 0, 0, &first), METLAZUEL_DONE);
     for (uint8_t slot = 0; metlazuel_next_gap(image, n, 0, slot, &slot) == METLAZUEL_DONE && slot != METLAZUEL_NO_GAP; slot++)
         gaps++;

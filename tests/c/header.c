@@ -42,7 +42,7 @@ static void longest_log(void)
 static void header_bytes(void)
 {
     check("mark", memcmp(image + METLAZUEL_AT_MARK, "GEL", 3) == 0);
-    check("version", two_bytes(image + METLAZUEL_AT_VERSION) == 2);
+    check("version", two_bytes(image + METLAZUEL_AT_VERSION) == 3);
     check("year", image[METLAZUEL_AT_YEAR] == 24);
     check("month", image[METLAZUEL_AT_MONTH] == 5);
     check("day", image[METLAZUEL_AT_DAY] == 17);
@@ -83,12 +83,13 @@ static void meter(void)
 // A slot asked for and taken: the ask, its frame, the reply and the cell.
 static void cell_bytes(void)
 {
-    uint8_t ask[METLAZUEL_ASK_BYTES + 1] = {0}, frame[METLAZUEL_REQUEST_BYTES], reply[METLAZUEL_FRAME_BYTES], result, kind;
+    uint8_t ask[METLAZUEL_ASK_BYTES + 1] = {0}, frame[METLAZUEL_REQUEST_BYTES], reply[METLAZUEL_FRAME_BYTES], result, kind, lapses;
     const uint8_t *cell = image + METLAZUEL_HEADER_BYTES + 3 * METLAZUEL_CELL_BYTES;
     uint16_t counts[METLAZUEL_COUNTS];
     size_t length, received;
     check("a gap's byte", cell[METLAZUEL_AT_KIND] == METLAZUEL_KIND_GAP);
-    check("a gap", metlazuel_cell(image, sizeof image, 0, 3, &kind, counts) == METLAZUEL_DONE && kind == METLAZUEL_KIND_GAP);
+    check("a gap", metlazuel_cell(image, sizeof image, 0, 3, &kind, counts, &lapses) == METLAZUEL_DONE && kind == METLAZUEL_KIND_GAP
+                       && lapses == 0);
     check("a longer ask", metlazuel_ask(image, sizeof image, ask, sizeof ask, METER, 0, 3, frame, sizeof frame) == METLAZUEL_UNSOUND);
     check("a shorter frame", metlazuel_ask(image, sizeof image, ask, METLAZUEL_ASK_BYTES, METER, 0, 3, frame, sizeof frame - 1)
                                  == METLAZUEL_TOO_SHORT);
@@ -106,21 +107,42 @@ static void cell_bytes(void)
     check("E-", two_bytes(cell + METLAZUEL_AT_EMINUS) == 2);
     check("R+", two_bytes(cell + METLAZUEL_AT_RPLUS) == 3);
     check("R-", two_bytes(cell + METLAZUEL_AT_RMINUS) == 0x0504);
-    check("a measured cell", metlazuel_cell(image, sizeof image, 0, 3, &kind, counts) == METLAZUEL_DONE && kind == METLAZUEL_KIND_MEASURED
-                                 && counts[0] == 1 && counts[1] == 2 && counts[2] == 3 && counts[METLAZUEL_COUNTS - 1] == 0x0504);
+    check("a measured cell", metlazuel_cell(image, sizeof image, 0, 3, &kind, counts, &lapses) == METLAZUEL_DONE
+                                 && kind == METLAZUEL_KIND_MEASURED && counts[0] == 1 && counts[1] == 2 && counts[2] == 3
+                                 && counts[METLAZUEL_COUNTS - 1] == 0x0504 && lapses == 0);
+}
+
+// Asks for the same slot that lapse: 255 stays, the counts stay, and with none open nothing is looked at.
+static void lapses_byte(void)
+{
+    uint8_t ask[METLAZUEL_ASK_BYTES + 1] = {0}, frame[METLAZUEL_REQUEST_BYTES], kind, lapses = 0;
+    const uint8_t *cell = image + METLAZUEL_HEADER_BYTES + 3 * METLAZUEL_CELL_BYTES;
+    uint16_t counts[METLAZUEL_COUNTS];
+    for (unsigned i = 1; i <= 256; i++) {
+        check("an ask", metlazuel_ask(image, sizeof image, ask, METLAZUEL_ASK_BYTES, METER, 0, 3, frame, sizeof frame) == METLAZUEL_DONE);
+        check("a longer ask", metlazuel_lapse(image, sizeof image, ask, sizeof ask) == METLAZUEL_UNSOUND && ask[0] == 1);
+        check("a shorter log", metlazuel_lapse(image, sizeof image - 1, ask, METLAZUEL_ASK_BYTES) == METLAZUEL_UNSOUND && ask[0] == 1);
+        check("a lapse", metlazuel_lapse(image, sizeof image, ask, METLAZUEL_ASK_BYTES) == METLAZUEL_DONE && ask[0] == 0);
+        check("its byte", cell[METLAZUEL_AT_LAPSES] == (i < 255 ? i : 255));
+    }
+    check("a cell's lapses", metlazuel_cell(image, sizeof image, 0, 3, &kind, counts, &lapses) == METLAZUEL_DONE
+                                 && kind == METLAZUEL_KIND_MEASURED && counts[0] == 1 && lapses == 255);
+    check("a lapse with none open", metlazuel_lapse(image, 0, ask, METLAZUEL_ASK_BYTES) == METLAZUEL_DONE);
+    ask[0] = 1, ask[2] = DAYS;
+    check("a lapse of a day too late", metlazuel_lapse(image, sizeof image, ask, METLAZUEL_ASK_BYTES) == METLAZUEL_NOT_IN_LOG && ask[0] == 1);
 }
 
 // The next slot's reply is all zeros.
 static void empty_cell(void)
 {
-    uint8_t ask[METLAZUEL_ASK_BYTES] = {0}, frame[METLAZUEL_REQUEST_BYTES], reply[METLAZUEL_FRAME_BYTES], result, kind;
+    uint8_t ask[METLAZUEL_ASK_BYTES] = {0}, frame[METLAZUEL_REQUEST_BYTES], reply[METLAZUEL_FRAME_BYTES], result, kind, lapses;
     uint16_t counts[METLAZUEL_COUNTS];
     size_t length, received;
     check("an ask", metlazuel_ask(image, sizeof image, ask, sizeof ask, METER, 0, 4, frame, sizeof frame) == METLAZUEL_DONE);
     check("a reply", exchange(frame, sizeof frame - 2, reply, &length) == METLAZUEL_DONE);
     check("a reply taken", metlazuel_take(image, sizeof image, ask, sizeof ask, reply, length, &result, &received) == METLAZUEL_DONE);
     check("an empty cell's byte", image[METLAZUEL_HEADER_BYTES + 4 * METLAZUEL_CELL_BYTES + METLAZUEL_AT_KIND] == METLAZUEL_KIND_EMPTY);
-    check("an empty cell", metlazuel_cell(image, sizeof image, 0, 4, &kind, counts) == METLAZUEL_DONE && kind == METLAZUEL_KIND_EMPTY);
+    check("an empty cell", metlazuel_cell(image, sizeof image, 0, 4, &kind, counts, &lapses) == METLAZUEL_DONE && kind == METLAZUEL_KIND_EMPTY);
 }
 
 // A day whose slot 3 is measured, made to have no gap.
@@ -157,26 +179,34 @@ static size_t season_day(uint8_t *day, uint8_t month, uint8_t date)
     return n;
 }
 
-// On the last Sunday of March slots 8 to 11 of 15 minutes do not exist, and a cell that is no gap there cannot be written out.
+// On the last Sunday of March slots 8 to 11 of 15 minutes do not exist, and a cell that is no gap there, or has lapses, cannot be written out.
 static void march(void)
 {
-    uint8_t day[METLAZUEL_HEADER_BYTES + 96 * METLAZUEL_CELL_BYTES], out[sizeof day + 2], kind, slot;
+    uint8_t day[METLAZUEL_HEADER_BYTES + 96 * METLAZUEL_CELL_BYTES], out[sizeof day + 2], kind, lapses, slot;
+    uint8_t *gone = day + METLAZUEL_HEADER_BYTES + 8 * METLAZUEL_CELL_BYTES;
     uint16_t counts[METLAZUEL_COUNTS];
     uint32_t row[METLAZUEL_ROW];
     size_t n = season_day(day, 3, 31), length;
-    check("a cell of no slot", metlazuel_cell(day, n, 0, 8, &kind, counts) == METLAZUEL_NOT_IN_LOG
-                                   && metlazuel_cell(day, n, 0, 11, &kind, counts) == METLAZUEL_NOT_IN_LOG);
-    check("the cells beside them", metlazuel_cell(day, n, 0, 7, &kind, counts) == METLAZUEL_DONE
-                                       && metlazuel_cell(day, n, 0, 12, &kind, counts) == METLAZUEL_DONE);
+    check("a cell of no slot", metlazuel_cell(day, n, 0, 8, &kind, counts, &lapses) == METLAZUEL_NOT_IN_LOG
+                                   && metlazuel_cell(day, n, 0, 11, &kind, counts, &lapses) == METLAZUEL_NOT_IN_LOG);
+    check("the cells beside them", metlazuel_cell(day, n, 0, 7, &kind, counts, &lapses) == METLAZUEL_DONE
+                                       && metlazuel_cell(day, n, 0, 12, &kind, counts, &lapses) == METLAZUEL_DONE);
     check("a report of March", metlazuel_day_report(day, n, 0, row, METLAZUEL_ROW) == METLAZUEL_DONE && row[0] == 0 && row[1] == 92
                                    && row[2] == 0 && row[3] == 0 && row[METLAZUEL_ROW - 1] == 0);
     check("no file of it", metlazuel_write_file(day, n, out, sizeof out, &length) == METLAZUEL_UNSOUND);
-    memset(day + METLAZUEL_HEADER_BYTES + 8 * METLAZUEL_CELL_BYTES, 0, 4 * METLAZUEL_CELL_BYTES);
+    memset(gone, 0, 4 * METLAZUEL_CELL_BYTES);
+    gone[METLAZUEL_AT_LAPSES] = 1;
+    check("no file of its lapses", metlazuel_write_file(day, n, out, sizeof out, &length) == METLAZUEL_UNSOUND);
+    gone[METLAZUEL_AT_LAPSES] = 0;
     check("no gap in no slot", metlazuel_next_gap(day, n, 0, 0, &slot) == METLAZUEL_DONE && slot == METLAZUEL_NO_GAP);
     check("a file of it", metlazuel_write_file(day, n, out, sizeof out, &length) == METLAZUEL_DONE && length == sizeof out);
     out[METLAZUEL_HEADER_BYTES + 8 * METLAZUEL_CELL_BYTES + METLAZUEL_AT_KIND] = METLAZUEL_KIND_EMPTY;
     seal(out, n);
     check("a file's cell of no slot", metlazuel_read_file(out, sizeof out, day, sizeof day, &length) == METLAZUEL_FILE_CELL);
+    out[METLAZUEL_HEADER_BYTES + 8 * METLAZUEL_CELL_BYTES + METLAZUEL_AT_KIND] = METLAZUEL_KIND_GAP;
+    out[METLAZUEL_HEADER_BYTES + 8 * METLAZUEL_CELL_BYTES + METLAZUEL_AT_LAPSES] = 1;
+    seal(out, n);
+    check("a file's lapses of no slot", metlazuel_read_file(out, sizeof out, day, sizeof day, &length) == METLAZUEL_FILE_CELL);
 }
 
 // On the last Sunday of October they come twice, and the measured one is told so.
@@ -379,6 +409,23 @@ static void damaged_file(const char *what, size_t at, uint8_t byte, int sealed, 
     seal(file, sizeof file - 2);
 }
 
+// The same cells as a file of version 1 or 2, whose rows end before the lapses: the answer is done, and the log has none.
+static void older_file(uint8_t version, uint8_t seasons)
+{
+    static uint8_t older[METLAZUEL_FILE_BYTES];
+    size_t n = METLAZUEL_HEADER_BYTES, length = 0;
+    memcpy(older, file, METLAZUEL_HEADER_BYTES);
+    older[METLAZUEL_AT_VERSION] = version;
+    older[METLAZUEL_AT_SEASONS] = seasons;
+    for (size_t i = 0; i < DAYS * 96; i++, n += METLAZUEL_AT_LAPSES)
+        memcpy(older + n, file + METLAZUEL_HEADER_BYTES + i * METLAZUEL_CELL_BYTES, METLAZUEL_AT_LAPSES);
+    n = seal(older, n);
+    check("an older file in less room", metlazuel_read_file(older, n, image, sizeof image - 1, &length) == METLAZUEL_TOO_SHORT);
+    check("an older file", metlazuel_read_file(older, n, image, sizeof image, &length) == METLAZUEL_DONE && length == sizeof image);
+    check("its log", image[METLAZUEL_AT_VERSION] == 3 && image[METLAZUEL_AT_SEASONS] == seasons
+                         && image[METLAZUEL_HEADER_BYTES + METLAZUEL_AT_LAPSES] == 0);
+}
+
 static void file_answers(void)
 {
     size_t length;
@@ -388,12 +435,14 @@ static void file_answers(void)
     damaged_file("a file's header", METLAZUEL_AT_MONTH, 13, 1, METLAZUEL_FILE_HEADER);
     damaged_file("a file's seasons", METLAZUEL_AT_SEASONS, 2, 1, METLAZUEL_FILE_HEADER);
     damaged_file("a file's length", METLAZUEL_AT_DAYS, 1, 1, METLAZUEL_FILE_LENGTH);
+    damaged_file("version 2 with lapses", METLAZUEL_AT_VERSION, 2, 1, METLAZUEL_FILE_LENGTH);
     damaged_file("a file's CRC", METLAZUEL_HEADER_BYTES, METLAZUEL_KIND_EMPTY, 0, METLAZUEL_FILE_CRC);
     damaged_file("a file's cell", METLAZUEL_HEADER_BYTES, METLAZUEL_KIND_MEASURED, 1, METLAZUEL_FILE_CELL);
+    damaged_file("a file with lapses", METLAZUEL_HEADER_BYTES + METLAZUEL_AT_LAPSES, 7, 1, METLAZUEL_DONE);
+    check("its lapses", image[METLAZUEL_HEADER_BYTES + METLAZUEL_AT_LAPSES] == 7);
     check("the file itself", metlazuel_read_file(file, sizeof file, image, sizeof image, &length) == METLAZUEL_DONE);
-    file[METLAZUEL_AT_SEASONS] = 0;
-    damaged_file("a file of version 1", METLAZUEL_AT_VERSION, 1, 1, METLAZUEL_DONE);
-    check("its log", image[METLAZUEL_AT_VERSION] == 2 && image[METLAZUEL_AT_SEASONS] == 0);
+    older_file(2, SEASONS);
+    older_file(1, 0);
 }
 
 // The Mercury 206's commands, lengths and numbers, and the longest row.
@@ -438,6 +487,7 @@ int main(void)
     header_bytes();
     meter();
     cell_bytes();
+    lapses_byte();
     empty_cell();
     gaps();
     report_row();

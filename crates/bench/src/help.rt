@@ -35,7 +35,7 @@ fn log_lines() {
     put(b"    lapse: 0\n");
     put(b"    reply BYTES: 0; 24 RESULT; 50 LENGTH\n");
     put(b"    open: 0 closed; 0 ADDRESS DAY SLOT\n");
-    put(b"    cell DAY SLOT: 0 gap; 0 empty; 0 measured E+ E- R+ R-\n");
+    put(b"    cell DAY SLOT: 0 gap LAPSES; 0 empty LAPSES; 0 measured E+ E- R+ R- LAPSES\n");
     put(b"    report DAY: 0 GAPS EMPTIES MEASURED E+ E- R+ R- DOUBLED\n");
 }
 

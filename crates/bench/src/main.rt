@@ -67,7 +67,7 @@ fn on_log(verb: usize, line: &[u8], image: &mut [u8], kept: Kept) -> Kept {
         verb::LOG => console_log::fresh(line, image, kept),
         verb::LOAD => files::load(line, image, kept),
         verb::ASK => console_log::ask(line, image, kept),
-        verb::LAPSE => console_log::lapse(line, kept),
+        verb::LAPSE => console_log::lapse(line, image, kept),
         verb::REPLY => console_log::reply(line, image, kept),
         _ => {
             let held = kept.held;

@@ -14,8 +14,9 @@ use Rattle.logfile.specs.declared.read.ReadAnswer.{ReadAnswer}
 use Rattle.logfile.specs.Read.{ifRead}
 use Rattle.log.specs.View.{viewOf}
 use Rattle.logger.specs.Ask.{asked}
-use Rattle.logger.specs.Held.{lapsed}
+use Rattle.logger.specs.Lapse.{lapsed}
 use Rattle.logger.specs.Take.{taken}
+use Rattle.logger.specs.declared.no_reply.Lapsed.{Lapsed}
 use Rattle.logger.specs.declared.take.Taken.{Taken}
 use Rattle.logger.specs.declared.held.OpenAsk.{OpenAsk}
 use Rattle.logger.specs.declared.held.OpenAsk.the-variants.{Closed}
@@ -77,11 +78,19 @@ unfoldable pub askLine : List ℕ → List ℕ → Kept → Kept
 askLine line image kept =
     cond (isForm line (255 ∷ 255 ∷ 255 ∷ [])) (askedFor image kept (byteIn line 1) (byteIn line 2) (byteIn line 3)) kept
 
--- no words behind the first
-unfoldable pub lapseLine : List ℕ → Kept → Kept
-lapseLine line kept = cond (eqb (spacesIn line) 0) (withAsk kept (lapsed (kept .held))) kept
-
 -- what stands behind the log is not the log's
+abbrev pub askLapsed : List ℕ → Kept → Outcome Lapsed (List ℕ) → Outcome Kept (List ℕ)
+askLapsed image kept o = outcome (withAsk kept (o .result .held)) (o .left ++ drop (kept .length) image)
+
+unfoldable pub lapseOf : List ℕ → Kept → Outcome Kept (List ℕ)
+lapseOf image kept =
+    cond (ltb (length image) (kept .length)) (outcome kept image) (askLapsed image kept (lapsed (take (kept .length) image) (kept .held)))
+
+-- no words behind the first
+unfoldable pub lapseLine : List ℕ → List ℕ → Kept → Outcome Kept (List ℕ)
+lapseLine line image kept = cond (eqb (spacesIn line) 0) (lapseOf image kept) (outcome kept image)
+
+-- a reply likewise
 abbrev pub replyTaken : List ℕ → Kept → Outcome Taken (List ℕ) → Outcome Kept (List ℕ)
 replyTaken image kept o = outcome (withAsk kept (o .result .held)) (o .left ++ drop (kept .length) image)
 

@@ -22,7 +22,8 @@ ghost use Rattle.refusal.specs.Outcome.{outcome};
 ghost use Rattle.log.specs.Fresh.{freshOf};
 ghost use Rattle.logfile.specs.Read.{readFile};
 ghost use Rattle.console.specs.Form.{shortIn, yearOf};
-ghost use Rattle.console_log.specs.Log.{keptAfter, newLog, keptLoaded, loadedLog, freshIn, freshLine, askedFor, askLine, lapseLine, replyOf, replyLine};
+ghost use Rattle.console_log.specs.Log.{keptAfter, newLog, keptLoaded, loadedLog, freshIn, freshLine};
+ghost use Rattle.console_log.specs.Log.{askedFor, askLine, lapseOf, lapseLine, replyOf, replyLine};
 
 // What is kept of the log beside its image: its length, 0 where there is no log, and the open ask.
 pub struct Kept {
@@ -163,17 +164,29 @@ fn say_asked(answer: AskAnswer, frame: &[u8]) {
     say::end_of(number);
 }
 
-pub fn lapse(line: &[u8], kept: Kept) -> Kept
-    ensures { λ r. ⌜ r ≡ lapseLine (now (line .entry)) kept ⌝ }
+pub fn lapse(line: &[u8], image: &mut [u8], kept: Kept) -> Kept
+    ensures { λ r. ⌜ outcome r (now (image .exit)) ≡ lapseLine (now (line .entry)) (now (image .entry)) kept ⌝ }
 {
-    if console::spaces(line) != 0 {
+    if console::spaces(line) == 0 {
+        return lapse_of(image, kept);
+    }
+    unread(kept)
+}
+
+fn lapse_of(image: &mut [u8], kept: Kept) -> Kept
+    ensures { λ r. ⌜ outcome r (now (image .exit)) ≡ lapseOf (now (image .entry)) kept ⌝ }
+{
+    let length = kept.length;
+    let held = kept.held;
+    if image.len() < length {
         return unread(kept);
     }
-    say::number_line(refusal::DONE);
-    let held = kept.held;
-    let after = logger::lapse(held);
+    let lapsed = logger::lapse(&mut image[..length], held);
+    let answer = lapsed.answer;
+    say::number_line(answer.number());
+    let after = lapsed.held;
     Kept {
-        length: kept.length,
+        length: length,
         held: after,
     }
 }
@@ -251,14 +264,14 @@ pub fn cell(line: &[u8], image: &[u8]) {
 fn cell_of(image: &[u8], day: u8, slot: u8) {
     match log::sound(image) {
         Lent::Sound(h) => match log::interval_of(h, day, slot) {
-            Interval::At(i) => say_cell(log::cell_at(image, i)),
+            Interval::At(i) => say_cell(log::cell_at(image, i), log::lapses_at(image, i)),
             Interval::Outside => say::number_line(refusal::NOT_IN_LOG),
         },
         Lent::Unsound => say::number_line(refusal::UNSOUND),
     }
 }
 
-fn say_cell(answer: CellAnswer) {
+fn say_cell(answer: CellAnswer, lapses: u8) {
     match answer {
         CellAnswer::Good(c) => {
             say::first(refusal::DONE);
@@ -270,6 +283,7 @@ fn say_cell(answer: CellAnswer) {
                     say::four_counts(ep, em, rp, rm);
                 }
             }
+            say::number(lapses as u64);
             say::end();
         }
         CellAnswer::Bad => say::number_line(refusal::UNSOUND),

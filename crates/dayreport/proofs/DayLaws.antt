@@ -43,13 +43,13 @@ dated-by date a b row out o p q =
     ap (λ (x : ReportAnswer). reportedText x date row out) (sym q) ∙ ap (λ (x : Outcome ReportAnswer (List ℕ)). datedText date x out) p
 
 -- the line of a day has the day's date, and the figures of that day's cells
-pub day-text-image : (h : Header) (cs : List Cell) (d : ℕ) (out : List ℕ) → isHeader h ≡ true → length cs ≡ cellsOf h → AllCells cs
+pub day-text-image : (h : Header) (cs : List Cell) (lapses : ℕ → ℕ) (d : ℕ) (out : List ℕ) → isHeader h ≡ true → length cs ≡ cellsOf h → AllCells cs
     → d < h .days
-    → dayText (viewOf (imageOf h cs)) d out
+    → dayText (viewOf (imageOf h cs lapses)) d out
     ≡ putText (lineText (dateOf (dayNumber (h .start) + d)) (figures (dayAmong (existsAt h) h cs d) (dayAmong (comesTwiceAt h) h cs d))) out
 unfolding dayText dayOnText datedText reportedText
-day-text-image h cs d out e l k day =
-    ap (λ (v : View). dayText v d out) (view-image h cs e l k) ∙ simp (day-on h d e day, report-seen h cs d l day zeros (omega arith), append-nil)
+day-text-image h cs lapses d out e l k day =
+    ap (λ (v : View). dayText v d out) (view-image h cs lapses e l k) ∙ simp (day-on h d e day, report-seen h cs d l day lapses zeros (omega arith), append-nil)
 
 -- ---- past the most days that a log has
 

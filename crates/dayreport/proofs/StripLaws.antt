@@ -107,11 +107,11 @@ written-strip s d marks n e =
 -- ---- the strip of an image
 
 -- the strip of a day has the day's date, and a mark for each of that day's slots
-pub strip-image : (h : Header) (cs : List Cell) (d : ℕ) (out : List ℕ) → isHeader h ≡ true → length cs ≡ cellsOf h → AllCells cs → d < h .days
-    → stripText (viewOf (imageOf h cs)) d out ≡ putText (stripOf (dateOf (dayNumber (h .start) + d)) (dayMarks (cellIn cs) h d)) out
+pub strip-image : (h : Header) (cs : List Cell) (lapses : ℕ → ℕ) (d : ℕ) (out : List ℕ) → isHeader h ≡ true → length cs ≡ cellsOf h → AllCells cs → d < h .days
+    → stripText (viewOf (imageOf h cs lapses)) d out ≡ putText (stripOf (dateOf (dayNumber (h .start) + d)) (dayMarks (cellIn cs) h d)) out
 unfolding stripText stripOn stripDated
-strip-image h cs d out e l k day =
-    ap (λ (v : View). stripText v d out) (view-image h cs e l k) ∙ simp (day-on h d e day, day-seen h cs d l day, all-good)
+strip-image h cs lapses d out e l k day =
+    ap (λ (v : View). stripText v d out) (view-image h cs lapses e l k) ∙ simp (day-on h d e day, day-seen h cs d l day, all-good)
 
 -- ---- where there is no strip, and that there is always room
 

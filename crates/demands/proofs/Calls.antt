@@ -1,12 +1,12 @@
 -- Demand 1, call by call: each definition ends in one of its answers, and all but 0 hand back what was lent.
 use mathlib.Core.Path.{_≡_, refl, _∙_}
-use mathlib.Core.Bool.{Bool, true, false, cond, _&&_}
+use mathlib.Core.Bool.{Bool, true, false, cond, _&&_, false≢true}
 use mathlib.Core.List.{List}
 use Prim.Native.Nat.{ℕ}
 use lib.Dec.{eqb, leb, ltb}
 use lib.ListN.{length}
 use Rattle.case_laws.proofs.Test.{either}
-use Rattle.refusal.specs.Outcome.{Outcome, check}
+use Rattle.refusal.specs.Outcome.{Outcome, outcome, check}
 use Rattle.frame.specs.Layout.{readSize}
 use Rattle.frame.specs.Sealing.{crcFits}
 use Rattle.slots.specs.Day.{slotsOf}
@@ -32,6 +32,12 @@ use Rattle.log.specs.Fresh as fresh
 use Rattle.log.specs.Header.{headerSize, isHeader, lengthOf, markRight, versionAt, ifRight}
 use Rattle.log.specs.Image.{applied, allGood}
 use Rattle.log.specs.View.{View, viewOf}
+use Rattle.log.specs.declared.image.Change.the-variants as change
+use Rattle.logger.specs.Lapse as silence
+use Rattle.logger.proofs.LapseLaws.{isRefused, lapsing-ways}
+use Rattle.logger.specs.declared.no_reply.LapseDecision.{LapseDecision}
+use Rattle.logger.specs.declared.no_reply.LapseAnswer.{LapseAnswer}
+use Rattle.logger.specs.declared.no_reply.LapseAnswer.the-variants as lapse-answer
 use Rattle.log.proofs.HeaderLaws.{by-sound}
 use Rattle.log.specs.Interval.{intervalOf, dayDate}
 use Rattle.log.proofs.IntervalLaws.{by-at}
@@ -45,8 +51,8 @@ use Rattle.dayreport.specs.declared.report.ReportAnswer.{ReportAnswer}
 use Rattle.dayreport.specs.declared.report.ReportAnswer.the-variants as reported
 use Rattle.dayreport.specs.Text as text
 use Rattle.dayreport.specs.Day as day
-use Rattle.logfile.specs.Row.{rowAt}
-use Rattle.logfile.specs.File.{isVersion, fileHeader, fileLength, cellsRight}
+use Rattle.logfile.specs.Row.{rowAt, lapsesIn}
+use Rattle.logfile.specs.File.{isVersion, fileHeader, fileLengthAs, fileLength, cellsRight}
 use Rattle.logfile.specs.Read as reading
 use Rattle.logfile.specs.Write as writing
 use Rattle.logger.specs.Ask as asking
@@ -177,9 +183,9 @@ read-file f out =
     by-check P (isVersion (versionAt f)) (stays 31 out refl) (
     by-check P (leb headerSize (length f)) (stays 32 out refl) (
     by-right P (fileHeader f) (stays 32 out refl) (λ h.
-    by-check P (eqb (length f) (fileLength h)) (stays 33 out refl) (
+    by-check P (eqb (length f) (fileLengthAs (versionAt f) h)) (stays 33 out refl) (
     by-check P (crcFits f) (stays 34 out refl) (
-    by-check P (cellsRight h (rowAt f)) (stays 35 out refl) (
+    by-check P (cellsRight h (rowAt (versionAt f) f) (lapsesIn (versionAt f) f)) (stays 35 out refl) (
     by-check P (leb (lengthOf h) (length out)) (stays 1 out refl) (done out _))))))))
 
 pub write-file : (v : View) (out : List ℕ) → EndsBy writing.writeNumber out (writing.writtenFile v out)
@@ -188,7 +194,7 @@ write-file v out =
     let P = EndsBy writing.writeNumber out in
     by-sound P (v .lent) (λ e. stays 28 out refl) (λ h e.
     by-check P (leb (fileLength h) (length out)) (stays 1 out refl) (
-    by-check P (cellsRight h (v .cell)) (stays 28 out refl) (done out _)))
+    by-check P (cellsRight h (v .cell) (v .lapses)) (stays 28 out refl) (done out _)))
 
 -- ---- asks, lapses and replies
 
@@ -205,8 +211,27 @@ put-ask v held address day slot out =
     record { in-table = refl; unchanged = λ n. absurd (n refl) }))))
 
 pub lapse : (s : State) → EndsBy (λ (a : book.Answer). a .number) s (step s book.lapse)
-unfolding step
-lapse s = done s _
+unfolding step silence.lapsed applied inTable
+lapse s =
+    lapsing-ways
+    (λ (d : LapseDecision).
+    EndsBy (λ (a : book.Answer). a .number) s
+    (outcome (book.plain (silence.numberOf (d .lapsed .answer))) (record { log = applied (d .change) (s .log); held = d .lapsed .held })))
+    (viewOf (s .log)) (s .held) (record {
+      none = λ e. done s _;
+      refused = λ a n. refused-lapse a n;
+      counted = λ h i e o. done s _;
+    })
+  where
+    refused-lapse : (a : LapseAnswer) → isRefused a ≡ true
+        → EndsBy (λ (a : book.Answer). a .number) s (outcome (book.plain (silence.numberOf a)) (record { log = applied change.None (s .log); held = s .held }))
+    refused-lapse lapse-answer.Done n = absurd (false≢true n)
+    refused-lapse lapse-answer.NotInLog n = record { in-table = refl; unchanged = λ k. refl }
+    refused-lapse lapse-answer.Unsound n = record { in-table = refl; unchanged = λ k. refl }
+
+pub lapse-none : (s : List ℕ) → step (record { log = s; held = Closed }) book.lapse ≡ outcome (book.plain 0) (record { log = s; held = Closed })
+unfolding step silence.lapsed silence.lapsing applied
+lapse-none s = refl
 
 -- a taken reply: the log, and the ask
 record TakenEnds (s : List ℕ) (held : OpenAsk) (o : Outcome Taken (List ℕ)) : Type 0 where

@@ -9,6 +9,7 @@ use Rattle.demands.specs.Demand3.{Demand3}
 use Rattle.demands.specs.Faults.{ReplyFaults}
 use Rattle.demands.specs.Function4.{Function4}
 use Rattle.demands.specs.Seasons.{Seasons}
+use Rattle.demands.specs.Lapses.{Lapses}
 use Rattle.demands.specs.Examples.{Marked}
 use Rattle.logger.proofs.SeasonLaws as seasons-of
 use Rattle.polling.proofs.NextLaws.{next-exists}
@@ -29,6 +30,7 @@ use Rattle.demands.proofs.Left as left
 use Rattle.demands.proofs.Range as range
 use Rattle.demands.proofs.Replies as replies
 use Rattle.demands.proofs.Seasons as seasons-in
+use Rattle.demands.proofs.Lapses as lapses-in
 
 pub demand-1 : Demand1
 demand-1 = record {
@@ -40,6 +42,7 @@ demand-1 = record {
   take-reply = calls.take-reply;
   ask-after = calls.ask-after;
   lapse = calls.lapse;
+  lapse-none = calls.lapse-none;
   put-ask = calls.put-ask;
   put-request = calls.put-request;
   fresh-log = calls.fresh-log;
@@ -130,11 +133,22 @@ seasons = record {
   stay-gaps = seasons-in.stay-gaps;
   ask-refused = seasons-of.ask-refused;
   reply-refused = seasons-of.reply-refused;
+  lapse-refused = seasons-of.lapse-refused;
   never-polled = next-exists;
   adds-up = seasons-in.adds-up;
   none-doubled = seasons-in.none-doubled;
   first-version = seasons-in.first-version;
   first-version-had = seasons-in.first-version-had;
+}
+
+pub lapses : Lapses
+lapses = record {
+  counted = lapses-in.counted;
+  below = lapses-in.below;
+  stays = lapses-in.stays;
+  no-lapse = lapses-in.no-lapse;
+  early = lapses-in.early;
+  early-had = lapses-in.early-had;
 }
 
 pub reply-faults : ReplyFaults

@@ -7,7 +7,7 @@ use Rattle.words.specs.Place.{numberAt, written}
 use Rattle.frame.specs.Sealing.{framed, crcFits}
 use Rattle.reader.specs.Form.{formOf, lengthFor, functionFor, headOf}
 use Rattle.request.specs.Request.{requestFrame}
-use Rattle.log.specs.Cell.{noCounts, kindBytes, cellBytes, kindFits, cellBy, kindCell, cellOf}
+use Rattle.log.specs.Cell.{noCounts, kindBytes, countsBytes, cellBytes, kindFits, cellBy, kindCell, cellOf}
 use Rattle.log.specs.Fresh.{gaps, freshImage}
 use Rattle.log.specs.Header as log
 use Rattle.slots.specs.Day.{isMinutes, slotsOf}
@@ -38,7 +38,7 @@ pub together : all examples ≡ true
 unfolding all examples framed bytesOf requestFrame crcOf crcFrom byteStep eightBits times bitStep lastSunday dateOf dateAt countOff dayNumber starts
     lengthOf daysInMonth monthLengths leap runOf step Ask.asked Take.taken Take.decided Take.updated Take.updateOf Take.sameCounts rowOf formOf lengthFor functionFor headOf
     crcFits numberAt number written isDate isMinutes slotsOf cellsOf log.lengthOf daysRight isHeader dateBytes headerBytesAs headerAt markRight
-    versionRight fieldsRight headerOf fittedTo soundOf noCounts kindBytes cellBytes kindFits cellBy kindCell cellOf cellAt putCell applied cellsBytes imageOf
+    versionRight fieldsRight headerOf fittedTo soundOf noCounts kindBytes countsBytes cellBytes kindFits cellBy kindCell cellOf cellAt putCell applied cellsBytes imageOf
     missing nightOn exists intervalOf gaps freshImage verdictOf verdictBy changeVerdict checked passed argumentFits telemetryFits isTelemetry parameterByte functionOf
     parameterOf firstOf dataFits telemetryOf telemetryBytes fresh quietSecond
 together = refl

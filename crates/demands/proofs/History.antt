@@ -15,12 +15,14 @@ use Rattle.words.specs.Number.{Bytes}
 use Rattle.words.specs.Place.{byteAt}
 use Rattle.log.specs.Cell.{isCell, noCounts, IsCell}
 use Rattle.log.proofs.CellLaws.{gap-is-cell}
-use Rattle.log.specs.Fresh.{freshImage, freshNumber, freshOf, gaps}
+use Rattle.log.specs.Fresh.{freshImage, freshNumber, freshOf, gaps, noLapses}
 use Rattle.log.specs.declared.fresh.FreshAnswer.{FreshAnswer}
 use Rattle.log.specs.declared.fresh.FreshAnswer.the-variants as made
 use Rattle.log.proofs.FreshLaws.{length-gaps, length-freshImage, gap-at, fresh-front}
 use Rattle.log.specs.Header.{version, isHeader, cellsOf, lengthOf, soundOf}
-use Rattle.log.specs.Image.{applied, imageOf, AllCells}
+use Rattle.log.specs.Image.{applied, imageOf, AllCells, LapsesFit}
+use Rattle.log.proofs.ImageLaws.{image-alike}
+use Rattle.log.specs.declared.image.Change.the-variants as change
 use Rattle.log.specs.View.{viewOf}
 use Rattle.log.proofs.ViewLaws as layout
 use Rattle.log.proofs.ViewLaws.{length-applied}
@@ -30,7 +32,10 @@ use Rattle.log.specs.declared.header.Header.{Header}
 use Rattle.log.specs.declared.header.Lent.the-variants.{Sound}
 use Rattle.logger.specs.Take as Take
 use Rattle.logger.proofs.TakeLaws.{decided-ways}
-use Rattle.logger.specs.Book.{Call, ask, lapse, reply, Answer, Book, isZero, counts, firstOf, byFirst, afresh, cameFirst, startBook, bookStep, runOf, bookRun, workedOut, AllBytes}
+use Rattle.logger.specs.Lapse as Lapse
+use Rattle.logger.proofs.LapseLaws.{lapsing-ways}
+use Rattle.logger.specs.declared.no_reply.LapseDecision.{LapseDecision}
+use Rattle.logger.specs.Book.{Call, ask, lapse, reply, Answer, Book, isZero, counts, firstOf, byFirst, afresh, cameFirst, startBook, bookStep, runOf, bookRun, workedOut, cutAt255, lapsesOut, AllBytes}
 use Rattle.logger.proofs.BookLaws.{Fitting, length-workedOut, workedOut-at}
 use Rattle.logger.specs.Run.{State, step, run}
 use Rattle.logger.proofs.StepLaws.{stateOf, Sane, step-agrees, step-sane}
@@ -40,7 +45,8 @@ use Rattle.logfile.specs.File.{fileBytes}
 use Rattle.logfile.specs.Read.{readFile}
 use Rattle.logfile.specs.declared.read.ReadAnswer.{ReadAnswer}
 use Rattle.logfile.specs.declared.read.ReadAnswer.the-variants as read
-use Rattle.logfile.proofs.FileLaws.{IsLog, known-today, seasons-today, length-image, accepted, read-written}
+use Rattle.logfile.proofs.FileLaws as logs
+use Rattle.logfile.proofs.FileLaws.{IsLog, known-today, seasons-today, lapses-today, accepted}
 use Rattle.polling.specs.Reached.{Polled}
 use Rattle.demands.specs.Demand3.{Start, begin, ran, booked, logAfresh, Elsewhere}
 
@@ -54,7 +60,7 @@ pub together : (h : Header) (b : Book) (calls : List Call) → isHeader h ≡ tr
 unfolding runOf
 together h b [] e s k = record { answers = refl; state = refl }
 together h b (c ∷ calls) e s k =
-    let a = step-agrees h b c e s in
+    let a = step-agrees h b c e s (k .0) in
     let rest = together h (bookStep h b c .left) calls e (step-sane h b c s (k .0)) (k .1) in
     record {
       answers = ap₂ (λ (x : Answer) (xs : List Answer). x ∷ xs)
@@ -90,14 +96,14 @@ cell-anywhere cells k i = go (ltb i (length cells)) refl
     go true e = k i (ltb-true i (length cells) e)
     go false e = rw (List·getD-eq-default cells Gap (ltb-false i (length cells) e)) gap-is-cell
 
-pub start-sane : (h : Header) (cells : List Cell) → AllCells cells → Sane h (startBook cells)
+pub start-sane : (h : Header) (cells : List Cell) (lapses : ℕ → ℕ) → AllCells cells → Sane h (startBook cells lapses)
 unfolding startBook
-start-sane h cells k = record { inside = tt; rows = λ i. first-fits (getD cells i Gap) (cell-anywhere cells k i) }
+start-sane h cells lapses k = record { inside = tt; rows = λ i. first-fits (getD cells i Gap) (cell-anywhere cells k i) }
 
-pub start-cells : (cells : List Cell) (n : ℕ) → length cells ≡ n → AllCells cells → workedOut (startBook cells .kept) 0 n ≡ cells
+pub start-cells : (cells : List Cell) (lapses : ℕ → ℕ) (n : ℕ) → length cells ≡ n → AllCells cells → workedOut (startBook cells lapses .kept) 0 n ≡ cells
 unfolding startBook
-start-cells cells n e k =
-    let kept = startBook cells .kept in
+start-cells cells lapses n e k =
+    let kept = startBook cells lapses .kept in
     let size : length (workedOut kept 0 n) ≡ n = length-workedOut kept 0 n in
     ext-getD Gap (workedOut kept 0 n) cells (size ∙ sym e)
     (λ i l.
@@ -105,10 +111,21 @@ start-cells cells n e k =
     ∙ ap (λ (j : ℕ). afresh (kept j)) (zero-add i)
     ∙ afresh-first (getD cells i Gap) (cell-anywhere cells k i .right))
 
-pub start-state : (h : Header) (cells : List Cell) → length cells ≡ cellsOf h → AllCells cells
-    → stateOf h (startBook cells) ≡ begin (imageOf h cells)
+-- what a byte holds is not cut
+not-cut : (n : ℕ) → n < 256 → cutAt255 n ≡ n
+unfolding cutAt255
+not-cut n l = go (ltb n 255) refl
+  where
+    go : (b : Bool) → ltb n 255 ≡ b → cond b n 255 ≡ n
+    go true p = refl
+    go false p = omega (arith, ltb-false n 255 p)
+
+pub start-state : (h : Header) (cells : List Cell) (lapses : ℕ → ℕ) → length cells ≡ cellsOf h → AllCells cells → LapsesFit lapses
+    → stateOf h (startBook cells lapses) ≡ begin (imageOf h cells lapses)
 unfolding startBook
-start-state h cells e k = ap (λ (l : List Cell). begin (imageOf h l)) (start-cells cells (cellsOf h) e k)
+start-state h cells lapses e k f =
+    ap (λ (l : List Cell). begin (imageOf h l (lapsesOut lapses))) (start-cells cells lapses (cellsOf h) e k)
+    ∙ ap begin (image-alike h cells (lapsesOut lapses) lapses (λ i l. not-cut (lapses i) (f i)))
 
 -- ---- what a call leaves alone
 
@@ -118,19 +135,28 @@ byte-stays s y j k =
     decided-ways (λ (d : Decision). byteAt (applied (d .change) (s .log)) j ≡ byteAt (s .log) j) (viewOf (s .log)) (s .held) y (record {
       kept-open = λ a n. refl;
       closed = λ a n. refl;
-      put = λ h i c e o is. layout.elsewhere (s .log) i c j (k h i e o);
+      put = λ h i c e o is. layout.elsewhere (s .log) (change.Put i c) i j refl (k h i e o);
+    })
+
+lapse-stays : (s : State) (j : ℕ) → Elsewhere s j → byteAt (Lapse.lapsed (s .log) (s .held) .left) j ≡ byteAt (s .log) j
+unfolding Lapse.lapsed applied
+lapse-stays s j k =
+    lapsing-ways (λ (d : LapseDecision). byteAt (applied (d .change) (s .log)) j ≡ byteAt (s .log) j) (viewOf (s .log)) (s .held) (record {
+      none = λ e. refl;
+      refused = λ a n. refl;
+      counted = λ h i e o. layout.elsewhere (s .log) (change.Lapses i (Lapse.oneMore (viewOf (s .log) .lapses i))) i j refl (k h i e o);
     })
 
 pub elsewhere : (s : State) (c : Call) (j : ℕ) → Elsewhere s j → byteAt (step s c .left .log) j ≡ byteAt (s .log) j
 unfolding step
 elsewhere s (ask address day slot out) j k = refl
-elsewhere s lapse j k = refl
+elsewhere s lapse j k = lapse-stays s j k
 elsewhere s (reply y) j k = byte-stays s y j k
 
 pub as-long : (s : State) (c : Call) → length (step s c .left .log) ≡ length (s .log)
-unfolding step Take.taken
+unfolding step Take.taken Lapse.lapsed
 as-long s (ask address day slot out) = refl
-as-long s lapse = refl
+as-long s lapse = length-applied (Lapse.lapsing (viewOf (s .log)) (s .held) .change) (s .log)
 as-long s (reply y) = length-applied (Take.decided (viewOf (s .log)) (s .held) y .change) (s .log)
 
 -- ---- from every start
@@ -140,10 +166,13 @@ unfolding freshImage
 fresh-start h e = record {
   header = h;
   cells = gaps (cellsOf h);
+  lapses = noLapses;
   right = e;
   count = length-gaps (cellsOf h);
   each = λ i l. rw (gap-at (cellsOf h) i (rw length-gaps at l)) gap-is-cell;
+  fit = λ i. omega arith;
   gaps = λ i l x. gap-at (cellsOf h) i (rw length-gaps at l);
+  quiet = λ i l x. refl;
   image = refl;
 }
 
@@ -168,39 +197,48 @@ pub file : (f out : List ℕ) (n : ℕ) → Bytes f → readFile f out .result �
 file f out n k p =
     let y = readFile f out .left in
     let a = accepted f k out y n (ap (λ (r : ReadAnswer). outcome r y) p) in
-    let s = imageOf (a .header) (a .cells) in
+    let s = imageOf (a .header) (a .cells) (a .lapses) in
     let front : take n y ≡ s = ap (take n) (a .given) ∙ take-at s (drop n out) n (a .size) in
     let w = a .whole in
-    subst Start (sym front) (record { header = a .header; cells = a .cells; right = w .right; count = w .count; each = w .each; gaps = w .gaps; image = refl })
+    subst Start (sym front) (record {
+      header = a .header;
+      cells = a .cells;
+      lapses = a .lapses;
+      right = w .right;
+      count = w .count;
+      each = w .each;
+      fit = w .fit;
+      gaps = w .gaps;
+      quiet = w .none;
+      image = refl;
+    })
 
 pub fresh-had : (h : Header) (out : List ℕ) → isHeader h ≡ true → lengthOf h ≤ length out
     → freshOf h out ≡ outcome (made.Done (lengthOf h)) (freshImage h ++ drop (lengthOf h) out)
 fresh-had h out e l = fresh-front h out e l
 
 -- what stands in a start's file
-pub start-is : {s : List ℕ} (start : Start s) → IsLog (start .header) (start .cells)
-start-is start = record { right = start .right; count = start .count; each = start .each; gaps = start .gaps }
+pub start-is : {s : List ℕ} (start : Start s) → IsLog (start .header) (start .cells) (start .lapses)
+start-is start =
+    record { right = start .right; count = start .count; each = start .each; fit = start .fit; gaps = start .gaps; none = start .quiet }
 
 pub file-had : (s out : List ℕ) (start : Start s) → length s ≤ length out
-    → readFile (fileBytes (start .header) (start .cells)) out ≡ outcome (read.Done (length s)) (s ++ drop (length s) out)
+    → readFile (fileBytes (start .header) (start .cells) (start .lapses)) out ≡ outcome (read.Done (length s)) (s ++ drop (length s) out)
 file-had s out start l =
-    let h = start .header in
-    let cs = start .cells in
-    let size : length s ≡ lengthOf h = ap length (start .image) ∙ length-image h cs (start .count) in
-    read-written version h cs known-today (seasons-today h) (start-is start) out (omega arith)
-    ∙ ap₂ (λ (k : ℕ) (x : List ℕ). outcome (read.Done k) (x ++ drop k out)) (sym size) (sym (start .image))
+    logs.file-had version (start .header) (start .cells) (start .lapses) known-today (seasons-today (start .header)) (lapses-today (start .lapses)) (start-is start)
+    s out (start .image) l
 
 module _ (s : List ℕ) (start : Start s) (calls : List Call) (k : AllBytes calls) where
   b : Book
-  b = startBook (start .cells)
+  b = startBook (start .cells) (start .lapses)
 
   all : Together (start .header) b calls
   unfolding b
-  all = together (start .header) b calls (start .right) (start-sane (start .header) (start .cells) (start .each)) k
+  all = together (start .header) b calls (start .right) (start-sane (start .header) (start .cells) (start .lapses) (start .each)) k
 
   begins : begin s ≡ stateOf (start .header) b
   unfolding b
-  begins = ap begin (start .image) ∙ sym (start-state (start .header) (start .cells) (start .count) (start .each))
+  begins = ap begin (start .image) ∙ sym (start-state (start .header) (start .cells) (start .lapses) (start .count) (start .each) (start .fit))
 
   pub log : ran s calls .left .log ≡ logAfresh start calls
   unfolding b
@@ -214,5 +252,5 @@ module _ (s : List ℕ) (start : Start s) (calls : List Call) (k : AllBytes call
   unfolding b
   ask-left = ap (λ (t : State). run t calls .left .held) begins ∙ ap (λ (t : State). t .held) (all .state)
 
-pub polled : (s : List ℕ) (start : Start s) (t : List ℕ) (p : Polled s t) → t ≡ logAfresh start (p .calls)
-polled s start t p = ap (λ (w : State). w .log) (sym (p .leads)) ∙ log s start (p .calls) (p .bytes)
+pub polled : (s : List ℕ) (start : Start s) (t : List ℕ) (p : Polled s t) → t ≡ logAfresh start (p .reached .calls)
+polled s start t p = let r = p .reached in ap (λ (w : State). w .log) (sym (r .leads)) ∙ log s start (r .calls) (r .bytes)

@@ -18,6 +18,7 @@ pub mod Again
 pub mod Function4
 pub mod History
 pub mod Seasons
+pub mod Lapses
 pub mod Faults
 pub mod Examples
 pub mod Claims

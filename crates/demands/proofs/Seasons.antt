@@ -7,7 +7,7 @@ use native.Mathlib.Omega.{arith}
 use lib.ListN.{length, take, drop, getD}
 use lib.Seq.{take-at}
 use lib.Dec.{leb, ltb}
-use borrow.Author.Tests.{eq-eqb}
+use borrow.Author.Tests.{eq-eqb, lt-ltb}
 use Rattle.case_laws.proofs.Test.{chosen}
 use Rattle.refusal.specs.Outcome.{Outcome, outcome}
 use Rattle.words.specs.Number.{Bytes}
@@ -19,7 +19,7 @@ use Rattle.log.specs.Image.{imageOf, allGood, goods}
 use Rattle.log.specs.Interval.{nightOn, existsAt}
 use Rattle.log.specs.View.{View, viewOf}
 use Rattle.log.proofs.ImageLaws.{sound-image}
-use Rattle.log.proofs.ViewLaws.{cell-in, view-image}
+use Rattle.log.proofs.ViewLaws.{cell-in, viewBy, view-image}
 use Rattle.log.specs.declared.cell.Cell.the-variants.{Gap}
 use Rattle.log.specs.declared.cell.CellAnswer.{CellAnswer}
 use Rattle.log.specs.declared.cell.CellAnswer.the-variants.{Good}
@@ -41,17 +41,17 @@ use Rattle.demands.specs.Demand3.{Start, begin, ran}
 use Rattle.demands.proofs.History.{start-is}
 
 pub stay-gaps : (s : List ℕ) (start : Start s) (calls : List Call) → AllBytes calls → (i : ℕ) → i < cellsOf (start .header)
-    → existsAt (start .header) i ≡ false → viewOf (ran s calls .left .log) .cell i ≡ Good Gap
+    → existsAt (start .header) i ≡ false → let v = viewOf (ran s calls .left .log) in (v .cell i ≡ Good Gap) × (v .lapses i ≡ 0)
 stay-gaps s start calls k i l x =
     let h = start .header in
     let cs = start .cells in
-    let sound : soundOf s ≡ Sound h = ap soundOf (start .image) ∙ sound-image h cs (start .right) (start .count) in
+    let sound : soundOf s ≡ Sound h = ap soundOf (start .image) ∙ sound-image (start .lapses) h cs (start .right) (start .count) in
     let within : i < length cs = omega (arith, start .count) in
-    run-kept h i x calls (begin s) sound k
-    ∙ ap (λ (b : List ℕ). viewOf b .cell i) (start .image)
-    ∙ ap (λ (v : View). v .cell i) (view-image h cs (start .right) (start .count) (start .each))
-    ∙ cell-in cs i within
-    ∙ ap Good (start .gaps i within x)
+    let seen : viewOf s ≡ viewBy h cs (start .lapses) = ap viewOf (start .image) ∙ view-image h cs (start .lapses) (start .right) (start .count) (start .each) in
+    let kept = run-kept h i x calls (begin s) sound k in (
+      kept .0 ∙ ap (λ (v : View). v .cell i) seen ∙ cell-in cs i within ∙ ap Good (start .gaps i within x),
+      kept .1 ∙ ap (λ (v : View). v .lapses i) seen ∙ simp (lt-ltb i (length cs) within) (start .quiet i within x),
+    )
 
 -- ---- the report
 
@@ -84,18 +84,14 @@ pub first-version : (f out : List ℕ) (n : ℕ) (h : Header) → Bytes f → ve
 first-version f out n h bytes e p q =
     let y = readFile f out .left in
     let a = file.accepted f bytes out y n (ap (λ (r : ReadAnswer). outcome r y) p) in
-    let s = imageOf (a .header) (a .cells) in
+    let s = imageOf (a .header) (a .cells) (a .lapses) in
     let front : take n y ≡ s = ap (take n) (a .given) ∙ take-at s (drop n out) n (a .size) in
-    let same : Sound (a .header) ≡ Sound h = sym (ap soundOf front ∙ sound-image (a .header) (a .cells) (a .whole .right) (a .whole .count)) ∙ q in
+    let same : Sound (a .header) ≡ Sound h = sym (ap soundOf front ∙ sound-image (a .lapses) (a .header) (a .cells) (a .whole .right) (a .whole .count)) ∙ q in
     let header : a .header ≡ h = cc in
     sym (ap (λ (x : Header). x .seasons) header) ∙ file.first-read f out y n a e
 
-pub first-version-had : (s out : List ℕ) (start : Start s) → start .header .seasons ≡ 0 → length s ≤ length out
-    → readFile (fileBytesAs 1 (start .header) (start .cells)) out ≡ outcome (read.Done (length s)) (s ++ drop (length s) out)
+pub first-version-had : (s out : List ℕ) (start : Start s) → start .header .seasons ≡ 0 → ((i : ℕ) → start .lapses i ≡ 0) → length s ≤ length out
+    → readFile (fileBytesAs 1 (start .header) (start .cells) (start .lapses)) out ≡ outcome (read.Done (length s)) (s ++ drop (length s) out)
 unfolding isVersion seasonsFit
-first-version-had s out start e l =
-    let h = start .header in
-    let cs = start .cells in
-    let size : length s ≡ lengthOf h = ap length (start .image) ∙ file.length-image h cs (start .count) in
-    file.read-written 1 h cs refl (eq-eqb _ _ e) (start-is start) out (omega arith)
-    ∙ ap₂ (λ (k : ℕ) (x : List ℕ). outcome (read.Done k) (x ++ drop k out)) (sym size) (sym (start .image))
+first-version-had s out start e none l =
+    file.file-had 1 (start .header) (start .cells) (start .lapses) refl (eq-eqb _ _ e) (λ n. none) (start-is start) s out (start .image) l

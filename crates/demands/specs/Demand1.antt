@@ -10,7 +10,7 @@ use Prim.Native.Nat.{ℕ}
 use lib.Dec.{eqb, leb}
 use lib.ListN.{length, drop}
 use Rattle.words.specs.Place.{written}
-use Rattle.refusal.specs.Outcome.{Outcome}
+use Rattle.refusal.specs.Outcome.{Outcome, outcome}
 use Rattle.frame.specs.Layout.{bareSize}
 use Rattle.frame.specs.Sealing.{framed}
 use Rattle.request.specs.Request as request
@@ -82,6 +82,8 @@ pub record Demand1 : Type 0 where
   pub ask-after : (s : List ℕ) (held : OpenAsk) (y : List ℕ) → let o = taking.taken s held y in
       o .result .held ≡ cond (closes (taking.numberOf (o .result .answer))) Closed held
   pub lapse : (s : State) → EndsBy (λ (a : book.Answer). a .number) s (step s book.lapse)
+  -- "with none open it still answers 0" (document 02, CR 7), whatever the log is
+  pub lapse-none : (s : List ℕ) → step (record { log = s; held = Closed }) book.lapse ≡ outcome (book.plain 0) (record { log = s; held = Closed })
   -- "and writes nothing into a lent buffer": an ask, which is lent the log only to be read; requests, fresh logs, reports, texts and files
   pub put-ask : (v : View) (held : OpenAsk) (address day slot : ℕ) (out : List ℕ) → let o = asking.asked v held address day slot out in
       Ends {A = OpenAsk × List ℕ} (asking.numberOf (o .result .answer)) (held, out) (o .result .held, o .left)

@@ -9,5 +9,6 @@ pub mod Demand2Again
 pub mod Function4
 pub mod Demand3
 pub mod Seasons
+pub mod Lapses
 pub mod Faults
 pub mod Examples

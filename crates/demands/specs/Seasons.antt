@@ -27,6 +27,8 @@ use Rattle.logfile.specs.declared.read.ReadAnswer.the-variants as read
 use Rattle.logger.specs.Ask.{asked, answered}
 use Rattle.logger.specs.Book.{Call, AllBytes}
 use Rattle.logger.specs.Take.{taken}
+use Rattle.logger.specs.Lapse.{lapsed}
+use Rattle.logger.specs.declared.no_reply.LapseAnswer.the-variants as lapse-answer
 use Rattle.logger.specs.declared.ask.AskAnswer.the-variants as ask
 use Rattle.logger.specs.declared.held.OpenAsk.the-variants.{Closed, Open}
 use Rattle.logger.specs.declared.take.TakeAnswer.the-variants as take-answer
@@ -36,14 +38,16 @@ use Rattle.polling.specs.declared.next.Wanted.{Wanted}
 use Rattle.demands.specs.Demand3.{Start, ran}
 
 pub record Seasons : Type 0 where
-  -- "their cells stay gap in the image", whatever calls come
+  -- "their cells stay gap in the image", whatever calls come, and count no lapse (CR 7)
   pub stay-gaps : (s : List ℕ) (start : Start s) (calls : List Call) → AllBytes calls → (i : ℕ) → i < cellsOf (start .header)
-      → existsAt (start .header) i ≡ false → viewOf (ran s calls .left .log) .cell i ≡ Good Gap
-  -- "can't be asked for": "22 also for a slot that doesn't exist", of an ask and of a reply to one; and a poller asks for none
+      → existsAt (start .header) i ≡ false → let v = viewOf (ran s calls .left .log) in (v .cell i ≡ Good Gap) × (v .lapses i ≡ 0)
+  -- "can't be asked for": "22 also for a slot that doesn't exist", of an ask, of a reply to one and of its lapse; and a poller asks for none
   pub ask-refused : (v : View) (h : Header) (address day slot : ℕ) (out : List ℕ) → v .lent ≡ Sound h → exists h day slot ≡ false → readSize ≤ length out
       → asked v Closed address day slot out ≡ answered ask.NotInLog Closed out
   pub reply-refused : (s : List ℕ) (h : Header) (address day slot : ℕ) (y : List ℕ) → soundOf s ≡ Sound h → exists h day slot ≡ false
       → taken s (Open address day slot) y ≡ outcome (record { answer = take-answer.NotInLog; held = Open address day slot }) s
+  pub lapse-refused : (s : List ℕ) (h : Header) (address day slot : ℕ) → soundOf s ≡ Sound h → exists h day slot ≡ false
+      → lapsed s (Open address day slot) ≡ outcome (record { answer = lapse-answer.NotInLog; held = Open address day slot }) s
   pub never-polled : (w : Wanted) (v : View) (h : Header) (day from slot : ℕ) → v .lent ≡ Sound h → nextWanted w v day from ≡ Slot slot
       → exists h day slot ≡ true
   -- "and aren't counted": a day's three tallies make up the slots that it has, an hour less on the March day; and `doubled`, "the lent row's eighth
@@ -52,8 +56,9 @@ pub record Seasons : Type 0 where
       → getD after 0 0 + getD after 1 0 + getD after 2 0 ≡ slotsOf (h .minutes) - cond (isSpring (nightOn h d)) (hourOf (h .minutes)) 0
   pub none-doubled : (v : View) (h : Header) (d : ℕ) (row after : List ℕ) → v .lent ≡ Sound h → reportOf v d row ≡ outcome report.Done after
       → isAutumn (nightOn h d) ≡ false → getD after 7 0 ≡ 0
-  -- "version 1 is read as 0": what a file of version 1 gives does not follow the seasons, and every start's that does not is read
+  -- "version 1 is read as 0": what a file of version 1 gives does not follow the seasons, and every start's that does not, and has no lapses, is
+  -- read
   pub first-version : (f out : List ℕ) (n : ℕ) (h : Header) → Bytes f → versionAt f ≡ 1 → readFile f out .result ≡ read.Done n
       → soundOf (take n (readFile f out .left)) ≡ Sound h → h .seasons ≡ 0
-  pub first-version-had : (s out : List ℕ) (start : Start s) → start .header .seasons ≡ 0 → length s ≤ length out
-      → readFile (fileBytesAs 1 (start .header) (start .cells)) out ≡ outcome (read.Done (length s)) (s ++ drop (length s) out)
+  pub first-version-had : (s out : List ℕ) (start : Start s) → start .header .seasons ≡ 0 → ((i : ℕ) → start .lapses i ≡ 0) → length s ≤ length out
+      → readFile (fileBytesAs 1 (start .header) (start .cells) (start .lapses)) out ≡ outcome (read.Done (length s)) (s ++ drop (length s) out)

@@ -1,19 +1,20 @@
--- What follows from the definition of a cell: a cell and its nine bytes say the same.
+-- What follows from the definition of a cell: a cell and its nine bytes say the same, and its lapses are the tenth.
 use Prim.Native.Nat.{ℕ, _+_, _*_, _/_, _%_, _<_}
 use native.Mathlib.Omega.{arith}
 use mathlib.Core.Path.{_≡_, refl, sym, ap, subst, _∙_}
 use mathlib.Core.Bool.{Bool, true, false, cond, not}
-use mathlib.Core.List.{List, _++_}
+use mathlib.Core.List.{List, [], _∷_, _++_}
 use lib.Dec.{eqb}
-use lib.ListN.{length}
+use lib.ListN.{length, length-append}
 use lib.Seq.{take-all}
 use borrow.Author.Tests.{eqb-true, eqb-false, ltb-true, lt-ltb, le-ltb, ne-eqb, not-true}
 use Rattle.words.specs.Number.{number, bytesOf, Bytes}
 use Rattle.words.specs.Place.{byteAt, numberAt}
 use Rattle.case_laws.proofs.Test.{both, chosen}
 use Rattle.words.proofs.NumberLaws.{bytes-bytesOf}
-use Rattle.log.proofs.ByteLaws.{run, take-run, two, low, high, bytes-cons, bytes-append}
-use Rattle.log.specs.Cell.{cellSize, noCounts, isCell, kindBytes, cellBytes, kindFits, cellBy, kindCell, kindNames, cellOf, knownCell, ifGood, CountsFit, CellFits, IsCell}
+use Rattle.log.proofs.ByteLaws.{run, take-run, two, low, high, bytes-nil, bytes-cons, bytes-append}
+use Rattle.log.specs.Cell.{countsSize, cellSize, cellBytes, noCounts, isCell, kindBytes, countsBytes, kindFits, cellBy}
+use Rattle.log.specs.Cell.{kindCell, kindNames, cellOf, knownCell, ifGood, CountsFit, CellFits, IsCell}
 use Rattle.log.specs.declared.cell.Cell.{Cell}
 use Rattle.log.specs.declared.cell.Cell.the-variants.{Gap, Empty, Measured}
 use Rattle.log.specs.declared.cell.CellAnswer.{CellAnswer}
@@ -29,11 +30,11 @@ empty-is-cell = record { right = refl; fits = tt }
 
 -- ---- from the cell to its bytes and back
 
-pub length-cellBytes : (c : Cell) → length (cellBytes c) ≡ cellSize
-unfolding cellBytes kindBytes bytesOf
-length-cellBytes Gap = refl
-length-cellBytes Empty = refl
-length-cellBytes (Measured e+ e- r+ r-) = refl
+pub length-countsBytes : (c : Cell) → length (countsBytes c) ≡ countsSize
+unfolding countsBytes kindBytes bytesOf
+length-countsBytes Gap = refl
+length-countsBytes Empty = refl
+length-countsBytes (Measured e+ e- r+ r-) = refl
 
 bytes-kind : (kind e+ e- r+ r- : ℕ) → kind < 256 → Bytes (kindBytes kind e+ e- r+ r-)
 unfolding kindBytes
@@ -46,17 +47,26 @@ bytes-kind kind e+ e- r+ r- k =
     (bytes-append (bytesOf 2 e-) c (bytes-bytesOf 2 e-)
     (bytes-append (bytesOf 2 r+) (bytesOf 2 r-) (bytes-bytesOf 2 r+) (bytes-bytesOf 2 r-))))
 
-pub bytes-cell : (c : Cell) → Bytes (cellBytes c)
-unfolding cellBytes
+pub bytes-cell : (c : Cell) → Bytes (countsBytes c)
+unfolding countsBytes
 bytes-cell Gap = bytes-kind 0 0 0 0 0 (omega arith)
 bytes-cell Empty = bytes-kind 1 0 0 0 0 (omega arith)
 bytes-cell (Measured e+ e- r+ r-) = bytes-kind 2 e+ e- r+ r- (omega arith)
 
+-- with the lapses
+pub length-cellBytes : (c : Cell) (lapses : ℕ) → length (cellBytes c lapses) ≡ cellSize
+unfolding cellBytes
+length-cellBytes c lapses = length-append (countsBytes c) (lapses ∷ []) ∙ ap (λ (n : ℕ). n + 1) (length-countsBytes c)
+
+pub bytes-cellBytes : (c : Cell) (lapses : ℕ) → lapses < 256 → Bytes (cellBytes c lapses)
+unfolding cellBytes
+bytes-cellBytes c lapses l = bytes-append (countsBytes c) (lapses ∷ []) (bytes-cell c) (bytes-cons lapses [] l bytes-nil)
+
 low-high : (n : ℕ) → n < 65536 → (0 * 256 + n / 256 % 256) * 256 + n % 256 ≡ n
 low-high n h = omega arith
 
-pub cellOf-bytes : (c : Cell) → IsCell c → cellOf (cellBytes c) ≡ Good c
-unfolding cellOf cellBytes kindBytes kindCell kindFits cellBy isCell noCounts bytesOf numberAt number
+pub cellOf-bytes : (c : Cell) → IsCell c → cellOf (countsBytes c) ≡ Good c
+unfolding cellOf countsBytes kindBytes kindCell kindFits cellBy isCell noCounts bytesOf numberAt number
 cellOf-bytes Gap i = refl
 cellOf-bytes Empty i = refl
 cellOf-bytes (Measured e+ e- r+ r-) i =
@@ -68,13 +78,13 @@ cellOf-bytes (Measured e+ e- r+ r-) i =
 record Kind (kind e+ e- r+ r- : ℕ) (c : Cell) : Type 0 where
   right : isCell c ≡ true
   fits : CountsFit e+ e- r+ r- → CellFits c
-  bytes : cellBytes c ≡ kindBytes kind e+ e- r+ r-
+  bytes : countsBytes c ≡ kindBytes kind e+ e- r+ r-
 
 pub bad≢good : (c : Cell) → Bad ≡ Good c → ⊥
 bad≢good c p = let z : _≡_ {A = ℕ} 0 1 = cc in omega arith
 
 module _ (kind e+ e- r+ r- : ℕ) where
-  no-kind : (c : Cell) (k : ℕ) → kind ≡ k → noCounts e+ e- r+ r- ≡ true → isCell c ≡ true → CellFits c → cellBytes c ≡ kindBytes k 0 0 0 0 → Kind kind e+ e- r+ r- c
+  no-kind : (c : Cell) (k : ℕ) → kind ≡ k → noCounts e+ e- r+ r- ≡ true → isCell c ≡ true → CellFits c → countsBytes c ≡ kindBytes k 0 0 0 0 → Kind kind e+ e- r+ r- c
   unfolding noCounts
   no-kind c k e z right fits bytes =
       let a = both _ _ z in
@@ -83,7 +93,7 @@ module _ (kind e+ e- r+ r- : ℕ) where
       record { right = right; fits = λ f. fits; bytes = bytes ∙ sym (simp (e, eqb-true e+ 0 (d .0), eqb-true e- 0 (d .1), eqb-true r+ 0 (b .1), eqb-true r- 0 (a .1))) }
 
   fit-kind : (n : Bool) → noCounts e+ e- r+ r- ≡ n → kindFits kind n ≡ true → Kind kind e+ e- r+ r- (cellBy kind e+ e- r+ r-)
-  unfolding kindFits cellBy isCell cellBytes
+  unfolding kindFits cellBy isCell countsBytes
   fit-kind true z p = go (eqb kind 0) refl (eqb kind 1) refl
     where
       go : (g : Bool) → eqb kind 0 ≡ g → (m : Bool) → eqb kind 1 ≡ m → Kind kind e+ e- r+ r- (cond g Gap (cond m Empty (Measured e+ e- r+ r-)))
@@ -104,13 +114,13 @@ module _ (kind e+ e- r+ r- : ℕ) where
 
 -- nine bytes that are a cell
 record Nine (bs : List ℕ) (c : Cell) : Type 0 where
-  nine : length bs ≡ cellSize
+  nine : length bs ≡ countsSize
   kind : Kind (byteAt bs 0) (numberAt bs 1 2) (numberAt bs 3 2) (numberAt bs 5 2) (numberAt bs 7 2) c
 
 nine-of : (bs : List ℕ) (c : Cell) → cellOf bs ≡ Good c → Nine bs c
 unfolding cellOf
 nine-of bs c p =
-    let a = chosen (eqb (length bs) cellSize) (kindCell (byteAt bs 0) (numberAt bs 1 2) (numberAt bs 3 2) (numberAt bs 5 2) (numberAt bs 7 2)) Bad p (bad≢good c) in
+    let a = chosen (eqb (length bs) countsSize) (kindCell (byteAt bs 0) (numberAt bs 1 2) (numberAt bs 3 2) (numberAt bs 5 2) (numberAt bs 7 2)) Bad p (bad≢good c) in
     record { nine = eqb-true _ _ (a .0); kind = kind-of _ _ _ _ _ c (a .1) }
 
 -- a kind above the three goes with no counts
@@ -135,7 +145,7 @@ unfolding cellOf knownCell kindCell
 known-good bs c p =
     let kind = byteAt bs 0 in
     let n = noCounts (numberAt bs 1 2) (numberAt bs 3 2) (numberAt bs 5 2) (numberAt bs 7 2) in
-    let a = chosen (eqb (length bs) cellSize) (kindCell kind (numberAt bs 1 2) (numberAt bs 3 2) (numberAt bs 5 2) (numberAt bs 7 2)) Bad p (bad≢good c) in
+    let a = chosen (eqb (length bs) countsSize) (kindCell kind (numberAt bs 1 2) (numberAt bs 3 2) (numberAt bs 5 2) (numberAt bs 7 2)) Bad p (bad≢good c) in
     let b = chosen (kindFits kind n) (Good (cellBy kind (numberAt bs 1 2) (numberAt bs 3 2) (numberAt bs 5 2) (numberAt bs 7 2))) Bad (a .1) (bad≢good c) in
     simp (a .0) (fits-named kind _ _ _ _ n (b .0) ∙ b .1)
 
@@ -155,15 +165,15 @@ good-is-cell bs c h p =
 
 -- nine bytes are those of the kind and the counts that stand there
 listed : (bs : List ℕ) → Bytes bs
-    → run bs 0 cellSize ≡ kindBytes (byteAt bs 0) (numberAt bs 1 2) (numberAt bs 3 2) (numberAt bs 5 2) (numberAt bs 7 2)
+    → run bs 0 countsSize ≡ kindBytes (byteAt bs 0) (numberAt bs 1 2) (numberAt bs 3 2) (numberAt bs 5 2) (numberAt bs 7 2)
 unfolding run kindBytes bytesOf
 listed bs h = simp (low bs h 1, high bs h 1, low bs h 3, high bs h 3, low bs h 5, high bs h 5, low bs h 7, high bs h 7)
 
 -- nine bytes that are read as a cell are that cell's
-pub good-bytes : (bs : List ℕ) (c : Cell) → Bytes bs → cellOf bs ≡ Good c → cellBytes c ≡ bs
+pub good-bytes : (bs : List ℕ) (c : Cell) → Bytes bs → cellOf bs ≡ Good c → countsBytes c ≡ bs
 good-bytes bs c h p =
     let n = nine-of bs c p in
-    n .kind .bytes ∙ sym (listed bs h) ∙ sym (take-run cellSize 0 bs (omega (arith, n .nine))) ∙ take-all cellSize bs (omega (arith, n .nine))
+    n .kind .bytes ∙ sym (listed bs h) ∙ sym (take-run countsSize 0 bs (omega (arith, n .nine))) ∙ take-all countsSize bs (omega (arith, n .nine))
 
 -- what holds of both values holds of the one that is chosen
 pub by-good : {A : Type 0} (P : A → Type 0) (a : CellAnswer) {x : A} {f : Cell → A}

@@ -14,7 +14,7 @@ use Rattle.log.specs.declared.header.Header.{Header}
 may : Header
 may = record { start = record { year = 24; month = 5; day = 17 }; days = 1; minutes = 30; ke = 100; seasons = 0 }
 
-may-bytes : headerBytes may ≡ 71 ∷ 69 ∷ 76 ∷ 2 ∷ 0 ∷ 24 ∷ 5 ∷ 17 ∷ 1 ∷ 30 ∷ 100 ∷ 0 ∷ 0 ∷ 0 ∷ []
+may-bytes : headerBytes may ≡ 71 ∷ 69 ∷ 76 ∷ 3 ∷ 0 ∷ 24 ∷ 5 ∷ 17 ∷ 1 ∷ 30 ∷ 100 ∷ 0 ∷ 0 ∷ 0 ∷ []
 unfolding may headerBytesAs dateBytes bytesOf
 may-bytes = refl
 

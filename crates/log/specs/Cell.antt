@@ -1,4 +1,5 @@
--- A cell of the log and its nine bytes. Source: document 01, "The reader and the log".
+-- A cell of the log and its ten bytes. Source: document 01, "The reader and the log"; document 02, CR 7: "Each cell gets one byte more, at its end: how
+-- many asks for it ended in a lapse".
 use Prim.Native.Nat.{ℕ, _<_}
 use mathlib.Core.Bool.{Bool, true, cond, not, _&&_}
 use mathlib.Core.List.{List, [], _∷_, _++_}
@@ -12,9 +13,13 @@ use Rattle.log.specs.declared.cell.Cell.the-variants.{Gap, Empty, Measur
 use Rattle.log.specs.declared.cell.CellAnswer.{CellAnswer}
 use Rattle.log.specs.declared.cell.CellAnswer.the-variants.{Good, Bad}
 
--- "9 bytes each"
+-- kind and counts: "9 bytes each"
+abbrev pub countsSize : ℕ
+countsSize = 9
+
+-- "The cell is 10 bytes" (CR 7)
 abbrev pub cellSize : ℕ
-cellSize = 9
+cellSize = 10
 
 -- whether none of four counts is above zero
 unfoldable pub noCounts : ℕ → ℕ → ℕ → ℕ → Bool
@@ -57,9 +62,9 @@ r-Of Gap = 0
 r-Of Empty = 0
 r-Of (Measured e+ e- r+ r-) = r-
 
--- a cell's nine bytes
-unfoldable pub cellBytes : Cell → List ℕ
-cellBytes c = kindBytes (kindOf c) (e+Of c) (e-Of c) (r+Of c) (r-Of c)
+-- a cell's kind and counts
+unfoldable pub countsBytes : Cell → List ℕ
+countsBytes c = kindBytes (kindOf c) (e+Of c) (e-Of c) (r+Of c) (r-Of c)
 
 -- "0 gap, 1 empty, 2 measured", with no count above zero or with some
 unfoldable pub kindFits : ℕ → Bool → Bool
@@ -73,17 +78,21 @@ cellBy kind e+ e- r+ r- = cond (eqb kind 0) Gap (cond (eqb kind 1) Empty (Measur
 unfoldable pub kindCell : ℕ → ℕ → ℕ → ℕ → ℕ → CellAnswer
 kindCell kind e+ e- r+ r- = cond (kindFits kind (noCounts e+ e- r+ r-)) (Good (cellBy kind e+ e- r+ r-)) Bad
 
+-- a cell's ten bytes: "one byte more, at its end"
+unfoldable pub cellBytes : Cell → ℕ → List ℕ
+cellBytes c lapses = countsBytes c ++ (lapses ∷ [])
+
 -- "0 gap, 1 empty, 2 measured": the cell that a kind names, whatever its counts
 unfoldable pub kindNames : ℕ → ℕ → ℕ → ℕ → ℕ → CellAnswer
 kindNames kind e+ e- r+ r- = cond (ltb kind 3) (Good (cellBy kind e+ e- r+ r-)) Bad
 
 -- the cell that nine bytes are
 unfoldable pub cellOf : List ℕ → CellAnswer
-cellOf bs = cond (eqb (length bs) cellSize) (kindCell (byteAt bs 0) (numberAt bs 1 2) (numberAt bs 3 2) (numberAt bs 5 2) (numberAt bs 7 2)) Bad
+cellOf bs = cond (eqb (length bs) countsSize) (kindCell (byteAt bs 0) (numberAt bs 1 2) (numberAt bs 3 2) (numberAt bs 5 2) (numberAt bs 7 2)) Bad
 
 -- the cell that nine bytes name by their kind, whatever the counts: where they are a cell, it is that one
 unfoldable pub knownCell : List ℕ → CellAnswer
-knownCell bs = cond (eqb (length bs) cellSize) (kindNames (byteAt bs 0) (numberAt bs 1 2) (numberAt bs 3 2) (numberAt bs 5 2) (numberAt bs 7 2)) Bad
+knownCell bs = cond (eqb (length bs) countsSize) (kindNames (byteAt bs 0) (numberAt bs 1 2) (numberAt bs 3 2) (numberAt bs 5 2) (numberAt bs 7 2)) Bad
 
 -- one value where bytes are no cell, else one by the cell that they are
 abbrev pub ifGood : {A : Type 0} → CellAnswer → A → (Cell → A) → A

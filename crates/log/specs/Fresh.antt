@@ -24,9 +24,13 @@ freshNumber TooShort = 1
 unfoldable pub gaps : ℕ → List Cell
 gaps n = replicate n Gap
 
+-- no ask has lapsed
+abbrev pub noLapses : ℕ → ℕ
+noLapses i = 0
+
 -- "A fresh log is all gaps"
 unfoldable pub freshImage : Header → List ℕ
-freshImage h = imageOf h (gaps (cellsOf h))
+freshImage h = imageOf h (gaps (cellsOf h)) noLapses
 
 -- "a new log 27, 1"; "Output past what was written is unchanged"
 unfoldable pub freshOf : Header → List ℕ → Outcome FreshAnswer (List ℕ)

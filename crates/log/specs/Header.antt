@@ -20,9 +20,9 @@ use Rattle.log.specs.declared.header.Lent.the-variants.{Sound, Unsound}
 abbrev pub headerSize : ℕ
 headerSize = 14
 
--- "The file becomes version 2" (document 02, CR 5), and an image is of the same version
+-- "the file version 3" (document 02, CR 7), and an image is of the same version
 abbrev pub version : ℕ
-version = 2
+version = 3
 
 -- "1 to 62 days"
 abbrev pub daysMost : ℕ
@@ -40,7 +40,7 @@ imageMost = headerSize + cellSize * cellsMost
 unfoldable pub cellsOf : Header → ℕ
 cellsOf h = h .days * slotsOf (h .minutes)
 
--- "14 bytes. Then cells in time order, 9 bytes each"
+-- "14 bytes. Then cells in time order", 10 bytes each (document 02, CR 7)
 unfoldable pub lengthOf : Header → ℕ
 lengthOf h = headerSize + cellSize * cellsOf h
 

@@ -1,7 +1,7 @@
-// A cell of the log: what is known of one interval, in nine bytes.
+// A cell of the log: what is known of one interval, in nine bytes, and a tenth for how many asks for it lapsed.
 ghost use mathlib.Core.Path.{_≡_};
 ghost use Rattle.words.specs.Place.{written};
-ghost use Rattle.log.specs.Cell.{cellOf, cellBytes, kindBytes, kindCell, kindFits, kindNames, knownCell, noCounts, kindOf, e+Of, e-Of, r+Of, r-Of};
+ghost use Rattle.log.specs.Cell.{cellOf, countsBytes, kindBytes, kindCell, kindFits, kindNames, knownCell, noCounts, kindOf, e+Of, e-Of, r+Of, r-Of};
 
 pub enum Cell {
     // No well-formed reply with result 0 came.
@@ -18,7 +18,11 @@ pub enum CellAnswer {
     Bad,
 }
 
-pub const CELL_BYTES: usize = 9;
+// Kind and counts.
+pub const COUNTS_BYTES: usize = 9;
+
+// With the lapses behind them.
+pub const CELL_BYTES: usize = COUNTS_BYTES + 1;
 
 // The kinds, as the cell's first byte has them.
 const GAP: u8 = 0;
@@ -30,7 +34,7 @@ const MEASURED: u8 = 2;
 pub fn cell_of(bytes: &[u8]) -> CellAnswer
     ensures { λ r. ⌜ r ≡ cellOf (now (bytes .entry)) ⌝ }
 {
-    if bytes.len() != CELL_BYTES {
+    if bytes.len() != COUNTS_BYTES {
         return CellAnswer::Bad;
     }
     kind_cell(
@@ -46,7 +50,7 @@ pub fn cell_of(bytes: &[u8]) -> CellAnswer
 pub fn known_cell(bytes: &[u8]) -> CellAnswer
     ensures { λ r. ⌜ r ≡ knownCell (now (bytes .entry)) ⌝ }
 {
-    if bytes.len() != CELL_BYTES {
+    if bytes.len() != COUNTS_BYTES {
         return CellAnswer::Bad;
     }
     cell_by(
@@ -111,9 +115,9 @@ pub fn no_counts(ep: u16, em: u16, rp: u16, rm: u16) -> bool
     rm == 0
 }
 
-// Puts a cell's bytes to the front of a lent part.
+// Puts a cell's kind and counts to the front of a lent part.
 pub fn write_cell(out: &mut [u8], c: Cell)
-    ensures { λ _. ⌜ now (out .exit) ≡ written (now (out .entry)) 0 (cellBytes c) ⌝ }
+    ensures { λ _. ⌜ now (out .exit) ≡ written (now (out .entry)) 0 (countsBytes c) ⌝ }
 {
     // Each part by itself: kinds come in no order that a processor could guess, and so nothing branches on them.
     write_kind(

@@ -2,7 +2,7 @@
 ghost use mathlib.Core.Path.{_≡_};
 ghost use Rattle.refusal.specs.Outcome.{outcome};
 ghost use Rattle.log.specs.Image.{putCells};
-ghost use Rattle.log.specs.Fresh.{freshNumber, freshOf, gaps};
+ghost use Rattle.log.specs.Fresh.{freshNumber, freshOf, gaps, noLapses};
 use crate::cell::Cell;
 use crate::header::Header;
 
@@ -44,11 +44,11 @@ pub fn fresh_log(h: Header, out: &mut [u8]) -> FreshAnswer
 
 // The first cells, as far as there is room.
 fn write_gaps(out: &mut [u8], cells: usize)
-    ensures { λ _. ⌜ now (out .exit) ≡ putCells (now (out .entry)) 0 (gaps cells) ⌝ }
+    ensures { λ _. ⌜ now (out .exit) ≡ putCells (now (out .entry)) 0 (gaps cells) noLapses ⌝ }
 {
     let mut i = 0;
     while i < cells {
-        crate::image::put_cell(out, i, Cell::Gap);
+        crate::image::put_whole(out, i, Cell::Gap, 0);
         i += 1;
     }
 }

@@ -42,7 +42,7 @@ pub const CELLS_MOST: usize = DAYS_MOST as usize * slots::SLOTS_MOST as usize;
 pub const IMAGE_MOST: usize = HEADER_BYTES + CELL_BYTES * CELLS_MOST;
 
 // The image's, and that of a file that is written.
-pub const VERSION: u16 = 2;
+pub const VERSION: u16 = 3;
 
 const SEASONS_MOST: u8 = 1;
 

@@ -8,6 +8,7 @@ mod image;
 mod interval;
 
 pub use cell::CELL_BYTES;
+pub use cell::COUNTS_BYTES;
 pub use cell::Cell;
 pub use cell::CellAnswer;
 pub use cell::cell_of;
@@ -35,7 +36,10 @@ pub use image::Change;
 pub use image::apply;
 pub use image::cell_at;
 pub use image::known_at;
+pub use image::lapses_at;
 pub use image::put_cell;
+pub use image::put_lapses;
+pub use image::put_whole;
 pub use interval::DayAnswer;
 pub use interval::Interval;
 pub use interval::date_of;

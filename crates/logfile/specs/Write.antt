@@ -1,5 +1,5 @@
 -- A log, written as a file. Source: document 01, "Refusal numbers": "a file to write 28 (header, length), 1, 28 (all cells, before any
--- output)"; document 02, CR 5: "28 where a cell that 35 so refuses is written out".
+-- output)"; document 02, CR 5: "28 where a cell that 35 so refuses is written out", and CR 7.
 use Prim.Native.Nat.{ℕ}
 use mathlib.Core.List.{List}
 use lib.Dec.{leb}
@@ -24,5 +24,5 @@ unfoldable pub writtenFile : View → List ℕ → Outcome WriteAnswer (List ℕ
 writtenFile v out =
     ifSound (v .lent) (outcome Unsound out) (λ h.
     check (leb (fileLength h) (length out)) (outcome TooShort out) (
-    check (cellsRight h (v .cell)) (outcome Unsound out) (
-    outcome (Done (fileLength h)) (written out 0 (fileBytes h (goods (seenFrom (v .cell) 0 (cellsOf h))))))))
+    check (cellsRight h (v .cell) (v .lapses)) (outcome Unsound out) (
+    outcome (Done (fileLength h)) (written out 0 (fileBytes h (goods (seenFrom (v .cell) 0 (cellsOf h))) (v .lapses))))))

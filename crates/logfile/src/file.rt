@@ -1,6 +1,6 @@
 // The length of a log's file.
 ghost use mathlib.Core.Path.{_≡_};
-ghost use Rattle.logfile.specs.File.{fileLength};
+ghost use Rattle.logfile.specs.File.{fileLengthAs, fileLength};
 use crate::row::ROW_BYTES;
 use frame::layout::CRC_BYTES;
 use log::HEADER_BYTES;
@@ -8,8 +8,16 @@ use log::HEADER_BYTES;
 // The longest file.
 pub const FILE_MOST: usize = HEADER_BYTES + ROW_BYTES * log::CELLS_MOST + CRC_BYTES;
 
+// Of some version.
+pub fn file_length_as(version: u16, h: log::Header) -> usize
+    ensures { λ r. ⌜ r ≡ fileLengthAs version h ⌝ }
+{
+    crate::row::row_start(version, log::cells_of(h)) + CRC_BYTES
+}
+
+// Of the file that is written.
 pub fn file_length(h: log::Header) -> usize
     ensures { λ r. ⌜ r ≡ fileLength h ⌝ }
 {
-    HEADER_BYTES + ROW_BYTES * log::cells_of(h) + CRC_BYTES
+    file_length_as(log::VERSION, h)
 }

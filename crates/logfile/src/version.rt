@@ -1,10 +1,14 @@
-// What a file's version says: whether the file is read, and which header it can have.
+// What a file's version says: whether the file is read, which header it can have, and whether its rows have lapses.
 ghost use mathlib.Core.Path.{_≡_};
+ghost use Rattle.logfile.specs.Row.{hasLapses};
 ghost use Rattle.logfile.specs.File.{isVersion, seasonsFit, fileHeader};
 use log::HeaderAnswer;
 
 // The first, whose header has no byte for the seasons.
 const FIRST_VERSION: u16 = 1;
+
+// The first whose rows have lapses.
+const LAPSES_VERSION: u16 = 3;
 
 pub fn is_version(version: u16) -> bool
     ensures { λ r. ⌜ r ≡ isVersion version ⌝ }
@@ -13,6 +17,12 @@ pub fn is_version(version: u16) -> bool
         return false;
     }
     version <= log::VERSION
+}
+
+pub fn has_lapses(version: u16) -> bool
+    ensures { λ r. ⌜ r ≡ hasLapses version ⌝ }
+{
+    LAPSES_VERSION <= version
 }
 
 fn seasons_fit(version: u16, h: log::Header) -> bool

@@ -5,8 +5,8 @@ ghost use mathlib.Core.Bool.{true};
 ghost use Rattle.words.specs.Place.{written};
 ghost use Prim.Native.Nat.{_≤_};
 ghost use lib.ListN.{length};
-ghost use Rattle.log.specs.Header.{headerSize, isHeader, cellsOf};
-ghost use Rattle.log.specs.Image.{cellAt, allGood, goods};
+ghost use Rattle.log.specs.Header.{headerSize, version, isHeader, cellsOf};
+ghost use Rattle.log.specs.Image.{cellAt, lapsesAt, allGood, goods};
 ghost use Rattle.log.specs.View.{viewOf, seenFrom};
 ghost use Rattle.logfile.specs.Row.{rowStart, rowsBytes};
 ghost use Rattle.logfile.specs.File.{fileBytes, fileLength, cellsRight};
@@ -52,13 +52,13 @@ pub fn write_file(log: &[u8], out: &mut [u8]) -> WriteAnswer
     WriteAnswer::Unsound
 }
 
-// Whether each cell is one, and a gap where there is no slot.
+// Whether each cell is one, and a gap without lapses where there is no slot.
 fn cells_right(log: &[u8], h: log::Header) -> bool
     requires { ⌜ isHeader h ≡ true ⌝ }
-    ensures { λ r. ⌜ r ≡ cellsRight h (cellAt (now (log .entry))) ⌝ }
+    ensures { λ r. ⌜ r ≡ cellsRight h (cellAt (now (log .entry))) (lapsesAt (now (log .entry))) ⌝ }
 {
     if crate::walk::cells_good(log, log::cells_of(h)) {
-        return crate::missing::cells_gaps(log, h);
+        return crate::missing::cells_bare(log, h);
     }
     false
 }
@@ -66,7 +66,8 @@ fn cells_right(log: &[u8], h: log::Header) -> bool
 // The file of a log with this header, whose cells are all good, where there is room for it.
 fn put_file(log: &[u8], h: log::Header, out: &mut [u8])
     requires { ⌜ (allGood (seenFrom (cellAt (now log)) 0 (cellsOf h)) ≡ true) × (fileLength h ≤ length (now out)) ⌝ }
-    ensures { λ _. ⌜ now (out .exit) ≡ written (now (out .entry)) 0 (fileBytes h (goods (seenFrom (cellAt (now (log .entry))) 0 (cellsOf h)))) ⌝ }
+    ensures { λ _. ⌜ now (out .exit)
+        ≡ written (now (out .entry)) 0 (fileBytes h (goods (seenFrom (cellAt (now (log .entry))) 0 (cellsOf h))) (lapsesAt (now (log .entry)))) ⌝ }
 {
     let cells = log::cells_of(h);
     log::write_header(out, h);
@@ -76,15 +77,16 @@ fn put_file(log: &[u8], h: log::Header, out: &mut [u8])
 
 // Its rows, one by one. All cells were seen to be good, and none is tested again.
 fn put_rows(log: &[u8], cells: usize, out: &mut [u8])
-    requires { ⌜ (allGood (seenFrom (cellAt (now log)) 0 cells) ≡ true) × (rowStart cells ≤ length (now out)) ⌝ }
-    ensures { λ _. ⌜ now (out .exit) ≡ written (now (out .entry)) headerSize (rowsBytes (goods (seenFrom (cellAt (now (log .entry))) 0 cells))) ⌝ }
+    requires { ⌜ (allGood (seenFrom (cellAt (now log)) 0 cells) ≡ true) × (rowStart version cells ≤ length (now out)) ⌝ }
+    ensures { λ _. ⌜ now (out .exit)
+        ≡ written (now (out .entry)) headerSize (rowsBytes version 0 (goods (seenFrom (cellAt (now (log .entry))) 0 cells)) (lapsesAt (now (log .entry)))) ⌝ }
 {
     let mut i = 0;
     while i < cells {
         let log::CellAnswer::Good(c) = log::known_at(log, i) else {
             return;
         };
-        crate::row::put_row(out, i, c);
+        crate::row::put_row(out, i, c, log::lapses_at(log, i));
         i += 1;
     }
 }

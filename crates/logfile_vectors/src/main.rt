@@ -1,38 +1,42 @@
 // Damaged copies of a log's file, read one after the other. Each line has what was done to the good file, document 01's number, the
 // image's length where there is one, and the output's first byte, which was 255 before. The file is document 01's example, of version 1: a log
-// from 2024-05-17, 1 day, 30 minutes, Ke 100, slot 0 measured 12 0 3 0, slot 1 empty, all others gaps. Then files of versions 1 and 2 over the days
+// from 2024-05-17, 1 day, 30 minutes, Ke 100, slot 0 measured 12 0 3 0, slot 1 empty, all others gaps. Then files of versions 1, 2 and 3 over the days
 // on which the clock is moved. stdout was written by hand from the tables of documents 01 and 02, and not by this code.
 use libc::STDOUT_FILENO;
-use logfile::ROW_BYTES;
 use logfile::ReadAnswer;
 use logfile::WriteAnswer;
 
-// Where rows begin: the first two, those of the hour from 02:00 with its neighbours, and the last one. Of half hours first.
+// A row before version 3, and since.
+const EARLY_ROW: usize = 9;
+
+const ROW: usize = 10;
+
+// Where rows of the first two versions begin: the first two, those of the hour from 02:00 with its neighbours, and the last one. Of half hours first.
 const SLOT_0: usize = log::HEADER_BYTES;
 
-const SLOT_1: usize = SLOT_0 + ROW_BYTES;
+const SLOT_1: usize = SLOT_0 + EARLY_ROW;
 
-const SLOT_3: usize = SLOT_0 + 3 * ROW_BYTES;
+const SLOT_3: usize = SLOT_0 + 3 * EARLY_ROW;
 
-const SLOT_4: usize = SLOT_0 + 4 * ROW_BYTES;
+const SLOT_4: usize = SLOT_0 + 4 * EARLY_ROW;
 
-const SLOT_5: usize = SLOT_0 + 5 * ROW_BYTES;
+const SLOT_5: usize = SLOT_0 + 5 * EARLY_ROW;
 
-const SLOT_6: usize = SLOT_0 + 6 * ROW_BYTES;
+const SLOT_6: usize = SLOT_0 + 6 * EARLY_ROW;
 
-const SLOT_47: usize = SLOT_0 + 47 * ROW_BYTES;
+const SLOT_47: usize = SLOT_0 + 47 * EARLY_ROW;
 
 // Of quarters.
-const SLOT_7: usize = SLOT_0 + 7 * ROW_BYTES;
+const SLOT_7: usize = SLOT_0 + 7 * EARLY_ROW;
 
-const SLOT_8: usize = SLOT_0 + 8 * ROW_BYTES;
+const SLOT_8: usize = SLOT_0 + 8 * EARLY_ROW;
 
-const SLOT_11: usize = SLOT_0 + 11 * ROW_BYTES;
+const SLOT_11: usize = SLOT_0 + 11 * EARLY_ROW;
 
-const SLOT_12: usize = SLOT_0 + 12 * ROW_BYTES;
+const SLOT_12: usize = SLOT_0 + 12 * EARLY_ROW;
 
 // The file's CRC, the file and one byte more, which is 0; and its image.
-const CRC: usize = SLOT_47 + ROW_BYTES;
+const CRC: usize = SLOT_47 + EARLY_ROW;
 
 const FILE: usize = CRC + frame::layout::CRC_BYTES;
 
@@ -40,8 +44,38 @@ const LONGER: usize = FILE + 1;
 
 const IMAGE: usize = log::HEADER_BYTES + 48 * log::CELL_BYTES;
 
+// The same of version 3.
+const LATE_3: usize = SLOT_0 + 3 * ROW;
+
+const LATE_4: usize = SLOT_0 + 4 * ROW;
+
+const LATE_5: usize = SLOT_0 + 5 * ROW;
+
+const LATE_6: usize = SLOT_0 + 6 * ROW;
+
+const LATE_7: usize = SLOT_0 + 7 * ROW;
+
+const LATE_8: usize = SLOT_0 + 8 * ROW;
+
+const LATE_11: usize = SLOT_0 + 11 * ROW;
+
+const LATE_12: usize = SLOT_0 + 12 * ROW;
+
+const LATE_47: usize = SLOT_0 + 47 * ROW;
+
+const LATE_CRC: usize = SLOT_0 + 48 * ROW;
+
+const LATE_FILE: usize = LATE_CRC + frame::layout::CRC_BYTES;
+
+const LATE_QUARTERS_CRC: usize = SLOT_0 + 96 * ROW;
+
+const LATE_QUARTERS_FILE: usize = LATE_QUARTERS_CRC + frame::layout::CRC_BYTES;
+
+// The lapses in a row.
+const LAPSES: usize = 9;
+
 // Those of a day of quarters.
-const QUARTERS_CRC: usize = SLOT_0 + 96 * ROW_BYTES;
+const QUARTERS_CRC: usize = SLOT_0 + 96 * EARLY_ROW;
 
 const QUARTERS_FILE: usize = QUARTERS_CRC + frame::layout::CRC_BYTES;
 
@@ -58,7 +92,9 @@ fn main() {
     first_of_two();
     first_version();
     second_version();
+    third_version();
     missing_hour();
+    lapses();
     written_out();
 }
 
@@ -83,7 +119,9 @@ fn marks() {
     damaged(b"version 0", 3, b"\x00");
     damaged(b"version 2", 3, b"\x02");
     sealed_again(b"version 2", 3, b"\x02");
+    damaged(b"version 3", 3, b"\x03");
     sealed_again(b"version 3", 3, b"\x03");
+    sealed_again(b"version 4", 3, b"\x04");
     sealed_again(b"version 257", 4, b"\x01");
     sealed_again(b"version 258", 3, b"\x02\x01");
 }
@@ -146,8 +184,8 @@ fn outputs() {
 
 // Of two faults the one that comes first in the table answers.
 fn first_of_two() {
-    damaged(b"mark and version", 0, b"GEM\x03");
-    damaged(b"version and month 13", 3, b"\x03\x00\x18\x0D");
+    damaged(b"mark and version", 0, b"GEM\x04");
+    damaged(b"version and month 13", 3, b"\x04\x00\x18\x0D");
     show(
         b"month 13, a byte short",
         with(good(), 6, b"\x0D"),
@@ -163,7 +201,7 @@ fn first_of_two() {
     into_less(b"CRC 0", with(good(), CRC, b"\x00\x00"));
 }
 
-// Version 1 over the last Sundays of March and of October, with cells in the hour from 02:00: it follows no seasons, and is written as version 2.
+// Version 1 over the last Sundays of March and of October, with cells in the hour from 02:00: it follows no seasons, and is written as version 3.
 fn first_version() {
     half_hours(
         b"version 1, 31 March 2024",
@@ -227,6 +265,45 @@ fn second_version() {
     );
 }
 
+// Version 3 over the same days: slot 0 a gap with a lapse, the measured cell with 255, the empty one with 7.
+fn third_version() {
+    late_half_hours(
+        b"version 3, 31 March 2024",
+        b"GEL\x03\x00\x18\x03\x1F\x01\x1E\x64\x00\x01\x00",
+        LATE_3,
+        LATE_6,
+        b"\xD3\x92",
+    );
+    late_half_hours(
+        b"version 3, 27 October 2024",
+        b"GEL\x03\x00\x18\x0A\x1B\x01\x1E\x64\x00\x01\x00",
+        LATE_4,
+        LATE_5,
+        b"\xC2\xE2",
+    );
+    late_half_hours(
+        b"version 3, 31 March 2024, seasons 0",
+        b"GEL\x03\x00\x18\x03\x1F\x01\x1E\x64\x00\x00\x00",
+        LATE_4,
+        LATE_5,
+        b"\xAD\x36",
+    );
+    late_quarters(
+        b"version 3, 31 March 2024",
+        b"GEL\x03\x00\x18\x03\x1F\x01\x0F\x64\x00\x01\x00",
+        LATE_7,
+        LATE_12,
+        b"\xF3\x74",
+    );
+    late_quarters(
+        b"version 3, 27 October 2024",
+        b"GEL\x03\x00\x18\x0A\x1B\x01\x0F\x64\x00\x01\x00",
+        LATE_8,
+        LATE_11,
+        b"\x07\xCA",
+    );
+}
+
 // The hour that 31 March 2024 does not have where the seasons are followed.
 fn missing_hour() {
     in_spring(b"all gaps", SLOT_0, b"\x00");
@@ -257,7 +334,28 @@ fn missing_hour() {
     );
 }
 
-// What a log is written as that no file gives: cells in the hour that is none, and an image of version 1.
+// Of version 3: any byte is the lapses of a slot that exists, and 0 alone those of one that does not. A version's length is its own.
+fn lapses() {
+    in_late_spring(b"all gaps", SLOT_0, b"\x00");
+    in_late_spring(b"slot 0 one lapse", SLOT_0 + LAPSES, b"\x01");
+    in_late_spring(b"slot 3 255 lapses", LATE_3 + LAPSES, b"\xFF");
+    in_late_spring(b"slot 4 one lapse", LATE_4 + LAPSES, b"\x01");
+    in_late_spring(b"slot 4 255 lapses", LATE_4 + LAPSES, b"\xFF");
+    in_late_spring(b"slot 5 one lapse", LATE_5 + LAPSES, b"\x01");
+    in_late_spring(b"slot 6 one lapse", LATE_6 + LAPSES, b"\x01");
+    in_late_spring(b"slot 47 255 lapses", LATE_47 + LAPSES, b"\xFF");
+    in_late_spring(b"slot 4 empty", LATE_4, b"\x01");
+    in_late_spring(b"slot 47 kind 3", LATE_47, b"\x03");
+    in_late_spring(b"version 2", 3, b"\x02");
+    in_late_spring(
+        b"version 1, seasons 0",
+        3,
+        b"\x01\x00\x18\x03\x1F\x01\x1E\x64\x00\x00",
+    );
+    in_late_spring(b"seasons 2", 12, b"\x02");
+}
+
+// What a log is written as that no file gives: cells and lapses in the hour that is none, and images of other versions.
 fn written_out() {
     let mut image = [0u8; IMAGE];
     logfile::read_file(&in_october(), &mut image);
@@ -268,6 +366,20 @@ fn written_out() {
     write(b"31 March, seasons 0", &image);
     words::put_bytes(&mut image, 3, b"\x01");
     write(b"31 March, seasons 0, version 1", &image);
+    words::put_bytes(&mut image, 3, b"\x02");
+    write(b"31 March, seasons 0, version 2", &image);
+    write_lapses();
+}
+
+fn write_lapses() {
+    let mut image = [0u8; IMAGE];
+    logfile::read_file(&late_spring(SLOT_0, b"\x00"), &mut image);
+    write(b"spring, all gaps", &image);
+    log::put_lapses(&mut image, 4, 1);
+    write(b"spring, slot 4 one lapse", &image);
+    log::put_lapses(&mut image, 4, 0);
+    log::put_lapses(&mut image, 6, 255);
+    write(b"spring, slot 6 255 lapses", &image);
 }
 
 fn good() -> [u8; LONGER] {
@@ -306,6 +418,19 @@ fn in_october() -> [u8; FILE] {
         SLOT_5,
     );
     words::put_bytes(&mut file, CRC, b"\xDA\x0D");
+    file
+}
+
+// All gaps over a March day of version 3, the seasons followed, with other bytes at a place.
+fn late_spring(at: usize, bytes: &[u8]) -> [u8; LATE_FILE] {
+    let mut file = [0u8; LATE_FILE];
+    words::put_bytes(
+        &mut file,
+        0,
+        b"GEL\x03\x00\x18\x03\x1F\x01\x1E\x64\x00\x01\x00",
+    );
+    words::put_bytes(&mut file, at, bytes);
+    frame::seal(&mut file, LATE_CRC);
     file
 }
 
@@ -350,13 +475,22 @@ fn with_slot_4(what: &[u8], at: usize, bytes: &[u8]) {
     );
 }
 
+// Of version 3.
+fn in_late_spring(what: &[u8], at: usize, bytes: &[u8]) {
+    let mut out = [255u8; IMAGE];
+    say(b"version 3, spring, ");
+    say(what);
+    say(b", sealed again");
+    read(&late_spring(at, bytes), &mut out);
+}
+
 // A stored file, with a CRC that another program reckoned: read, and what was read written again.
 fn half_hours(what: &[u8], head: &[u8], measured: usize, empty: usize, crc: &[u8]) {
     let mut file = [0u8; FILE];
     put_day(&mut file, head, measured, empty);
     words::put_bytes(&mut file, CRC, crc);
     let mut image = [255u8; IMAGE];
-    let mut again = [255u8; FILE];
+    let mut again = [255u8; LATE_FILE];
     say(what);
     say(b", 30 minutes");
     read_and_write(&file, &mut image, &mut again);
@@ -367,10 +501,62 @@ fn quarters(what: &[u8], head: &[u8], measured: usize, empty: usize, crc: &[u8])
     put_day(&mut file, head, measured, empty);
     words::put_bytes(&mut file, QUARTERS_CRC, crc);
     let mut image = [255u8; QUARTERS_IMAGE];
-    let mut again = [255u8; QUARTERS_FILE];
+    let mut again = [255u8; LATE_QUARTERS_FILE];
     say(what);
     say(b", 15 minutes");
     read_and_write(&file, &mut image, &mut again);
+}
+
+// The same of version 3.
+fn late_half_hours(what: &[u8], head: &[u8], measured: usize, empty: usize, crc: &[u8]) {
+    let mut file = [0u8; LATE_FILE];
+    put_late_day(&mut file, head, measured, empty);
+    words::put_bytes(&mut file, LATE_CRC, crc);
+    let mut image = [255u8; IMAGE];
+    let mut again = [255u8; LATE_FILE];
+    say(what);
+    say(b", 30 minutes");
+    read_and_write(&file, &mut image, &mut again);
+    show_lapses(&image);
+}
+
+fn late_quarters(what: &[u8], head: &[u8], measured: usize, empty: usize, crc: &[u8]) {
+    let mut file = [0u8; LATE_QUARTERS_FILE];
+    put_late_day(&mut file, head, measured, empty);
+    words::put_bytes(&mut file, LATE_QUARTERS_CRC, crc);
+    let mut image = [255u8; QUARTERS_IMAGE];
+    let mut again = [255u8; LATE_QUARTERS_FILE];
+    say(what);
+    say(b", 15 minutes");
+    read_and_write(&file, &mut image, &mut again);
+    show_lapses(&image);
+}
+
+// With lapses, and a gap with one at midnight.
+fn put_late_day(file: &mut [u8], head: &[u8], measured: usize, empty: usize) {
+    words::put_bytes(file, 0, head);
+    words::put_bytes(file, SLOT_0, b"\x00\x00\x00\x00\x00\x00\x00\x00\x00\x01");
+    words::put_bytes(file, measured, b"\x02\x0C\x00\x00\x00\x03\x00\x00\x00\xFF");
+    words::put_bytes(file, empty, b"\x01\x00\x00\x00\x00\x00\x00\x00\x00\x07");
+}
+
+// The lapses at midnight, and in and beside the hour from 02:00, be it of half hours or of quarters.
+fn show_lapses(image: &[u8]) {
+    say(b"its lapses in slots 0, 3 to 8, 11 and 12:");
+    lapses_of(image, 0);
+    lapses_of(image, 3);
+    lapses_of(image, 4);
+    lapses_of(image, 5);
+    lapses_of(image, 6);
+    lapses_of(image, 7);
+    lapses_of(image, 8);
+    lapses_of(image, 11);
+    lapses_of(image, 12);
+    say(b"\n");
+}
+
+fn lapses_of(image: &[u8], i: usize) {
+    number(log::lapses_at(image, i) as u64);
 }
 
 // A header, and the rows of two cells, where all others are gaps.
@@ -392,7 +578,7 @@ fn read_and_write(file: &[u8], image: &mut [u8], again: &mut [u8]) {
 }
 
 fn write(what: &[u8], image: &[u8]) {
-    let mut out = [255u8; FILE];
+    let mut out = [255u8; LATE_FILE];
     say(what);
     say(b", written:");
     answer_of(logfile::write_file(image, &mut out), &out);
@@ -433,7 +619,7 @@ fn show(what: &[u8], file: [u8; LONGER], n: usize) {
 fn into_less(what: &[u8], file: [u8; LONGER]) {
     let mut out = [255u8; IMAGE - 1];
     say(what);
-    say(b", output of 445 bytes");
+    say(b", output of 493 bytes");
     read_first(file, FILE, &mut out);
 }
 

@@ -1,5 +1,6 @@
 pub mod AskLaws
 pub mod TakeLaws
+pub mod LapseLaws
 pub mod BookLaws
 pub mod StepLaws
 pub mod SeasonLaws

@@ -1,4 +1,4 @@
--- Where a slot does not exist (document 02, CR 5): an ask and a reply are refused with 22, and no list of calls alters its cell.
+-- Where a slot does not exist (document 02, CR 5): an ask, a lapse and a reply are refused with 22, and no list of calls alters its cell or its lapses.
 use mathlib.Core.Path.{_≡_, refl, sym, ap, subst, _∙_}
 use mathlib.Core.Bool.{false, and-false, false≢true}
 use mathlib.Core.List.{List, [], _∷_}
@@ -18,6 +18,10 @@ use Rattle.log.specs.declared.header.Lent.the-variants.{Sound}
 use Rattle.log.specs.declared.interval.Interval.the-variants.{Outside}
 use Rattle.logger.specs.Ask as Ask
 use Rattle.logger.specs.Take as Take
+use Rattle.logger.specs.Lapse as Lapse
+use Rattle.logger.specs.declared.no_reply.LapseDecision.{LapseDecision}
+use Rattle.logger.specs.declared.no_reply.LapseAnswer.the-variants as silent
+use Rattle.logger.proofs.LapseLaws.{lapsing-ways, lapsed-seen}
 use Rattle.logger.specs.Held.{OpenFor}
 use Rattle.logger.specs.Book.{Call, ask, lapse, reply, runOf, CallBytes, AllBytes}
 use Rattle.logger.specs.Run.{State, step, run}
@@ -44,12 +48,18 @@ pub reply-refused : (s : List ℕ) (h : Header) (address day slot : ℕ) (y : Li
 unfolding Take.taken Take.decided applied
 reply-refused s h address day slot y p e = simp (p, not-there h day slot e)
 
+pub lapse-refused : (s : List ℕ) (h : Header) (address day slot : ℕ) → soundOf s ≡ Sound h → exists h day slot ≡ false
+    → Lapse.lapsed s (Open address day slot) ≡ outcome (record { answer = silent.NotInLog; held = Open address day slot }) s
+unfolding Lapse.lapsed Lapse.lapsing applied
+lapse-refused s h address day slot p e = simp (p, not-there h day slot e)
+
 -- ---- its cell stays
 
 -- what is seen of cell j stays, and the header does
 record Kept (j : ℕ) (before after : View) : Type 0 where
   lent : after .lent ≡ before .lent
   cell : after .cell j ≡ before .cell j
+  lapses : after .lapses j ≡ before .lapses j
 
 module _ (h : Header) (j : ℕ) (gone : existsAt h j ≡ false) where
   -- an ask that is open is for another cell
@@ -62,22 +72,33 @@ module _ (h : Header) (j : ℕ) (gone : existsAt h j ≡ false) where
   unfolding changed
   decided-kept v held y p =
       decided-ways (λ (d : Decision). Kept j v (changed (d .change) v)) v held y (record {
-        kept-open = λ a n. record { lent = refl; cell = refl };
-        closed = λ a n. record { lent = refl; cell = refl };
-        put = λ k i c e o is. record { lent = refl; cell = simp (ne-eqb j i (another k held i (sym p ∙ e) o)) };
+        kept-open = λ a n. record { lent = refl; cell = refl; lapses = refl };
+        closed = λ a n. record { lent = refl; cell = refl; lapses = refl };
+        put = λ k i c e o is. record { lent = refl; cell = simp (ne-eqb j i (another k held i (sym p ∙ e) o)); lapses = refl };
+      })
+
+  lapsing-kept : (v : View) (held : OpenAsk) → v .lent ≡ Sound h → Kept j v (changed (Lapse.lapsing v held .change) v)
+  unfolding changed
+  lapsing-kept v held p =
+      lapsing-ways (λ (d : LapseDecision). Kept j v (changed (d .change) v)) v held (record {
+        none = λ e. record { lent = refl; cell = refl; lapses = refl };
+        refused = λ a n. record { lent = refl; cell = refl; lapses = refl };
+        counted = λ k i e o. record { lent = refl; cell = refl; lapses = simp (ne-eqb j i (another k held i (sym p ∙ e) o)) };
       })
 
   step-kept : (s : State) (c : Call) → soundOf (s .log) ≡ Sound h → CallBytes c → Kept j (viewOf (s .log)) (viewOf (step s c .left .log))
   unfolding step
-  step-kept s (ask address day slot out) p b = record { lent = refl; cell = refl }
-  step-kept s lapse p b = record { lent = refl; cell = refl }
+  step-kept s (ask address day slot out) p b = record { lent = refl; cell = refl; lapses = refl }
+  step-kept s lapse p b =
+      subst (Kept j (viewOf (s .log))) (sym (lapsed-seen (s .log) (s .held))) (lapsing-kept (viewOf (s .log)) (s .held) p)
   step-kept s (reply y) p b =
       subst (Kept j (viewOf (s .log))) (sym (taken-seen (s .log) (s .held) y b)) (decided-kept (viewOf (s .log)) (s .held) y p)
 
   pub run-kept : (calls : List Call) (s : State) → soundOf (s .log) ≡ Sound h → AllBytes calls
-      → viewOf (run s calls .left .log) .cell j ≡ viewOf (s .log) .cell j
+      → (viewOf (run s calls .left .log) .cell j ≡ viewOf (s .log) .cell j) × (viewOf (run s calls .left .log) .lapses j ≡ viewOf (s .log) .lapses j)
   unfolding runOf
-  run-kept [] s p b = refl
+  run-kept [] s p b = (refl, refl)
   run-kept (c ∷ calls) s p b =
       let k = step-kept s c p (b .0) in
-      run-kept calls (step s c .left) (k .lent ∙ p) (b .1) ∙ k .cell
+      let r = run-kept calls (step s c .left) (k .lent ∙ p) (b .1) in
+      (r .0 ∙ k .cell, r .1 ∙ k .lapses)

@@ -2,7 +2,7 @@
 use mathlib.Core.Path.{_≡_, refl, sym, ap, subst, _∙_}
 use mathlib.Core.Bool.{Bool, true, false, cond}
 use mathlib.Core.List.{List, [], _∷_, _++_}
-use Prim.Native.Nat.{ℕ, _<_}
+use Prim.Native.Nat.{ℕ, _+_, _<_}
 use native.Mathlib.Nat.{zero-add}
 use native.Mathlib.Omega.{arith}
 use lib.Dec.{eqb, ltb}
@@ -17,9 +17,10 @@ use Rattle.frame.specs.Layout.{readSize}
 use Rattle.log.proofs.CellLaws.{bad≢good}
 use Rattle.log.specs.Header.{isHeader, cellsOf, soundOf}
 use Rattle.log.specs.Image.{imageOf, applied}
-use Rattle.log.proofs.ImageLaws.{sound-image, putCell-image}
+use Rattle.log.proofs.ImageLaws.{sound-image, image-alike}
 use Rattle.log.specs.View.{View, viewOf}
-use Rattle.log.proofs.ViewLaws.{cellIn, cell-in, viewBy, view-image}
+use Rattle.log.proofs.ViewLaws.{cellIn, cell-in, viewBy, view-image, Whole, applied-image}
+use Rattle.log.specs.declared.image.Change.the-variants as change
 use Rattle.log.specs.Interval.{intervalOf, ifAt}
 use Rattle.log.proofs.IntervalLaws.{outside≢at, interval-below, in-log, by-at}
 use Rattle.log.specs.declared.cell.Cell.{Cell}
@@ -34,22 +35,26 @@ use Rattle.reader.specs.declared.form.Fault.the-variants as fault
 use Rattle.logger.specs.declared.take.TakeAnswer.the-variants.{Malformed}
 use Rattle.logger.specs.Held.{ifNone, OpenFor}
 use Rattle.logger.specs.Reply.{sliceForm, resultOf, Row, rowOf}
-use Rattle.logger.proofs.TakeLaws.{by-none, by-open, by-form, by-ok, Heard, Cases, decided-cases, RowFits, row-fits}
-use Rattle.logger.specs.Book.{Call, ask, lapse, reply, Answer, Book, entry, plain, faultAnswer, placeOf, keptWith, keepReply, bookReply, bookAsk, bookStep, workedOut, afresh, CallBytes}
+use Rattle.logger.proofs.TakeLaws.{by-none, by-open, by-form, by-ok, Heard, Cases, decided-cases, RowFits, row-fits, PutsCell, update-cell}
+use Rattle.logger.specs.Book.{Call, ask, lapse, reply, Answer, Book, entry, plain, faultAnswer, placeOf, keptWith, lapsesWith, keepReply, bookReply, bookAsk}
+use Rattle.logger.specs.Book.{bookLapse, bookStep, workedOut, cutAt255, lapsesOut, afresh, CallBytes}
 use Rattle.logger.proofs.BookLaws.{effect, updateNumber, cell-more, number-more, length-workedOut, workedOut-at, workedOut-with, Fitting, fitting-more, afresh-is-cell}
 use Rattle.logger.specs.Run.{State, step, takeAnswer}
 use Rattle.logger.specs.declared.held.OpenAsk.{OpenAsk}
 use Rattle.logger.specs.declared.held.OpenAsk.the-variants.{Closed, Open}
 use Rattle.logger.specs.declared.take.Decision.{Decision}
+use Rattle.logger.specs.declared.no_reply.LapseDecision.{LapseDecision}
 use Rattle.logger.specs.declared.take.Update.{Update}
 use Rattle.logger.specs.declared.take.Update.the-variants.{Put, Keep, Conflict}
 use Rattle.logger.specs.Ask as Ask
 use Rattle.logger.specs.Take as Take
+use Rattle.logger.specs.Lapse as Lapse
+use borrow.Author.Tests.{ltb-true, ltb-false, lt-ltb, eqb-true}
 use Rattle.logger.specs.declared.ask.AskAnswer.the-variants as answer
 
 -- the log and the open ask that a book gives
 abbrev pub stateOf : Header → Book → State
-stateOf h b = record { log = imageOf h (workedOut (b .kept) 0 (cellsOf h)); held = b .held }
+stateOf h b = record { log = imageOf h (workedOut (b .kept) 0 (cellsOf h)) (lapsesOut (b .lapses)); held = b .held }
 
 -- an open ask is for an interval of the log
 abbrev pub HeldIn : Header → OpenAsk → Type 0
@@ -68,17 +73,17 @@ pub record Agree (h : Header) (s : Outcome Answer State) (e : Outcome Answer Boo
 
 -- ---- an ask
 
-module _ (h : Header) (kept : ℕ → List Row) (address day slot : ℕ) (out : List ℕ) where
+module _ (h : Header) (kept : ℕ → List Row) (lapses : ℕ → ℕ) (address day slot : ℕ) (out : List ℕ) where
   askStep : Outcome Asked (List ℕ) → Outcome Answer State
   askStep o =
-      outcome (plain (Ask.numberOf (o .result .answer))) (record { log = imageOf h (workedOut kept 0 (cellsOf h)); held = o .result .held })
+      outcome (plain (Ask.numberOf (o .result .answer))) (record { log = imageOf h (workedOut kept 0 (cellsOf h)) (lapsesOut lapses); held = o .result .held })
 
   pub ask-agrees : (held : OpenAsk) → isHeader h ≡ true
-      → Agree h (step (stateOf h (record { held = held; kept = kept })) (ask address day slot out)) (bookAsk h held kept address day slot out)
+      → Agree h (step (stateOf h (record { held = held; kept = kept; lapses = lapses })) (ask address day slot out)) (bookAsk h held kept lapses address day slot out)
   unfolding step Ask.asked bookAsk askStep
   ask-agrees held e =
       let cells = workedOut kept 0 (cellsOf h) in
-      let sound : soundOf (imageOf h cells) ≡ Sound h = sound-image h cells e (length-workedOut kept 0 (cellsOf h)) in
+      let sound : soundOf (imageOf h cells (lapsesOut lapses)) ≡ Sound h = sound-image (lapsesOut lapses) h cells e (length-workedOut kept 0 (cellsOf h)) in
       rw sound (go (ltb (length out) readSize) held (intervalOf h day slot))
     where
       go : (short : Bool) (held : OpenAsk) (i : Interval)
@@ -88,10 +93,10 @@ module _ (h : Header) (kept : ℕ → List Row) (address day slot : ℕ) (out : 
           ifNone held (Ask.answered answer.AlreadyOpen held out) (
           ifAt i (Ask.answered answer.NotInLog held out) (λ i.
           Ask.answered answer.Done (Open address day slot) (written out 0 (Ask.askFrame h address day slot)))))))
-          (cond short (entry (plain 1) held kept) (
-          ifNone held (entry (plain 21) held kept) (
-          ifAt i (entry (plain 22) held kept) (λ i.
-          entry (plain 0) (Open address day slot) kept))))
+          (cond short (entry (plain 1) held kept lapses) (
+          ifNone held (entry (plain 21) held kept lapses) (
+          ifAt i (entry (plain 22) held kept lapses) (λ i.
+          entry (plain 0) (Open address day slot) kept lapses))))
       go true held i = record { answer = refl; state = refl }
       go false (Open a d t) i = record { answer = refl; state = refl }
       go false Closed Outside = record { answer = refl; state = refl }
@@ -103,6 +108,9 @@ module _ (h : Header) (kept : ℕ → List Row) (address day slot : ℕ) (out : 
 takeStep : List ℕ → Decision → Outcome Answer State
 takeStep s d = outcome (takeAnswer (d .taken .answer)) (record { log = applied (d .change) s; held = d .taken .held })
 
+lapseStep : List ℕ → LapseDecision → Outcome Answer State
+lapseStep s d = outcome (plain (Lapse.numberOf (d .lapsed .answer))) (record { log = applied (d .change) s; held = d .lapsed .held })
+
 -- log and book give a reply that is not well formed the same answer
 same-fault : (f : Fault) → takeAnswer (Malformed f) ≡ faultAnswer f
 same-fault (fault.Length n) = refl
@@ -112,15 +120,23 @@ same-fault fault.Function = refl
 same-fault fault.Parameter = refl
 
 -- an update of a cell of an image
-update-step : (h : Header) (cells : List Cell) (i : ℕ) (u : Update)
-    → takeStep (imageOf h cells) (Take.updated u i)
-    ≡ outcome (plain (updateNumber u)) (record { log = imageOf h (set cells i (effect u (getD cells i Gap))); held = Closed })
-unfolding takeStep Take.updated updateNumber effect applied
-update-step h cells i (Put new) = rw putCell-image
-update-step h cells i Keep = rw set-getD
-update-step h cells i Conflict = rw set-getD
+update-step : (h : Header) (cells : List Cell) (lapses : ℕ → ℕ) (i : ℕ) (u : Update) → Whole h cells lapses → i < cellsOf h → PutsCell u
+    → takeStep (imageOf h cells lapses) (Take.updated u i)
+    ≡ outcome (plain (updateNumber u)) (record { log = imageOf h (set cells i (effect u (getD cells i Gap))) lapses; held = Closed })
+unfolding takeStep Take.updated updateNumber effect
+update-step h cells lapses i (Put new) w l is = rw (applied-image h cells lapses (change.Put i new) w (l, is))
+update-step h cells lapses i Keep w l is = rw set-getD (rw (applied-image h cells lapses change.None w tt))
+update-step h cells lapses i Conflict w l is = rw set-getD (rw (applied-image h cells lapses change.None w tt))
 
-module _ (h : Header) (kept : ℕ → List Row) (rows : (i : ℕ) → Fitting (kept i)) where
+cut-fits : (n : ℕ) → cutAt255 n < 256
+unfolding cutAt255
+cut-fits n = go (ltb n 255) refl
+  where
+    go : (b : Bool) → ltb n 255 ≡ b → cond b n 255 < 256
+    go true p = omega (arith, ltb-true n 255 p)
+    go false p = omega arith
+
+module _ (h : Header) (kept : ℕ → List Row) (lapses : ℕ → ℕ) (rows : (i : ℕ) → Fitting (kept i)) where
   cells : List Cell
   cells = workedOut kept 0 (cellsOf h)
 
@@ -132,22 +148,28 @@ module _ (h : Header) (kept : ℕ → List Row) (rows : (i : ℕ) → Fitting (k
   unfolding cells
   read-here i l = cell-in cells i (rw length-workedOut l)
 
-  -- what is seen of the log that they give
-  seen-here : isHeader h ≡ true → viewOf (imageOf h cells) ≡ viewBy h cells
+  -- what the log that they give is made of, and what is seen of it
+  whole : isHeader h ≡ true → Whole h cells (lapsesOut lapses)
   unfolding cells
-  seen-here e =
-      view-image h cells e (length-workedOut kept 0 (cellsOf h)) (λ i l.
-      rw (cell-here i (rw length-workedOut at l)) (afresh-is-cell (kept i) (rows i)))
+  whole e = record {
+    right = e;
+    count = length-workedOut kept 0 (cellsOf h);
+    each = λ i l. rw (cell-here i (rw length-workedOut at l)) (afresh-is-cell (kept i) (rows i));
+    fit = λ i. cut-fits (lapses i);
+  }
+
+  seen-here : isHeader h ≡ true → viewOf (imageOf h cells (lapsesOut lapses)) ≡ viewBy h cells (lapsesOut lapses)
+  seen-here e = let w = whole e in view-image h cells (lapsesOut lapses) (w .right) (w .count) (w .each)
 
   -- a row that is kept for a cell of the log
-  keep-agrees : (i : ℕ) (r : Row) → i < cellsOf h
-      → Agree h (takeStep (imageOf h cells) (Take.updated (Take.updateOf (getD cells i Gap) r) i)) (keepReply kept i r)
+  keep-agrees : (i : ℕ) (r : Row) → RowFits r → isHeader h ≡ true → i < cellsOf h
+      → Agree h (takeStep (imageOf h cells (lapsesOut lapses)) (Take.updated (Take.updateOf (getD cells i Gap) r) i)) (keepReply kept lapses i r)
   unfolding cells keepReply
-  keep-agrees i r l =
+  keep-agrees i r f e l =
       let c = getD cells i Gap in
       let u = Take.updateOf c r in
       let here : c ≡ afresh (kept i) = cell-here i l in
-      let made = update-step h cells i u in
+      let made = update-step h cells (lapsesOut lapses) i u (whole e) l (update-cell r f c) in
       let with-row : workedOut (keptWith kept i r) 0 (cellsOf h) ≡ set cells i (afresh (kept i ++ (r ∷ []))) =
       rw zero-add at (workedOut-with kept r 0 (cellsOf h) i l) in
       let after : effect u c ≡ afresh (kept i ++ (r ∷ [])) = ap (λ (x : Cell). effect (Take.updateOf x r) x) here ∙ cell-more (kept i) r in
@@ -155,7 +177,7 @@ module _ (h : Header) (kept : ℕ → List Row) (rows : (i : ℕ) → Fitting (k
         answer = ap (λ (s : Outcome Answer State). s .result) made
             ∙ ap plain (ap (λ (x : Cell). updateNumber (Take.updateOf x r)) here ∙ number-more (kept i) r);
         state = ap (λ (s : Outcome Answer State). s .left) made
-            ∙ ap (λ (l : List Cell). record { log = imageOf h l; held = Closed }) (ap (set cells i) after ∙ sym with-row);
+            ∙ ap (λ (l : List Cell). record { log = imageOf h l (lapsesOut lapses); held = Closed }) (ap (set cells i) after ∙ sym with-row);
       }
 
   -- the interval of the open ask is the cell that the book keeps a reply for
@@ -166,10 +188,10 @@ module _ (h : Header) (kept : ℕ → List Row) (rows : (i : ℕ) → Fitting (k
   below : (held : OpenAsk) (y : List ℕ) (i : ℕ) → Heard h held y i → i < cellsOf h
   below held y i o = interval-below h (o .ask .day) (o .ask .slot) i (o .ask .interval)
 
-  reply-cases : (held : OpenAsk) (y : List ℕ) → HeldIn h held
-      → Cases (λ (d : Decision). Agree h (takeStep (imageOf h cells) d) (bookReply h held kept y)) h (viewBy h cells) held y
+  reply-cases : (held : OpenAsk) (y : List ℕ) → Bytes y → isHeader h ≡ true → HeldIn h held
+      → Cases (λ (d : Decision). Agree h (takeStep (imageOf h cells (lapsesOut lapses)) d) (bookReply h held kept lapses y)) h (viewBy h cells (lapsesOut lapses)) held y
   unfolding cells takeStep bookReply applied
-  reply-cases held y k = record {
+  reply-cases held y bytes right k = record {
     no-ask = λ e. rw e (record { answer = refl; state = refl });
     outside = λ a d t o n. absurd (outside≢at (placeOf h d t) (sym n ∙ (rw o at k)));
     malformed = λ i o f e. rw (o .open-ask, e) (record { answer = same-fault f; state = refl });
@@ -178,30 +200,66 @@ module _ (h : Header) (kept : ℕ → List Row) (rows : (i : ℕ) → Fitting (k
     counted = λ i o e c g.
         let l = below held y i o in
         let same : c ≡ getD cells i Gap = cc (g, read-here i l) in
-        rw (o .ask .open-ask, o .formed, e, cell-asked held i (o .ask), same) (keep-agrees i (rowOf y) l);
+        rw (o .ask .open-ask, o .formed, e, cell-asked held i (o .ask), same) (keep-agrees i (rowOf y) (row-fits y bytes) right l);
   }
 
-  pub reply-agrees : (held : OpenAsk) (y : List ℕ) → isHeader h ≡ true → HeldIn h held
-      → Agree h (step (stateOf h (record { held = held; kept = kept })) (reply y)) (bookReply h held kept y)
+  pub reply-agrees : (held : OpenAsk) (y : List ℕ) → Bytes y → isHeader h ≡ true → HeldIn h held
+      → Agree h (step (stateOf h (record { held = held; kept = kept; lapses = lapses })) (reply y)) (bookReply h held kept lapses y)
   unfolding cells takeStep step Take.taken
-  reply-agrees held y e k =
-      let P : Decision → Type 0 = λ d. Agree h (takeStep (imageOf h cells) d) (bookReply h held kept y) in
+  reply-agrees held y bytes e k =
+      let P : Decision → Type 0 = λ d. Agree h (takeStep (imageOf h cells (lapsesOut lapses)) d) (bookReply h held kept lapses y) in
       subst (λ (v : View). P (Take.decided v held y)) (sym (seen-here e))
-      (decided-cases P (viewBy h cells) held y
+      (decided-cases P (viewBy h cells (lapsesOut lapses)) held y
       (λ u. let z : _≡_ {A = ℕ} 0 1 = cc in absurd (omega arith))
-      (λ g q. let same : h ≡ g = cc in rw (← same) (reply-cases held y k)))
+      (λ g q. let same : h ≡ g = cc in rw (← same) (reply-cases held y bytes e k)))
+
+  -- ---- a lapse
+
+  cut-more : (n : ℕ) → Lapse.oneMore (cutAt255 n) ≡ cutAt255 (n + 1)
+  unfolding Lapse.oneMore cutAt255
+  cut-more n = go (ltb n 255) refl (ltb (n + 1) 255) refl
+    where
+      go : (a : Bool) → ltb n 255 ≡ a → (b : Bool) → ltb (n + 1) 255 ≡ b
+          → cond (ltb (cond a n 255) 255) (cond a n 255 + 1) 255 ≡ cond b (n + 1) 255
+      go true p true q = simp p
+      go true p false q = simp p (omega (arith, ltb-true n 255 p, ltb-false (n + 1) 255 q))
+      go false p true q = absurd (omega (arith, ltb-false n 255 p, ltb-true (n + 1) 255 q))
+      go false p false q = refl
+
+  -- the lapses of the log, one more for cell i, are those of the book with one more
+  lapses-more : (i j : ℕ) → cond (eqb j i) (Lapse.oneMore (cutAt255 (lapses i))) (cutAt255 (lapses j)) ≡ cutAt255 (lapsesWith lapses i j)
+  unfolding lapsesWith
+  lapses-more i j = go (eqb j i) refl
+    where
+      go : (b : Bool) → eqb j i ≡ b → cond b (Lapse.oneMore (cutAt255 (lapses i))) (cutAt255 (lapses j)) ≡ cutAt255 (cond b (lapses j + 1) (lapses j))
+      go true p = cut-more (lapses i) ∙ ap (λ (k : ℕ). cutAt255 (lapses k + 1)) (sym (eqb-true j i p))
+      go false p = refl
+
+  pub lapse-agrees : (held : OpenAsk) → isHeader h ≡ true → HeldIn h held
+      → Agree h (step (stateOf h (record { held = held; kept = kept; lapses = lapses })) lapse) (bookLapse h held kept lapses)
+  unfolding cells step bookLapse Lapse.lapsed Lapse.lapsing lapseStep
+  lapse-agrees Closed e k = let w = whole e in record { answer = refl; state = rw (applied-image h cells (lapsesOut lapses) change.None w tt) refl }
+  lapse-agrees (Open a day slot) e k =
+      let w = whole e in
+      let i = placeOf h day slot in
+      let l : i < cellsOf h = interval-below h day slot i k in
+      let m : i < length cells = omega (arith, l, w .count) in
+      let n = Lapse.oneMore (cutAt255 (lapses i)) in
+      let fits : n < 256 = rw (cut-more (lapses i)) (cut-fits (lapses i + 1)) in
+      let done : applied (change.Lapses i n) (imageOf h cells (lapsesOut lapses)) ≡ imageOf h cells (lapsesOut (lapsesWith lapses i)) =
+      applied-image h cells (lapsesOut lapses) (change.Lapses i n) w (l, fits)
+      ∙ image-alike h cells (λ j. cond (eqb j i) n (cutAt255 (lapses j))) (lapsesOut (lapsesWith lapses i)) (λ j x. lapses-more i j) in
+      subst (λ (v : View). Agree h (lapseStep (imageOf h cells (lapsesOut lapses)) (Lapse.lapsing v (Open a day slot))) (bookLapse h (Open a day slot) kept lapses))
+      (sym (seen-here e))
+      (rw (k, read-here i l, lt-ltb i (length cells) m) (record { answer = refl; state = ap (λ (x : List ℕ). record { log = x; held = Closed }) done }))
 
 -- ---- any call
 
-lapsed : (h : Header) (b : Book) → Agree h (step (stateOf h b) lapse) (entry (plain 0) Closed (b .kept))
-unfolding step
-lapsed h b = record { answer = refl; state = refl }
-
-pub step-agrees : (h : Header) (b : Book) (c : Call) → isHeader h ≡ true → Sane h b → Agree h (step (stateOf h b) c) (bookStep h b c)
+pub step-agrees : (h : Header) (b : Book) (c : Call) → isHeader h ≡ true → Sane h b → CallBytes c → Agree h (step (stateOf h b) c) (bookStep h b c)
 unfolding bookStep
-step-agrees h b (ask address day slot out) e s = ask-agrees h (b .kept) address day slot out (b .held) e
-step-agrees h b lapse e s = lapsed h b
-step-agrees h b (reply y) e s = reply-agrees h (b .kept) (s .rows) (b .held) y e (s .inside)
+step-agrees h b (ask address day slot out) e s k = ask-agrees h (b .kept) (b .lapses) address day slot out (b .held) e
+step-agrees h b lapse e s k = lapse-agrees h (b .kept) (b .lapses) (s .rows) (b .held) e (s .inside)
+step-agrees h b (reply y) e s k = reply-agrees h (b .kept) (b .lapses) (s .rows) (b .held) y k e (s .inside)
 
 -- ---- a sane book stays sane
 
@@ -213,30 +271,31 @@ kept-fits kept i r rows k j = go (eqb j i)
     go true = fitting-more (kept j) r (rows j) k
     go false = rows j
 
-module _ (h : Header) (kept : ℕ → List Row) (rows : (i : ℕ) → Fitting (kept i)) where
+module _ (h : Header) (kept : ℕ → List Row) (lapses : ℕ → ℕ) (rows : (i : ℕ) → Fitting (kept i)) where
   abbrev KeepsSane : Outcome Answer Book → Type 0
   KeepsSane e = Sane h (e .left)
 
-  ask-sane : (held : OpenAsk) (address day slot : ℕ) (out : List ℕ) → HeldIn h held → KeepsSane (bookAsk h held kept address day slot out)
+  ask-sane : (held : OpenAsk) (address day slot : ℕ) (out : List ℕ) → HeldIn h held → KeepsSane (bookAsk h held kept lapses address day slot out)
   unfolding bookAsk placeOf
   ask-sane held address day slot out k =
-      let same : Sane h (record { held = held; kept = kept }) = record { inside = k; rows = rows } in
+      let same : Sane h (record { held = held; kept = kept; lapses = lapses }) = record { inside = k; rows = rows } in
       either KeepsSane (ltb (length out) readSize) same (
       by-none KeepsSane held (λ a d t o. same) (λ o.
       by-at KeepsSane (intervalOf h day slot) (λ e. same) (λ i e.
       record { inside = e ∙ ap At (sym (in-log h day slot i e .index)); rows = rows })))
 
-  reply-sane : (held : OpenAsk) (y : List ℕ) → Bytes y → HeldIn h held → KeepsSane (bookReply h held kept y)
+  reply-sane : (held : OpenAsk) (y : List ℕ) → Bytes y → HeldIn h held → KeepsSane (bookReply h held kept lapses y)
   unfolding bookReply keepReply
   reply-sane held y k q =
-      let same : Sane h (record { held = held; kept = kept }) = record { inside = q; rows = rows } in
+      let same : Sane h (record { held = held; kept = kept; lapses = lapses }) = record { inside = q; rows = rows } in
       by-open KeepsSane held (λ o. same) (λ a d t o.
       by-form KeepsSane (sliceForm a y) (λ fault e. same) (λ e.
       by-ok KeepsSane (resultOf y) (λ e. record { inside = tt; rows = rows }) (λ e.
       record { inside = tt; rows = kept-fits kept (placeOf h d t) (rowOf y) rows (row-fits y k) })))
 
 pub step-sane : (h : Header) (b : Book) (c : Call) → Sane h b → CallBytes c → Sane h (bookStep h b c .left)
-unfolding bookStep
-step-sane h b (ask address day slot out) s k = ask-sane h (b .kept) (s .rows) (b .held) address day slot out (s .inside)
-step-sane h b lapse s k = record { inside = tt; rows = s .rows }
-step-sane h b (reply y) s k = reply-sane h (b .kept) (s .rows) (b .held) y k (s .inside)
+unfolding bookStep bookLapse
+step-sane h b (ask address day slot out) s k = ask-sane h (b .kept) (b .lapses) (s .rows) (b .held) address day slot out (s .inside)
+step-sane h b lapse s k =
+    by-open (λ (e : Outcome Answer Book). Sane h (e .left)) (b .held) (λ o. record { inside = tt; rows = s .rows }) (λ a d t o. record { inside = tt; rows = s .rows })
+step-sane h b (reply y) s k = reply-sane h (b .kept) (b .lapses) (s .rows) (b .held) y k (s .inside)

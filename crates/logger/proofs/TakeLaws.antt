@@ -120,7 +120,7 @@ row-fits y k = record {
 }
 
 -- they put a cell
-abbrev PutsCell : Update → Type 0
+abbrev pub PutsCell : Update → Type 0
 PutsCell (Put c) = IsCell c
 PutsCell Keep = Unit
 PutsCell Conflict = Unit
@@ -137,7 +137,7 @@ module _ (r : Row) (f : RowFits r) where
   compared-cell false true = tt
   compared-cell false false = tt
 
-  update-cell : (c : Cell) → PutsCell (updateOf c r)
+  pub update-cell : (c : Cell) → PutsCell (updateOf c r)
   unfolding updateOf
   update-cell cell.Gap = filled-cell (noCounts (r .e+) (r .e-) (r .r+) (r .r-)) refl
   update-cell cell.Empty = filled-cell (noCounts (r .e+) (r .e-) (r .r+) (r .r-)) refl

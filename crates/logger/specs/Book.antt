@@ -1,7 +1,8 @@
 -- The plain book, a term of document 01 ("The reader and the log"): "The plain book is fed only the start's header and cells and the
 -- calls' arguments, without the log and the open ask that the calls get. It holds an open ask, at first none, and replies by interval,
 -- at first the cells that aren't gaps (empty as zeros)." Document 02, request 2: "23 goes, in demand 3's book too; in its place and this
--- order 50 length, 51 CRC, 52 address, 53 function, or a top bit that belies the result, 54 parameter."
+-- order 50 length, 51 CRC, 52 address, 53 function, or a top bit that belies the result, 54 parameter." CR 7: "Demand 3 then fixes it from the history: lapses
+-- of asks for that interval, added to what the file held and cut at 255."
 use mathlib.Core.Bool.{Bool, cond, not, _&&_}
 use mathlib.Core.List.{List, [], _∷_, _++_}
 use Prim.Native.Nat.{ℕ, zero, suc, _+_, _*_}
@@ -78,6 +79,8 @@ afresh rows = byFirst (firstOf rows) rows
 pub record Book : Type 0 where
   pub held : OpenAsk
   pub kept : ℕ → List Row
+  -- "lapses of asks for that interval, added to what the file held"
+  pub lapses : ℕ → ℕ
 
 -- the interval of a day and slot, in time order
 unfoldable pub placeOf : Header → ℕ → ℕ → ℕ
@@ -89,18 +92,22 @@ cameFirst Gap = []
 cameFirst Empty = record { e+ = 0; e- = 0; r+ = 0; r- = 0 } ∷ []
 cameFirst (Measured a b c d) = record { e+ = a; e- = b; r+ = c; r- = d } ∷ []
 
--- the book of a start: no ask open, and the cells that are no gaps as replies
-unfoldable pub startBook : List Cell → Book
+-- the book of a start: no ask open, the cells that are no gaps as replies, and the lapses that the file held
+unfoldable pub startBook : List Cell → (ℕ → ℕ) → Book
 unfolding cameFirst
-startBook cells = record { held = Closed; kept = λ i. cameFirst (getD cells i Gap) }
+startBook cells lapses = record { held = Closed; kept = λ i. cameFirst (getD cells i Gap); lapses = lapses }
 
 -- the replies with one more at interval i
 unfoldable pub keptWith : (ℕ → List Row) → ℕ → Row → ℕ → List Row
 keptWith kept i r j = cond (eqb j i) (kept j ++ (r ∷ [])) (kept j)
 
+-- the lapses with one more at interval i
+unfoldable pub lapsesWith : (ℕ → ℕ) → ℕ → ℕ → ℕ
+lapsesWith lapses i j = cond (eqb j i) (lapses j + 1) (lapses j)
+
 -- an answer and the book after it
-abbrev pub entry : Answer → OpenAsk → (ℕ → List Row) → Outcome Answer Book
-entry a held kept = outcome a (record { held = held; kept = kept })
+abbrev pub entry : Answer → OpenAsk → (ℕ → List Row) → (ℕ → ℕ) → Outcome Answer Book
+entry a held kept lapses = outcome a (record { held = held; kept = kept; lapses = lapses })
 
 -- "25 if nonzero and unlike that interval's first nonzero one, else 0"
 abbrev pub keptAnswer : First → Row → ℕ
@@ -108,34 +115,41 @@ keptAnswer none r = 0
 keptAnswer (counts q) r = cond (not (isZero r) && not (alike q r)) 25 0
 
 -- a reply with result 0 "is kept for the ask's interval"
-unfoldable pub keepReply : (ℕ → List Row) → ℕ → Row → Outcome Answer Book
+unfoldable pub keepReply : (ℕ → List Row) → (ℕ → ℕ) → ℕ → Row → Outcome Answer Book
 unfolding keptWith
-keepReply kept i r = entry (plain (keptAnswer (firstOf (kept i)) r)) Closed (keptWith kept i r)
+keepReply kept lapses i r = entry (plain (keptAnswer (firstOf (kept i)) r)) Closed (keptWith kept i r) lapses
 
 -- "A reply gets 20 with none open. If it isn't well formed it gets 23", now one of the five, "and the ask stays. Else the ask closes: a
 -- result other than 0 gets 24 with that result; any other reply is kept for the ask's interval"
-unfoldable pub bookReply : Header → OpenAsk → (ℕ → List Row) → List ℕ → Outcome Answer Book
+unfoldable pub bookReply : Header → OpenAsk → (ℕ → List Row) → (ℕ → ℕ) → List ℕ → Outcome Answer Book
 unfolding keepReply
-bookReply h held kept y =
-    ifOpen held (entry (plain 20) held kept) (λ address day slot.
-    ifFormed (sliceForm address y) (λ fault. entry (faultAnswer fault) held kept) (
-    ifOk (resultOf y) (entry (record { number = 24; result = resultOf y; length = 0 }) Closed kept) (
-    keepReply kept (placeOf h day slot) (rowOf y))))
+bookReply h held kept lapses y =
+    ifOpen held (entry (plain 20) held kept lapses) (λ address day slot.
+    ifFormed (sliceForm address y) (λ fault. entry (faultAnswer fault) held kept lapses) (
+    ifOk (resultOf y) (entry (record { number = 24; result = resultOf y; length = 0 }) Closed kept lapses) (
+    keepReply kept lapses (placeOf h day slot) (rowOf y))))
 
 -- "An ask gets 1, 21 or 22 by the table, else 0 and opens"; document 02, CR 5: "22 also for a slot that doesn't exist"
-unfoldable pub bookAsk : Header → OpenAsk → (ℕ → List Row) → ℕ → ℕ → ℕ → List ℕ → Outcome Answer Book
-bookAsk h held kept address day slot out =
-    cond (ltb (length out) readSize) (entry (plain 1) held kept) (
-    ifNone held (entry (plain 21) held kept) (
-    ifAt (intervalOf h day slot) (entry (plain 22) held kept) (λ i.
-    entry (plain 0) (Open address day slot) kept)))
+unfoldable pub bookAsk : Header → OpenAsk → (ℕ → List Row) → (ℕ → ℕ) → ℕ → ℕ → ℕ → List ℕ → Outcome Answer Book
+bookAsk h held kept lapses address day slot out =
+    cond (ltb (length out) readSize) (entry (plain 1) held kept lapses) (
+    ifNone held (entry (plain 21) held kept lapses) (
+    ifAt (intervalOf h day slot) (entry (plain 22) held kept lapses) (λ i.
+    entry (plain 0) (Open address day slot) kept lapses)))
 
--- one call; "A lapse gets 0, and none is open."
+-- "A lapse gets 0, and none is open"; where one was, it counts for the ask's interval (CR 7)
+unfoldable pub bookLapse : Header → OpenAsk → (ℕ → List Row) → (ℕ → ℕ) → Outcome Answer Book
+unfolding lapsesWith
+bookLapse h held kept lapses =
+    ifOpen held (entry (plain 0) Closed kept lapses) (λ address day slot.
+    entry (plain 0) Closed kept (lapsesWith lapses (placeOf h day slot)))
+
+-- one call
 unfoldable pub bookStep : Header → Book → Call → Outcome Answer Book
-unfolding bookAsk bookReply
-bookStep h b (ask address day slot out) = bookAsk h (b .held) (b .kept) address day slot out
-bookStep h b lapse = entry (plain 0) Closed (b .kept)
-bookStep h b (reply y) = bookReply h (b .held) (b .kept) y
+unfolding bookAsk bookLapse bookReply
+bookStep h b (ask address day slot out) = bookAsk h (b .held) (b .kept) (b .lapses) address day slot out
+bookStep h b lapse = bookLapse h (b .held) (b .kept) (b .lapses)
+bookStep h b (reply y) = bookReply h (b .held) (b .kept) (b .lapses) y
 
 -- a list of calls, each with what the one before it left: all answers, and what is left in the end
 unfoldable pub runOf : {S : Type 0} → (S → Call → Outcome Answer S) → S → List Call → Outcome (List Answer) S
@@ -154,6 +168,13 @@ bookRun h b calls = runOf (bookStep h) b calls
 unfoldable pub workedOut : (ℕ → List Row) → ℕ → ℕ → List Cell
 workedOut kept i zero = []
 workedOut kept i (suc n) = afresh (kept i) ∷ workedOut kept (suc i) n
+
+-- a cell's lapses: "cut at 255" (CR 7)
+unfoldable pub cutAt255 : ℕ → ℕ
+cutAt255 n = cond (ltb n 255) n 255
+
+abbrev pub lapsesOut : (ℕ → ℕ) → ℕ → ℕ
+lapsesOut lapses i = cutAt255 (lapses i)
 
 -- ---- any call
 

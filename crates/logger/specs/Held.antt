@@ -7,10 +7,6 @@ use Rattle.log.specs.declared.interval.Interval.the-variants.{At}
 use Rattle.logger.specs.declared.held.OpenAsk.{OpenAsk}
 use Rattle.logger.specs.declared.held.OpenAsk.the-variants.{Closed, Open}
 
--- "A lapse closes it; with nothing open a lapse does nothing"
-abbrev pub lapsed : OpenAsk → OpenAsk
-lapsed held = Closed
-
 -- one value with an ask open, else another
 abbrev pub ifNone : {A : Type 0} → OpenAsk → A → A → A
 ifNone (Open address day slot) other none = other

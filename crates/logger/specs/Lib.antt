@@ -3,4 +3,5 @@ pub mod Ask
 pub mod Reply
 pub mod Book
 pub mod Take
+pub mod Lapse
 pub mod Run

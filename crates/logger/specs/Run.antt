@@ -6,7 +6,7 @@ use Rattle.refusal.specs.Outcome.{Outcome, outcome}
 use Rattle.reader.specs.Form.{faultLength}
 use Rattle.log.specs.View.{viewOf}
 use Rattle.logger.specs.Ask as Ask
-use Rattle.logger.specs.Held.{lapsed}
+use Rattle.logger.specs.Lapse as Lapse
 use Rattle.logger.specs.Take as Take
 use Rattle.logger.specs.Book.{Call, ask, lapse, reply, Answer, plain, runOf}
 use Rattle.logger.specs.declared.held.OpenAsk.{OpenAsk}
@@ -33,7 +33,9 @@ unfoldable pub step : State → Call → Outcome Answer State
 step s (ask address day slot out) =
     let o = Ask.asked (viewOf (s .log)) (s .held) address day slot out in
     outcome (plain (Ask.numberOf (o .result .answer))) (record { log = s .log; held = o .result .held })
-step s lapse = outcome (plain 0) (record { log = s .log; held = lapsed (s .held) })
+step s lapse =
+    let o = Lapse.lapsed (s .log) (s .held) in
+    outcome (plain (Lapse.numberOf (o .result .answer))) (record { log = o .left; held = o .result .held })
 step s (reply y) =
     let o = Take.taken (s .log) (s .held) y in
     outcome (takeAnswer (o .result .answer)) (record { log = o .left; held = o .result .held })

@@ -2,13 +2,16 @@
 // the header, one cell and one reply, and never walks the log. What a history of calls leaves in the log is stated in `demands`.
 mod ask;
 mod held;
+mod no_reply;
 mod take;
 
 pub use ask::AskAnswer;
 pub use ask::Asked;
 pub use ask::put_ask;
 pub use held::OpenAsk;
-pub use held::lapse;
+pub use no_reply::LapseAnswer;
+pub use no_reply::Lapsed;
+pub use no_reply::lapse;
 pub use take::TakeAnswer;
 pub use take::Taken;
 pub use take::take_reply;

@@ -46,6 +46,9 @@ use Rattle.logfile.specs.declared.read.ReadAnswer.{ReadAnswer}
 use Rattle.logfile.specs.declared.read.ReadAnswer.the-variants as file
 use Rattle.logfile.specs.declared.write.WriteAnswer.{WriteAnswer}
 use Rattle.logfile.specs.declared.write.WriteAnswer.the-variants as wrote
+use Rattle.log.specs.Image.{applied}
+use Rattle.logger.specs.Lapse as lapse-of
+use Rattle.logger.specs.Run.{State, step}
 use Rattle.logger.specs.declared.held.OpenAsk.{OpenAsk}
 use Rattle.logger.specs.declared.held.OpenAsk.the-variants.{Closed, Open}
 use Rattle.c_values.specs.Ask.{askOf, askBytes}
@@ -56,7 +59,7 @@ use Rattle.demands.specs.Demand1.{inTable, Ends, EndsBy, givesFrame}
 use Rattle.demands.proofs.Calls.{done, stays}
 use Rattle.demands.proofs.Claims as claims
 use Rattle.metlazuel.specs.Calls.{numbered, sized, unreadNumber, resultAfter, receivedAfter}
-use Rattle.metlazuel.specs.LogCalls.{headerFrom, imageLength, fileLength, lengthAfter, askLeft, askForC, lapseLeft, lapseForC, closes, takeForC}
+use Rattle.metlazuel.specs.LogCalls.{headerFrom, imageLength, fileLength, lengthAfter, askLeft, askForC, lapseCloses, lapseForC, closes, takeForC}
 use Rattle.metlazuel.specs.CellCalls.{cellForC, nextGapForC}
 use Rattle.metlazuel.specs.WireCalls.{requestFrom, countAfter, decodedForC, decodeForC}
 use Rattle.metlazuel.specs.MeterCalls.{telemetryFrom, clockFrom, phasesFrom, ratiosFrom, key, row, madeIn, secondIn, powersIn, ratiosIn, sliceIn}
@@ -115,10 +118,10 @@ read-file f out n = sized-ends readNumber lengthAfter length-kept (readFile f ou
 
 -- ---- single cells
 
-pub cell : (v : View) (day slot kind : ℕ) (counts : List ℕ) → EndsForC (kind, counts) (cellForC v day slot kind counts)
+pub cell : (v : View) (day slot kind : ℕ) (counts : List ℕ) (lapses : ℕ) → EndsForC (kind, counts, lapses) (cellForC v day slot kind counts lapses)
 unfolding cellForC inTable
-cell v day slot kind counts =
-    let before : ℕ × List ℕ = (kind, counts) in
+cell v day slot kind counts lapses =
+    let before : ℕ × List ℕ × ℕ = (kind, counts, lapses) in
     by-sound (EndsForC before) (v .lent) (λ u. stays 28 before refl) (λ h u.
     by-at (EndsForC before) (intervalOf h day slot) (λ n. stays 22 before refl) (λ i n.
     by-good (EndsForC before) (v .cell i) (λ b. stays 28 before refl) (λ c g. done before _)))
@@ -141,17 +144,25 @@ ask-read Unreadable v bs address day slot out = unread (length out) readSize (bs
 pub ask : (v : View) (bs : List ℕ) (address day slot : ℕ) (out : List ℕ) → EndsForC (bs, out) (askForC (askOf bs) v bs address day slot out)
 ask v bs address day slot out = ask-read (askOf bs) v bs address day slot out
 
-lapse-read : (a : AskRead) (bs : List ℕ) → EndsForC bs (lapseForC a bs)
-unfolding lapseForC inTable
-lapse-read (Read held) bs = done bs _
-lapse-read Unreadable bs = stays 28 bs refl
+-- a refused lapse closes no ask
+none-closed : (held : OpenAsk) (n : ℕ) → (n ≡ 0 → ⊥) → lapseCloses held n ≡ false
+unfolding lapseCloses
+none-closed Closed n r = refl
+none-closed (Open address day slot) n r = ne-eqb _ _ r
 
-pub lapse : (bs : List ℕ) → EndsForC bs (lapseForC (askOf bs) bs)
-lapse bs = lapse-read (askOf bs) bs
+lapse-read : (a : AskRead) (log bs : List ℕ) → EndsForC (log, bs) (lapseForC a log bs)
+unfolding lapseForC step askLeft inTable
+lapse-read (Read held) log bs =
+    let e = claims.demand-1 .lapse (record { log = log; held = held }) in
+    record { in-table = e .in-table; unchanged = λ n. rw (none-closed held _ n, ap (λ (s : State). s .log) (e .unchanged n)) }
+lapse-read Unreadable log bs = stays 28 (log, bs) refl
 
-pub lapse-none : (bs : List ℕ) → askOf bs ≡ Read Closed → lapseForC (askOf bs) bs ≡ outcome 0 bs
-unfolding lapseForC lapseLeft
-lapse-none bs e = rw e
+pub lapse : (log bs : List ℕ) → EndsForC (log, bs) (lapseForC (askOf bs) log bs)
+lapse log bs = lapse-read (askOf bs) log bs
+
+pub lapse-none : (log bs : List ℕ) → askOf bs ≡ Read Closed → lapseForC (askOf bs) log bs ≡ outcome 0 (log, bs)
+unfolding lapseForC lapseCloses askLeft lapse-of.lapsed lapse-of.lapsing applied
+lapse-none log bs e = rw e
 
 closed-bytes : (b : Bool) (held left : OpenAsk) (bs : List ℕ) → left ≡ cond b Closed held → askLeft b left bs ≡ cond b (written bs 0 (askBytes Closed)) bs
 unfolding askLeft

@@ -16,8 +16,11 @@ use Rattle.logger.specs.Reply.{sliceForm, rowOf}
 use Rattle.logger.specs.Book.{Call, ask, lapse, reply, Answer, plain, runOf, AllBytes}
 use Rattle.logger.specs.Run.{State, takeAnswer, step, run}
 use Rattle.logger.proofs.TakeLaws.{decided-cases, update-cases}
+use Rattle.logger.specs.Lapse as lapse-of
 use Rattle.logger.specs.declared.ask.AskAnswer.{AskAnswer}
 use Rattle.logger.specs.declared.ask.AskAnswer.the-variants as asked
+use Rattle.logger.specs.declared.no_reply.LapseAnswer.{LapseAnswer}
+use Rattle.logger.specs.declared.no_reply.LapseAnswer.the-variants as lapsed
 use Rattle.logger.specs.declared.take.Decision.{Decision}
 use Rattle.logger.specs.declared.take.TakeAnswer.the-variants.{Malformed}
 use Rattle.logger.specs.declared.held.OpenAsk.{OpenAsk}
@@ -40,6 +43,12 @@ asked-told asked.TooShort word size = refl
 asked-told asked.Unsound word size = refl
 asked-told asked.AlreadyOpen word size = refl
 asked-told asked.NotInLog word size = refl
+
+lapsed-told : (a : LapseAnswer) (word size : ℕ) → told (lapse-of.numberOf a) word size ≡ plain (lapse-of.numberOf a)
+unfolding told
+lapsed-told lapsed.Done word size = refl
+lapsed-told lapsed.NotInLog word size = refl
+lapsed-told lapsed.Unsound word size = refl
 
 module _ (y : List ℕ) (word size : ℕ) where
   abbrev Told : Decision → Type 0
@@ -85,17 +94,16 @@ pub record Alike (o : Outcome Answer Lent) (p : Outcome Answer State) : Type 0 w
 abbrev stateOf : Lent → OpenAsk → State
 stateOf m held = record { log = m .log; held = held }
 
-zero-told : (word size : ℕ) → told 0 word size ≡ plain 0
-unfolding told
-zero-told word size = refl
-
 step-alike : (m : Lent) (held : OpenAsk) (c : Call) → askOf (m .ask) ≡ Read held → Alike (stepForC m c) (step (stateOf m held) c)
 unfolding stepForC step askForC lapseForC takeForC take.taken
 step-alike m held (ask address day slot out) e = record {
   answer = rw e (asked-told (ask-of.asked (viewOf (m .log)) held address day slot out .result .answer) (m .result) (m .size));
   holds = record { log = refl; ask = left.ask-left (m .ask) (viewOf (m .log)) held address day slot out e };
 }
-step-alike m held lapse e = record { answer = rw e (zero-told (m .result) (m .size)); holds = record { log = refl; ask = left.lapse-left (m .ask) held e } }
+step-alike m held lapse e = record {
+  answer = rw e (lapsed-told (lapse-of.lapsed (m .log) held .result .answer) (m .result) (m .size));
+  holds = record { log = rw e refl; ask = left.lapse-left (m .ask) (m .log) held e };
+}
 step-alike m held (reply y) e = record {
   answer = rw e (taken-told y (m .result) (m .size) (viewOf (m .log)) held);
   holds = record { log = rw e refl; ask = left.take-left (m .ask) (m .log) held y (m .result) (m .size) e };

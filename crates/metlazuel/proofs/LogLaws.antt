@@ -1,11 +1,12 @@
 -- The bytes that a call leaves are read as the ask that the proved call below it left. So a history of calls through lent bytes, each call
 -- lent the ask as the one before left it, is a history of `put_ask`, `lapse` and `take_reply`, and demand 3 speaks of it.
-use mathlib.Core.Path.{_≡_, _∙_}
+use mathlib.Core.Path.{_≡_, ap, _∙_}
+use mathlib.Core.Bool.{Bool, true, false, false≢true}
 use mathlib.Core.List.{List}
 use Prim.Native.Nat.{ℕ}
 use lib.Dec.{eqb, ltb}
 use lib.ListN.{length}
-use Rattle.refusal.specs.Outcome.{Outcome}
+use Rattle.refusal.specs.Outcome.{Outcome, outcome}
 use Rattle.logger.specs.declared.ask.Asked.{Asked}
 use Rattle.logger.specs.declared.take.Taken.{Taken}
 use Rattle.case_laws.proofs.Test.{either}
@@ -14,8 +15,15 @@ use Rattle.log.proofs.HeaderLaws.{by-sound}
 use Rattle.log.specs.View.{View, viewOf}
 use Rattle.log.specs.Interval.{intervalOf}
 use Rattle.log.proofs.IntervalLaws.{by-at}
+use Rattle.logger.proofs.LapseLaws.{isRefused, lapsing-ways}
 use Rattle.logger.proofs.TakeLaws.{by-none, decided-ways}
+use Rattle.logger.specs.declared.no_reply.LapseAnswer.{LapseAnswer}
+use Rattle.logger.specs.declared.no_reply.Lapsed.{Lapsed}
+use Rattle.logger.specs.declared.no_reply.LapseAnswer.the-variants as lapse-answer
+use Rattle.logger.specs.declared.no_reply.LapseDecision.{LapseDecision}
 use Rattle.logger.specs.declared.take.Decision.{Decision}
+use Rattle.log.specs.declared.image.Change.{Change}
+use Rattle.log.specs.declared.image.Change.the-variants as change
 use Rattle.logger.specs.declared.held.OpenAsk.{OpenAsk}
 use Rattle.logger.specs.declared.held.OpenAsk.the-variants.{Closed, Open}
 use Rattle.demands.proofs.Calls.{number-closes}
@@ -23,8 +31,9 @@ use Rattle.c_values.specs.Ask.{askOf}
 use Rattle.c_values.proofs.AskLaws.{ask-size, ask-again}
 use Rattle.c_values.specs.declared.ask.AskRead.the-variants.{Read}
 use Rattle.logger.specs.Ask as ask
+use Rattle.logger.specs.Lapse as lapse
 use Rattle.logger.specs.Take as take
-use Rattle.metlazuel.specs.LogCalls.{askLeft, askForC, lapseLeft, lapseForC, closes, takeForC}
+use Rattle.metlazuel.specs.LogCalls.{askLeft, askForC, lapseCloses, lapsedForC, lapseForC, closes, takeForC}
 
 module _ (bs : List ℕ) where
   -- the bytes after an ask's outcome are its ask
@@ -46,10 +55,32 @@ module _ (bs : List ℕ) where
   unfolding askForC
   ask-left v held address day slot out e = rw e (ask-opened v held address day slot out e)
 
-  pub lapse-left : (held : OpenAsk) → askOf bs ≡ Read held → askOf (lapseForC (askOf bs) bs .left) ≡ Read Closed
-  unfolding lapseForC lapseLeft
-  lapse-left Closed e = rw e e
-  lapse-left (Open address day slot) e = rw e (ask-again bs Closed (ask-size bs (Open address day slot) e))
+  -- the bytes after a lapse are its ask: with none open they stay, a refused one leaves them, and else they are those of none
+  abbrev Lapses : OpenAsk → LapseDecision → Type 0
+  Lapses held d = askOf (askLeft (lapseCloses held (lapse.numberOf (d .lapsed .answer))) (d .lapsed .held) bs) ≡ Read (d .lapsed .held)
+
+  refused-left : (held : OpenAsk) (a : LapseAnswer) → isRefused a ≡ true → askOf bs ≡ Read held → Lapses held (lapse.stays a held)
+  unfolding askLeft lapseCloses
+  refused-left held lapse-answer.Done n e = absurd (false≢true n)
+  refused-left Closed lapse-answer.NotInLog n e = e
+  refused-left Closed lapse-answer.Unsound n e = e
+  refused-left (Open address day slot) lapse-answer.NotInLog n e = e
+  refused-left (Open address day slot) lapse-answer.Unsound n e = e
+
+  closed-left : (held : OpenAsk) (done : Change) → askOf bs ≡ Read held → Lapses held (lapse.closes done)
+  unfolding askLeft lapseCloses
+  closed-left Closed done e = e
+  closed-left (Open address day slot) done e = ask-again bs Closed (ask-size bs (Open address day slot) e)
+
+  pub lapse-left : (log : List ℕ) (held : OpenAsk) → askOf bs ≡ Read held
+      → askOf (lapseForC (askOf bs) log bs .left .1) ≡ Read (lapse.lapsed log held .result .held)
+  unfolding lapseForC lapse.lapsed
+  lapse-left log held e =
+      rw e (lapsing-ways (Lapses held) (viewOf log) held (record {
+        none = λ o. closed-left held change.None e;
+        refused = λ a n. refused-left held a n e;
+        counted = λ h i s o. closed-left held (change.Lapses i (lapse.oneMore (viewOf log .lapses i))) e;
+      }))
 
   -- the bytes after a reply's outcome are its ask
   abbrev Left : Outcome Taken (List ℕ) → Type 0
@@ -69,3 +100,12 @@ module _ (bs : List ℕ) where
       → askOf (takeForC (askOf bs) log bs y result size .left .3) ≡ Read (take.taken log held y .result .held)
   unfolding takeForC
   take-left log held y result size e = rw e (log-left log held y e)
+
+-- a lapse for C by its parts
+pub lapse-read : (held : OpenAsk) (log bs : List ℕ) (l : Lapsed) (t : List ℕ) (n : ℕ) (moved : Bool) (after : List ℕ)
+    → outcome l t ≡ lapse.lapsed log held → n ≡ lapse.numberOf (l .answer) → moved ≡ lapseCloses held n → after ≡ askLeft moved (l .held) bs
+    → outcome n (t, after) ≡ lapsedForC held (lapse.lapsed log held) bs
+lapse-read held log bs l t n moved after p q r e =
+    ap (λ (x : List ℕ). outcome n (t, x)) (e ∙ ap (λ (b : Bool). askLeft b (l .held) bs) r)
+    ∙ ap (λ (k : ℕ). outcome k (t, askLeft (lapseCloses held k) (l .held) bs)) q
+    ∙ ap (λ (o : Outcome Lapsed (List ℕ)). lapsedForC held o bs) p

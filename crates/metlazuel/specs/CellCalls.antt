@@ -1,4 +1,4 @@
--- What C is given of a log's single cells. Source: document 01, "The reader and the log" and "Refusal numbers".
+-- What C is given of a log's single cells. Source: document 01, "The reader and the log" and "Refusal numbers"; document 02, CR 7.
 use mathlib.Core.List.{List, [], _∷_}
 use Prim.Native.Nat.{ℕ}
 use lib.Dec.{ltb}
@@ -25,12 +25,13 @@ countsOf Gap = 0 ∷ 0 ∷ 0 ∷ 0 ∷ []
 countsOf Empty = 0 ∷ 0 ∷ 0 ∷ 0 ∷ []
 countsOf (Measured e+ e- r+ r-) = e+ ∷ e- ∷ r+ ∷ r- ∷ []
 
--- left: the lent kind and counts. 28, 22, and 28 of the cell "just before it is used"; a refusal leaves both
-unfoldable pub cellForC : View → ℕ → ℕ → ℕ → List ℕ → Outcome ℕ (ℕ × List ℕ)
-cellForC v day slot kind counts =
-    ifSound (v .lent) (outcome 28 (kind, counts)) (λ h.
-    ifAt (intervalOf h day slot) (outcome 22 (kind, counts)) (λ i.
-    ifGood (v .cell i) (outcome 28 (kind, counts)) (λ c. outcome 0 (kindOf c, countsOf c))))
+-- left: the lent kind, counts and lapses ("how many asks for it ended in a lapse", of every kind). 28, 22, and 28 of the cell "just before it is used"; a
+-- refusal leaves all three
+unfoldable pub cellForC : View → ℕ → ℕ → ℕ → List ℕ → ℕ → Outcome ℕ (ℕ × List ℕ × ℕ)
+cellForC v day slot kind counts lapses =
+    ifSound (v .lent) (outcome 28 (kind, counts, lapses)) (λ h.
+    ifAt (intervalOf h day slot) (outcome 22 (kind, counts, lapses)) (λ i.
+    ifGood (v .cell i) (outcome 28 (kind, counts, lapses)) (λ c. outcome 0 (kindOf c, countsOf c, v .lapses i))))
 
 -- the slot that was found; 255, which is no slot of a day, where there is none
 unfoldable pub slotOf : Next → ℕ

@@ -3,7 +3,7 @@
 -- gives one." And document 02, request 2: "For a wrong length also return the length received."
 --
 -- One claim a function, by its name, over the definition that its contract cites and with all that it is lent to write in, the words behind
--- `length`, `count`, `result`, `kind` and `slot` too. `metlazuel_crc16` has no answer, and is lent nothing to write in. Proofs: `demand-1`, proofs/Claims.antt.
+-- `length`, `count`, `result`, `kind`, `lapses` and `slot` too. `metlazuel_crc16` has no answer, and is lent nothing to write in. Proofs: `demand-1`, proofs/Claims.antt.
 use mathlib.Core.Path.{_≡_}
 use mathlib.Core.Bool.{cond}
 use mathlib.Core.List.{List}
@@ -54,14 +54,15 @@ pub record Demand1C : Type 0 where
   pub day-report : (v : View) (day : ℕ) (row : List ℕ) → EndsForC row (numbered reportNumber (reportOf v day row))
   pub write-file : (v : View) (out : List ℕ) (length : ℕ) → EndsForC (length, out) (sized writeNumber fileLength (writtenFile v out) length)
   pub read-file : (file out : List ℕ) (length : ℕ) → EndsForC (length, out) (sized readNumber lengthAfter (readFile file out) length)
-  -- single cells: kind and counts, and the slot
-  pub cell : (v : View) (day slot kind : ℕ) (counts : List ℕ) → EndsForC (kind, counts) (cellForC v day slot kind counts)
+  -- single cells: kind, counts and lapses, and the slot
+  pub cell : (v : View) (day slot kind : ℕ) (counts : List ℕ) (lapses : ℕ) → EndsForC (kind, counts, lapses) (cellForC v day slot kind counts lapses)
   pub next-gap : (v : View) (day from slot : ℕ) → EndsForC slot (nextGapForC v day from slot)
   -- asks, lapses and replies: the ask's bytes and the output
   pub ask : (v : View) (bs : List ℕ) (address day slot : ℕ) (out : List ℕ) → EndsForC (bs, out) (askForC (askOf bs) v bs address day slot out)
-  -- "A lapse closes it; with nothing open a lapse does nothing and answers 0"
-  pub lapse : (bs : List ℕ) → EndsForC bs (lapseForC (askOf bs) bs)
-  pub lapse-none : (bs : List ℕ) → askOf bs ≡ Read Closed → lapseForC (askOf bs) bs ≡ outcome 0 bs
+  -- the log and the ask's bytes. "A lapse closes it; with nothing open a lapse does nothing and answers 0", over any log ("with none open it still answers 0",
+  -- document 02, CR 7)
+  pub lapse : (log bs : List ℕ) → EndsForC (log, bs) (lapseForC (askOf bs) log bs)
+  pub lapse-none : (log bs : List ℕ) → askOf bs ≡ Read Closed → lapseForC (askOf bs) log bs ≡ outcome 0 (log, bs)
   -- result, length, log and ask: 24 "meter's result not 0; returned; ask closed, log kept", 25 "ask closed, log kept"
   pub take : (log bs reply : List ℕ) (result length : ℕ) → let o = takeForC (askOf bs) log bs reply result length in let n = o .result in
       Ends {A = ℕ × ℕ × List ℕ × List ℕ} n

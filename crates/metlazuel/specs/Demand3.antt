@@ -37,8 +37,8 @@ stepForC m (ask address day slot out) =
     let o = askForC (askOf (m .ask)) (viewOf (m .log)) (m .ask) address day slot out in
     outcome (told (o .result) (m .result) (m .size)) (record { log = m .log; ask = o .left .0; result = m .result; size = m .size })
 stepForC m lapse =
-    let o = lapseForC (askOf (m .ask)) (m .ask) in
-    outcome (told (o .result) (m .result) (m .size)) (record { log = m .log; ask = o .left; result = m .result; size = m .size })
+    let o = lapseForC (askOf (m .ask)) (m .log) (m .ask) in
+    outcome (told (o .result) (m .result) (m .size)) (record { log = o .left .0; ask = o .left .1; result = m .result; size = m .size })
 stepForC m (reply y) =
     let o = takeForC (askOf (m .ask)) (m .log) (m .ask) y (m .result) (m .size) in
     outcome (told (o .result) (o .left .0) (o .left .1)) (record { log = o .left .2; ask = o .left .3; result = o .left .0; size = o .left .1 })

@@ -1,5 +1,5 @@
 -- What C is given of the log's calls. The open ask is four lent bytes.
-use mathlib.Core.Bool.{Bool, cond, _||_}
+use mathlib.Core.Bool.{Bool, false, cond, _||_}
 use mathlib.Core.List.{List}
 use Prim.Native.Nat.{ℕ}
 use lib.Dec.{eqb}
@@ -16,8 +16,10 @@ use Rattle.logfile.specs.Read.{ifRead}
 use Rattle.logfile.specs.declared.write.WriteAnswer.{WriteAnswer}
 use Rattle.logfile.specs.declared.write.WriteAnswer.the-variants as wrote
 use Rattle.logger.specs.Ask as ask
+use Rattle.logger.specs.Lapse as lapse
 use Rattle.logger.specs.Take as take
 use Rattle.logger.specs.declared.ask.Asked.{Asked}
+use Rattle.logger.specs.declared.no_reply.Lapsed.{Lapsed}
 use Rattle.logger.specs.declared.take.Taken.{Taken}
 use Rattle.logger.specs.declared.held.OpenAsk.{OpenAsk}
 use Rattle.logger.specs.declared.held.OpenAsk.the-variants.{Closed, Open}
@@ -62,14 +64,21 @@ unfoldable pub askForC : AskRead → View → List ℕ → ℕ → ℕ → ℕ �
 askForC (Read held) v bs address day slot out = askedForC (ask.asked v held address day slot out) bs
 askForC Unreadable v bs address day slot out = outcome (unreadNumber (length out) readSize) (bs, out)
 
--- "A lapse closes it; with nothing open a lapse does nothing and answers 0"
-unfoldable pub lapseLeft : OpenAsk → List ℕ → List ℕ
-lapseLeft Closed bs = bs
-lapseLeft (Open address day slot) bs = written bs 0 (askBytes Closed)
+-- "A lapse closes it; with nothing open a lapse does nothing and answers 0": whether it closes one, by its number
+unfoldable pub lapseCloses : OpenAsk → ℕ → Bool
+lapseCloses Closed n = false
+lapseCloses (Open address day slot) n = eqb n 0
 
-unfoldable pub lapseForC : AskRead → List ℕ → Outcome ℕ (List ℕ)
-lapseForC (Read held) bs = outcome 0 (lapseLeft held bs)
-lapseForC Unreadable bs = outcome 28 bs
+-- left: the log and the ask's bytes
+abbrev pub lapsedForC : OpenAsk → Outcome Lapsed (List ℕ) → List ℕ → Outcome ℕ (List ℕ × List ℕ)
+lapsedForC held o bs =
+    let n = lapse.numberOf (o .result .answer) in
+    outcome n (o .left, askLeft (lapseCloses held n) (o .result .held) bs)
+
+-- bytes that are no ask are 28, whatever the log is
+unfoldable pub lapseForC : AskRead → List ℕ → List ℕ → Outcome ℕ (List ℕ × List ℕ)
+lapseForC (Read held) log bs = lapsedForC held (lapse.lapsed log held) bs
+lapseForC Unreadable log bs = outcome 28 (log, bs)
 
 -- the numbers with which a reply closes the ask: 0, and those with "ask closed"
 unfoldable pub closes : ℕ → Bool

@@ -19,9 +19,10 @@ const MEASURED: u8 = 2;
 // In a slot's place: the day has no gap. No day has so many slots.
 const NO_GAP: u8 = 255;
 
-// uint8_t metlazuel_cell(const uint8_t *log, size_t n, uint8_t day, uint8_t slot, uint8_t *kind, uint16_t counts[4])
+// uint8_t metlazuel_cell(const uint8_t *log, size_t n, uint8_t day, uint8_t slot, uint8_t *kind, uint16_t counts[4], uint8_t *lapses)
 //
-// The cell of a slot of a day, both counted from 0: its kind goes to `kind`, E+, E-, R+ and R- to `counts`.
+// The cell of a slot of a day, both counted from 0: its kind goes to `kind`, E+, E-, R+ and R- to `counts`, and how many asks for it lapsed
+// to `lapses`.
 #[no_mangle]
 pub extern "C" fn metlazuel_cell(
     log: &[u8],
@@ -29,9 +30,10 @@ pub extern "C" fn metlazuel_cell(
     slot: u8,
     kind: &mut u8,
     counts: &mut [u16; 4],
+    lapses: &mut u8,
 ) -> u8
-    ensures { λ n. ⌜ outcome n (now (kind .exit), now (counts .exit))
-        ≡ cellForC (viewOf (now (log .entry))) day slot (now (kind .entry)) (now (counts .entry)) ⌝ }
+    ensures { λ n. ⌜ outcome n (now (kind .exit), now (counts .exit), now (lapses .exit))
+        ≡ cellForC (viewOf (now (log .entry))) day slot (now (kind .entry)) (now (counts .entry)) (now (lapses .entry)) ⌝ }
 {
     let Lent::Sound(h) = log::sound(log) else {
         return refusal::UNSOUND;
@@ -44,6 +46,7 @@ pub extern "C" fn metlazuel_cell(
     };
     *kind = kind_of(c);
     *counts = counts_of(c);
+    *lapses = log::lapses_at(log, i);
     refusal::DONE
 }
 

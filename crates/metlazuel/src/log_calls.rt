@@ -16,7 +16,7 @@ ghost use Rattle.log.specs.View.{viewOf};
 ghost use Rattle.logfile.specs.Write.{writtenFile, writeNumber};
 ghost use Rattle.c_values.specs.Ask.{askOf};
 ghost use Rattle.metlazuel.specs.Calls.{sized};
-ghost use Rattle.metlazuel.specs.LogCalls.{headerFrom, imageLength, fileLength, askLeft, askForC, lapseLeft, lapseForC, closes, takeForC};
+ghost use Rattle.metlazuel.specs.LogCalls.{headerFrom, imageLength, fileLength, askLeft, askForC, lapseCloses, lapseForC, closes, takeForC};
 
 // uint8_t metlazuel_log_fresh(uint8_t *log, size_t room, uint8_t year, uint8_t month, uint8_t day, uint8_t days, uint8_t minutes,
 //     uint16_t ke, uint8_t seasons, size_t *length)
@@ -125,27 +125,32 @@ fn put_left(ask: &mut [u8], moved: bool, held: OpenAsk)
     }
 }
 
-// uint8_t metlazuel_lapse(uint8_t *ask, size_t size)
+// uint8_t metlazuel_lapse(uint8_t *log, size_t n, uint8_t *ask, size_t size)
 //
-// No reply came: an open ask is closed, and with none open the bytes stay as they are.
+// No reply came: an open ask is closed, and its cell has one lapse more. With none open log and ask stay as they are.
 #[no_mangle]
-pub extern "C" fn metlazuel_lapse(ask: &mut [u8]) -> u8
-    ensures { λ n. ⌜ outcome n (now (ask .exit)) ≡ lapseForC (askOf (now (ask .entry))) (now (ask .entry)) ⌝ }
+pub extern "C" fn metlazuel_lapse(log: &mut [u8], ask: &mut [u8]) -> u8
+    ensures { λ n. ⌜ outcome n (now (log .exit), now (ask .exit))
+        ≡ lapseForC (askOf (now (ask .entry))) (now (log .entry)) (now (ask .entry)) ⌝ }
 {
     let AskRead::Read(held) = c_values::ask_of(ask) else {
         return refusal::UNSOUND;
     };
-    put_lapsed(ask, held);
-    refusal::DONE
+    let lapsed = logger::lapse(log, held);
+    let answer = lapsed.answer;
+    let left = lapsed.held;
+    let number = answer.number();
+    put_left(ask, lapse_closes(held, number), left);
+    number
 }
 
-// The ask's bytes after a lapse.
-fn put_lapsed(ask: &mut [u8], held: OpenAsk)
-    ensures { λ _. ⌜ now (ask .exit) ≡ lapseLeft held (now (ask .entry)) ⌝ }
+// Whether a lapse that got the number closed an ask.
+fn lapse_closes(held: OpenAsk, number: u8) -> bool
+    ensures { λ r. ⌜ r ≡ lapseCloses held number ⌝ }
 {
     match held {
-        OpenAsk::Closed => {}
-        OpenAsk::Open(_, _, _) => c_values::put_ask(ask, logger::lapse(held)),
+        OpenAsk::Closed => false,
+        OpenAsk::Open(_, _, _) => number == refusal::DONE,
     }
 }
 

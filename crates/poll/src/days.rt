@@ -1,6 +1,5 @@
 // The asks of the days, one after the other. Whatever the line carries, the log and the open ask go on by the logger's calls alone, so
 // that demand 3 says what stands in every cell.
-ghost use Rattle.logger.specs.declared.held.OpenAsk.the-variants.{Closed};
 ghost use mathlib.Core.Path.{_≡_};
 ghost use Rattle.refusal.specs.Outcome.{outcome};
 ghost use Rattle.polling.specs.Fate.{settled};
@@ -44,12 +43,13 @@ pub enum End {
     NotSaved,
 }
 
-// Where the poll stands: what became of its asks, which intervals were passed over, and whether it has ended early. Between two asks
-// none is open.
+// Where the poll stands: what became of its asks, which intervals were passed over, whether it has ended early, and the ask that is open:
+// between two asks none, and one where the poll ends with it.
 pub struct Course {
     pub tally: Tally,
     pub passed: Passed,
     pub end: End,
+    pub held: OpenAsk,
 }
 
 // Asks for the wanted intervals of the days from one on and before another.
@@ -64,7 +64,7 @@ pub fn poll(
 ) -> Course
     ensures { λ _. ⌜ Polled (now (image .entry)) (now (image .exit)) ⌝ }
 {
-    let mut course = nothing();
+    let mut course = nothing(OpenAsk::Closed);
     let mut day = from;
     while day < end {
         let earlier = course;
@@ -87,14 +87,16 @@ fn one_day(
     day: u8,
     earlier: Course,
 ) -> Course
-    ensures { λ _. ⌜ Polled (now (image .entry)) (now (image .exit)) ⌝ }
+    ensures { λ r. ⌜ Reached (standing (now (image .entry)) (earlier .held)) (standing (now (image .exit)) (r .held)) ⌝ }
 {
-    let after = asks(wire, plan, device, path, image, day);
+    let held = earlier.held;
+    let after = asks(wire, plan, device, path, image, day, held);
+    let left = after.held;
     let course = kept(wire, path, image, after);
     let tally = course.tally;
     let passed = course.passed;
     say::day(wire.terminal, day, tally, passed);
-    behind(earlier, course)
+    holding(behind(earlier, course), left)
 }
 
 // A day's course behind those of the days before it.
@@ -104,30 +106,68 @@ fn behind(earlier: Course, course: Course) -> Course {
     let passed_before = earlier.passed;
     let passed = course.passed;
     let end = course.end;
+    let held = course.held;
     Course {
         tally: polling::together(before, tally),
         passed: polling::passed_together(passed_before, passed),
         end: end,
+        held: held,
     }
 }
 
-// A day without a taken reply has left the log as it was, and its file is not touched.
+// A day whose asks have left the log as it was: its file is not touched.
 fn kept(wire: Wire, path: &[u8], image: &[u8], after: Course) -> Course {
     let tally = after.tally;
-    if tally.taken == 0 {
-        return after;
+    if changes(tally) {
+        if saved(wire, path, image) {
+            return after;
+        }
+        return ends(after, End::NotSaved);
     }
-    if saved(wire, path, image) {
-        return after;
-    }
-    ends(after, End::NotSaved)
+    after
 }
 
-fn asks(wire: Wire, plan: Plan, device: &[u8], path: &[u8], image: &mut [u8], day: u8) -> Course
-    ensures { λ _. ⌜ Polled (now (image .entry)) (now (image .exit)) ⌝ }
+// Whether asks have changed the log: a reply was taken, or an ask lapsed, with no answer or after one that was not well formed. A
+// refusal by the meter does neither.
+fn changes(tally: Tally) -> bool {
+    if tally.taken != 0 {
+        return true;
+    }
+    if tally.silent != 0 {
+        return true;
+    }
+    has_faults(tally.faults)
+}
+
+fn has_faults(faults: Faults) -> bool {
+    if faults.length != 0 {
+        return true;
+    }
+    if faults.crc != 0 {
+        return true;
+    }
+    if faults.address != 0 {
+        return true;
+    }
+    if faults.function != 0 {
+        return true;
+    }
+    faults.parameter != 0
+}
+
+fn asks(
+    wire: Wire,
+    plan: Plan,
+    device: &[u8],
+    path: &[u8],
+    image: &mut [u8],
+    day: u8,
+    held: OpenAsk,
+) -> Course
+    ensures { λ r. ⌜ Reached (standing (now (image .entry)) held) (standing (now (image .exit)) (r .held)) ⌝ }
 {
     let wanted = plan.wanted;
-    let mut course = nothing();
+    let mut course = nothing(held);
     let mut slot: u8 = 0;
     while slot < SLOTS_MOST {
         let Next::Slot(next) = polling::next_wanted(image, day, slot, wanted) else {
@@ -154,7 +194,7 @@ fn one_slot(
     slot: u8,
     earlier: Course,
 ) -> Course
-    ensures { λ _. ⌜ Polled (now (image .entry)) (now (image .exit)) ⌝ }
+    ensures { λ r. ⌜ Reached (standing (now (image .entry)) (earlier .held)) (standing (now (image .exit)) (r .held)) ⌝ }
 {
     let h = plan.header;
     let standing = polling::standing_of(h, day, slot, plan.now);
@@ -174,13 +214,14 @@ fn one_ask(
     slot: u8,
     earlier: Course,
 ) -> Course
-    ensures { λ _. ⌜ Polled (now (image .entry)) (now (image .exit)) ⌝ }
+    ensures { λ r. ⌜ Reached (standing (now (image .entry)) (earlier .held)) (standing (now (image .exit)) (r .held)) ⌝ }
 {
     let tally = earlier.tally;
     let passed = earlier.passed;
+    let before = earlier.held;
     say::slot(wire.terminal, day, slot, tally, passed);
     let mut frame = [0u8; READ_BYTES];
-    let asked = logger::put_ask(image, OpenAsk::Closed, wire.address, day, slot, &mut frame);
+    let asked = logger::put_ask(image, before, wire.address, day, slot, &mut frame);
     let answer = asked.answer;
     let held = asked.held;
     match answer {
@@ -188,12 +229,13 @@ fn one_ask(
         _ => {
             say::new_line(wire.terminal);
             say::refused(path, answer.number());
-            ends(earlier, End::Stopped)
+            holding(ends(earlier, End::Stopped), held)
         }
     }
 }
 
-// Sends the open ask's frame, and settles the ask by what is heard then: nothing where the device fails, which ends the poll.
+// Sends the open ask's frame, and settles the ask by what is heard then. A device that fails is not the meter's silence: the poll ends with
+// the ask open, and nothing is counted.
 fn exchanged(
     wire: Wire,
     device: &[u8],
@@ -203,22 +245,38 @@ fn exchanged(
     held: OpenAsk,
     earlier: Course,
 ) -> Course
-    ensures { λ _. ⌜ Reached (standing (now (image .entry)) held) (standing (now (image .exit)) Closed) ⌝ }
+    ensures { λ r. ⌜ Reached (standing (now (image .entry)) held) (standing (now (image .exit)) (r .held)) ⌝ }
 {
     let mut reply = [0u8; LONGEST];
-    let heard = wire::exchange(wire, device, frame, SLICE_REPLY, &mut reply);
-    let after = settled(image, held, front(&reply, wire::bytes_heard(heard)));
-    let fate = after.fate;
-    match heard {
-        Heard::Bytes(_) => followed(wire, device, path, fate, counted(earlier, fate)),
-        Heard::Failed => ends(earlier, End::Stopped),
+    match wire::exchange(wire, device, frame, SLICE_REPLY, &mut reply) {
+        Heard::Bytes(n) => heard(wire, device, path, image, front(&reply, n), held, earlier),
+        Heard::Failed => holding(ends(earlier, End::Stopped), held),
     }
 }
 
-// What was heard is taken, and the open ask closed: one history of the logger's calls, which the equation names.
+// What was heard for the open ask, which no bytes are where the meter was silent.
+fn heard(
+    wire: Wire,
+    device: &[u8],
+    path: &[u8],
+    image: &mut [u8],
+    reply: &[u8],
+    held: OpenAsk,
+    earlier: Course,
+) -> Course
+    ensures { λ r. ⌜ Reached (standing (now (image .entry)) held) (standing (now (image .exit)) (r .held)) ⌝ }
+{
+    let after = settled(image, held, reply);
+    let fate = after.fate;
+    let left = after.held;
+    let course = followed(wire, device, path, fate, counted(earlier, fate));
+    holding(course, left)
+}
+
+// What was heard is taken, and the ask lapses where it is still open: one history of the logger's calls, which the equation names.
 fn settled(image: &mut [u8], held: OpenAsk, reply: &[u8]) -> Settled
     ensures { λ r. ⌜ outcome r (now (image .exit)) ≡ settled (now (image .entry)) held (now (reply .entry)) ⌝ }
-    ensures { λ _. ⌜ Reached (standing (now (image .entry)) held) (standing (now (image .exit)) Closed) ⌝ }
+    ensures { λ r. ⌜ Reached (standing (now (image .entry)) held) (standing (now (image .exit)) (r .held)) ⌝ }
 {
     polling::settle(image, held, reply)
 }
@@ -245,7 +303,24 @@ fn after_a_loss(wire: Wire, device: &[u8], course: Course) -> Course {
     ends(course, End::Stopped)
 }
 
-fn nothing() -> Course {
+// The same course, with the ask that is open now.
+fn holding(course: Course, held: OpenAsk) -> Course
+    ensures { λ r. ⌜ r .held ≡ held ⌝ }
+{
+    let tally = course.tally;
+    let passed = course.passed;
+    let end = course.end;
+    Course {
+        tally: tally,
+        passed: passed,
+        end: end,
+        held: held,
+    }
+}
+
+fn nothing(held: OpenAsk) -> Course
+    ensures { λ r. ⌜ r .held ≡ held ⌝ }
+{
     Course {
         tally: Tally {
             taken: 0,
@@ -264,6 +339,7 @@ fn nothing() -> Course {
             too_old: 0,
         },
         end: End::GoesOn,
+        held: held,
     }
 }
 
@@ -271,31 +347,39 @@ fn counted(earlier: Course, fate: Fate) -> Course {
     let tally = earlier.tally;
     let passed = earlier.passed;
     let end = earlier.end;
+    let held = earlier.held;
     Course {
         tally: polling::counted(tally, fate),
         passed: passed,
         end: end,
+        held: held,
     }
 }
 
-fn passed_over(earlier: Course, standing: Standing) -> Course {
+fn passed_over(earlier: Course, standing: Standing) -> Course
+    ensures { λ r. ⌜ r .held ≡ earlier .held ⌝ }
+{
     let tally = earlier.tally;
     let passed = earlier.passed;
     let end = earlier.end;
+    let held = earlier.held;
     Course {
         tally: tally,
         passed: polling::passed_over(passed, standing),
         end: end,
+        held: held,
     }
 }
 
 fn ends(course: Course, end: End) -> Course {
     let tally = course.tally;
     let passed = course.passed;
+    let held = course.held;
     Course {
         tally: tally,
         passed: passed,
         end: end,
+        held: held,
     }
 }
 

@@ -55,7 +55,9 @@ fn line() {
     put(
         b"Ten silent reads are no answer: the interval stays a gap, and a later poll asks again, as it does after a\n",
     );
-    put(b"malformed reply or a refusal.\n");
+    put(
+        b"malformed reply or a refusal. The log counts for each interval the asks that had no answer or a malformed one.\n",
+    );
     put(
         b"Malformed replies are counted by what is wrong with them first: of the cable speak a wrong length and a wrong CRC,\n",
     );

@@ -321,7 +321,7 @@ pub fn end(well: bool) {
 
 fn counts(tally: Tally, passed: Passed) {
     count(tally.taken, b" taken, ");
-    count(tally.silent, b" silent, ");
+    count(tally.silent, b" without answer, ");
     count(tally.refused, b" refused; ");
     thrown_away(tally.faults);
     count(passed.not_over, b" not over yet, ");

@@ -46,14 +46,6 @@ const GATHER_READS: u8 = 64;
 
 const CHUNK: usize = 64;
 
-// How many bytes were heard: none where the device failed.
-pub fn bytes_heard(heard: Heard) -> usize {
-    match heard {
-        Heard::Bytes(n) => n,
-        Heard::Failed => 0,
-    }
-}
-
 // Sends a frame on a line that is silent, and gathers what is heard then: a full reply has so many bytes.
 pub fn exchange(wire: Wire, device: &[u8], frame: &[u8], full: usize, reply: &mut [u8]) -> Heard {
     if drained(wire, device, BEFORE_AN_ASK) {

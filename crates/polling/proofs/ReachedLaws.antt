@@ -9,7 +9,6 @@ use Rattle.logger.specs.Book.{Call, ask, AllBytes, runOf}
 use Rattle.logger.specs.Run.{State, step, run}
 use Rattle.logger.specs.declared.ask.Asked.{Asked}
 use Rattle.logger.specs.declared.held.OpenAsk.{OpenAsk}
-use Rattle.logger.specs.declared.held.OpenAsk.the-variants.{Closed}
 use Rattle.logger.specs.Ask as Ask
 use Rattle.polling.specs.Fate.{settled}
 use Rattle.polling.proofs.FateLaws.{settleCalls, settled-run}
@@ -50,12 +49,11 @@ unfolding settleCalls
 settle-bytes [] k = (tt, tt)
 settle-bytes (b ∷ y) k = (k, (tt, tt))
 
--- what was heard is taken, and the ask closed
+-- what was heard is taken, and the ask lapses
 pub settles : (s : List ℕ) (o : OpenAsk) (y after : List ℕ) (r : Settled) → Bytes y → outcome r after ≡ settled s o y
-    → Reached (standing s o) (standing after Closed)
-unfolding settled
+    → Reached (standing s o) (standing after (r .held))
 settles s o y after r k e = record {
   calls = settleCalls y;
   bytes = settle-bytes y k;
-  leads = sym (settled-run s o y) ∙ ap (λ (x : Outcome Settled (List ℕ)). standing (x .left) Closed) (sym e);
+  leads = sym (settled-run s o y) ∙ ap (λ (x : Outcome Settled (List ℕ)). standing (x .left) (x .result .held)) (sym e);
 }

@@ -1,9 +1,11 @@
 -- What becomes of an ask. Source: document 01, "The reader and the log": "A lapse closes it"; its refusal table: "23 reply not well
--- formed: ask stays open", which document 02, request 2, tells apart.
+-- formed: ask stays open", which document 02, request 2, tells apart; CR 7: "how many asks for it ended in a lapse".
 use Prim.Native.Nat.{ℕ}
 use mathlib.Core.List.{List, [], _∷_}
 use Rattle.refusal.specs.Outcome.{Outcome, outcome}
-use Rattle.logger.specs.Held.{lapsed}
+use Rattle.logger.specs.Lapse as Lapse
+use Rattle.logger.specs.declared.no_reply.LapseAnswer.{LapseAnswer}
+use Rattle.logger.specs.declared.no_reply.LapseAnswer.the-variants as lapse
 use Rattle.logger.specs.Take as Take
 use Rattle.logger.specs.declared.take.TakeAnswer.{TakeAnswer}
 use Rattle.logger.specs.declared.take.TakeAnswer.the-variants.{Done, NoAskOpen, NotInLog, Malformed, MeterRefused, OtherCounts, Unsound}
@@ -29,9 +31,16 @@ heard s held (b ∷ y) =
     let o = Take.taken s held (b ∷ y) in
     outcome (record { fate = fateOf (o .result .answer); held = o .result .held }) (o .left)
 
--- and then the ask lapses
+-- a lapse that is refused stops the poll
+abbrev pub fateLapsed : LapseAnswer → Fate → Fate
+fateLapsed lapse.Done f = f
+fateLapsed lapse.NotInLog f = fate.Stopped (Lapse.numberOf lapse.NotInLog)
+fateLapsed lapse.Unsound f = fate.Stopped (Lapse.numberOf lapse.Unsound)
+
+-- and then the ask lapses, where the reply has not closed it
 unfoldable pub settled : List ℕ → OpenAsk → List ℕ → Outcome Settled (List ℕ)
 unfolding heard
 settled s held y =
     let o = heard s held y in
-    outcome (record { fate = o .result .fate; held = lapsed (o .result .held) }) (o .left)
+    let l = Lapse.lapsed (o .left) (o .result .held) in
+    outcome (record { fate = fateLapsed (l .result .answer) (o .result .fate); held = l .result .held }) (l .left)

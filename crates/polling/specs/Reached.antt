@@ -18,6 +18,7 @@ pub record Reached (s t : State) : Type 0 where
   pub bytes : AllBytes calls
   pub leads : run s calls .left ≡ t
 
--- a poll may make one log of another: no ask is open before it and after it
-abbrev pub Polled : List ℕ → List ℕ → Type 0
-Polled s t = Reached (standing s Closed) (standing t Closed)
+-- a poll may make one log of another: no ask is open before it
+pub record Polled (s t : List ℕ) : Type 0 where
+  pub held : OpenAsk
+  pub reached : Reached (standing s Closed) (standing t held)

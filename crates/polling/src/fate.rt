@@ -1,7 +1,8 @@
 // What becomes of an ask.
 ghost use mathlib.Core.Path.{_≡_};
 ghost use Rattle.refusal.specs.Outcome.{outcome};
-ghost use Rattle.polling.specs.Fate.{heard, settled, fateOf};
+ghost use Rattle.polling.specs.Fate.{heard, settled, fateOf, fateLapsed};
+use logger::LapseAnswer;
 use logger::OpenAsk;
 use logger::TakeAnswer;
 use reader::Fault;
@@ -25,16 +26,30 @@ pub struct Settled {
 }
 
 // Takes what was heard for the open ask into the log, and lets the ask lapse, which closes it where the reply did not: with nothing
-// heard, and after a reply that is not well formed. The interval then stays a gap.
+// heard, and after a reply that is not well formed. The interval then stays a gap, and the log counts the lapse.
 pub fn settle(log: &mut [u8], held: OpenAsk, reply: &[u8]) -> Settled
     ensures { λ r. ⌜ outcome r (now (log .exit)) ≡ settled (now (log .entry)) held (now (reply .entry)) ⌝ }
 {
     let heard = heard(log, held, reply);
     let fate = heard.fate;
     let left = heard.held;
+    let lapsed = logger::lapse(log, left);
+    let answer = lapsed.answer;
+    let after = lapsed.held;
     Settled {
-        fate: fate,
-        held: logger::lapse(left),
+        fate: fate_lapsed(answer, fate),
+        held: after,
+    }
+}
+
+// A lapse is refused by a log that is none, and then the poll stops.
+fn fate_lapsed(answer: LapseAnswer, fate: Fate) -> Fate
+    ensures { λ r. ⌜ r ≡ fateLapsed answer fate ⌝ }
+{
+    match answer {
+        LapseAnswer::Done => fate,
+        LapseAnswer::NotInLog => Fate::Stopped(refusal::NOT_IN_LOG),
+        LapseAnswer::Unsound => Fate::Stopped(refusal::UNSOUND),
     }
 }
 

@@ -7,7 +7,6 @@ use Prim.Native.Nat.{ℕ, _+_, _-_, _≤_}
 use native.Mathlib.Omega.{arith}
 use lib.Dec.{leb, eqb}
 use lib.ListN.{length, take, drop, length-append, length-replicate}
-use lib.Seq.{take-at}
 use borrow.Author.Tests.{le-leb, ne-eqb}
 use Rattle.case_laws.proofs.Test.{either}
 use Rattle.refusal.specs.Outcome.{Outcome, outcome, check}
@@ -21,15 +20,14 @@ use Rattle.frame.specs.Sealing.{crcFits}
 use Rattle.log.specs.Header.{headerSize, daysMost, imageMost, lengthOf, markRight, versionAt, ifRight}
 use Rattle.log.proofs.ByteLaws.{bytes-nil}
 use Rattle.log.proofs.HeaderLaws.{image-most}
-use Rattle.log.specs.Image.{imageOf}
 use Rattle.log.proofs.ImageLaws.{bytes-image}
 use Rattle.log.specs.declared.header.Header.{Header}
 use Rattle.log.specs.declared.header.HeaderAnswer.{HeaderAnswer}
 use Rattle.log.specs.declared.header.HeaderAnswer.the-variants.{Right, Wrong}
-use Rattle.logfile.specs.Row.{rowAt}
-use Rattle.logfile.specs.File.{isVersion, fileHeader, fileLength, cellsRight}
+use Rattle.logfile.specs.Row.{rowAt, lapsesIn}
+use Rattle.logfile.specs.File.{isVersion, fileHeader, fileLengthAs, cellsRight}
 use Rattle.logfile.specs.Read.{readNumber, ifRead, markSize, readCells, readFields, readFile}
-use Rattle.logfile.proofs.FileLaws.{file-header-right, accepted}
+use Rattle.logfile.proofs.FileLaws.{file-header-right, image-front, accepted}
 use Rattle.logfile.specs.declared.read.ReadAnswer.{ReadAnswer}
 use Rattle.logfile.specs.declared.read.ReadAnswer.the-variants.{Done, WrongMark, WrongVersion, WrongHeader, WrongLength, WrongCrc, WrongCell, TooShort}
 use Rattle.dayreport.specs.Text.{lineFeed, headingText, lineMost}
@@ -60,7 +58,7 @@ Room o = readNumber (o .result) ≡ 1 → ⊥
 cells-room : (f : List ℕ) (h : Header) (out : List ℕ) → lengthOf h ≤ length out → Room (readCells f h out)
 unfolding readCells
 cells-room f h out l =
-    either Room (cellsRight h (rowAt f)) (rw (le-leb _ _ l) (λ e. omega (arith, e))) (λ e. omega (arith, e))
+    either Room (cellsRight h (rowAt (versionAt f) f) (lapsesIn (versionAt f) f)) (rw (le-leb _ _ l) (λ e. omega (arith, e))) (λ e. omega (arith, e))
 
 fields-room : (f out : List ℕ) → imageMost ≤ length out → Room (readFields f out)
 unfolding readFields
@@ -68,13 +66,13 @@ fields-room f out l = either Room (leb headerSize (length f)) (go (fileHeader f)
   where
     go : (a : HeaderAnswer) → fileHeader f ≡ a
         → Room (ifRight a (outcome WrongHeader out) (λ h.
-        check (eqb (length f) (fileLength h)) (outcome WrongLength out) (
+        check (eqb (length f) (fileLengthAs (versionAt f) h)) (outcome WrongLength out) (
         check (crcFits f) (outcome WrongCrc out) (
         readCells f h out))))
     go Wrong p = λ e. omega (arith, e)
     go (Right h) p =
         let short : lengthOf h ≤ length out = omega (arith, image-most h (file-header-right f h p)) in
-        either Room (eqb (length f) (fileLength h))
+        either Room (eqb (length f) (fileLengthAs (versionAt f) h))
         (either Room (crcFits f) (cells-room f h out short) (λ e. omega (arith, e)))
         (λ e. omega (arith, e))
 
@@ -136,8 +134,7 @@ image-bytes f bytes = go (readFile f room .result) refl
     go (Done n) p =
         let y = readFile f room .left in
         let a = accepted f bytes room y n (ap (λ (r : ReadAnswer). outcome r y) p) in
-        let front : take n y ≡ imageOf (a .header) (a .cells) = ap (take n) (a .given) ∙ take-at (imageOf (a .header) (a .cells)) (drop n room) n (a .size) in
-        subst Bytes (sym front) (bytes-image (a .header) (a .cells) (a .whole .right))
+        subst Bytes (sym (image-front f room y n a)) (bytes-image (a .lapses) (a .header) (a .cells) (a .whole .fit) (a .whole .right))
     go WrongMark p = bytes-nil
     go WrongVersion p = bytes-nil
     go WrongHeader p = bytes-nil

@@ -1,5 +1,6 @@
 //! Demand 3 of the model: histories of asks, lapses and replies of any bytes, given to the log's calls and to the plain book. Every
-//! answer, the ask left open and the log's bytes are those of the book. Half of the logs begin about a season day.
+//! answer, the ask left open and the log's bytes are those of the book, and no call alters a byte outside the cell whose ask was open
+//! before it. Half of the logs begin about a season day, and those read from a file have cells with some 250 lapses.
 
 #[path = "compare/damage.rs"]
 #[allow(dead_code)]
@@ -12,7 +13,7 @@ use damage::{damaged, damaged_and_sealed};
 use metlazuel_check::model::book::Book;
 use metlazuel_check::model::calendar::{date_of, last_sunday};
 use metlazuel_check::model::crc::sealed;
-use metlazuel_check::model::log::{self, Ask, Header};
+use metlazuel_check::model::log::{self, Ask, Cell, Header};
 use metlazuel_check::model::reader::{READ, READ_SHOWN};
 use metlazuel_check::model::refusal::Refusal;
 use metlazuel_check::model::{count_bytes, slots};
@@ -22,6 +23,8 @@ use std::collections::BTreeSet;
 const HISTORIES: u64 = 2_000;
 const CALLS: usize = 60;
 const HEADER_BYTES: usize = 14;
+const CELL_BYTES: usize = 10;
+const CRC_BYTES: usize = 2;
 const SLICE: u8 = 36;
 const SEED: u64 = 2;
 
@@ -31,6 +34,9 @@ struct Seen {
     numbers: BTreeSet<u8>,
     /// Asks that got 22 though the log has a cell for them.
     missing: u32,
+    /// Lapses of an open ask, and those of a cell that had 255 already.
+    lapses: u32,
+    cut: u32,
 }
 
 #[test]
@@ -41,27 +47,61 @@ fn every_history_is_the_books() {
         let fresh = log::fresh(any_header(random)).expect("a header in its ranges");
         let first = history(random, fresh, &mut seen);
         let file = log::write_file(&first).expect("a sound log");
+        let file = with_many_lapses(random, file);
         history(random, log::read_file(&file).expect("a log's file"), &mut seen);
     }
     let told = [0, 20, 21, 22, 24, 25, 50, 51, 52, 53, 54];
     assert_eq!(seen.numbers, BTreeSet::from(told), "the numbers that the histories led to");
     assert!(seen.missing >= 500, "{} asks for slots that do not exist", seen.missing);
+    assert!(seen.lapses >= 10_000 && seen.cut >= 500, "{} lapses, {} past 255", seen.lapses, seen.cut);
+}
+
+/// The file with a number of lapses near 255 in its first two cells and in any third one that exists.
+fn with_many_lapses(random: &mut Random, mut file: Vec<u8>) -> Vec<u8> {
+    let header = log::header(&file[..file.len() - CRC_BYTES]).expect("a log's file");
+    file.truncate(file.len() - CRC_BYTES);
+    let any = (random.within(0, header.days - 1), random.within(0, header.slots() - 1));
+    for (day, slot) in [(0, 0), (0, 1), any].into_iter().filter(|&(day, slot)| header.holds(day, slot)) {
+        file[cell_of(&header, day, slot)][CELL_BYTES - 1] = random.pick(&[0, 1, 250, 253, 254, 255]);
+    }
+    sealed(file)
+}
+
+/// Where a cell stands in the log.
+fn cell_of(header: &Header, day: u8, slot: u8) -> std::ops::Range<usize> {
+    let at = HEADER_BYTES + CELL_BYTES * (usize::from(day) * usize::from(header.slots()) + usize::from(slot));
+    at..at + CELL_BYTES
 }
 
 /// A history from a log with no ask open; gives the log after it.
 fn history(random: &mut Random, mut image: Vec<u8>, seen: &mut Seen) -> Vec<u8> {
     let header = log::header(&image).expect("a sound log");
     let front = image[..HEADER_BYTES].to_vec();
-    let mut book = Book::begin(header, |day, slot| log::cell(&image, day, slot).expect("a sound cell"));
+    let mut book = Book::begin(header, |day, slot| cell_and_lapses(&image, day, slot));
     let mut open = None;
     for _ in 0..CALLS {
+        let (before, asked) = (image.clone(), open);
         let (ours, books) = call(random, &mut image, &mut open, &mut book, seen);
         assert_eq!(ours, books);
         assert_eq!(open, book.open());
+        assert!(alone(&header, asked, before, &image), "after {asked:?}");
         seen.numbers.insert(ours.map_or_else(Refusal::number, |()| 0));
     }
     assert_eq!(image, [front, book.cells()].concat());
     image
+}
+
+/// Whether all but the cell whose ask was open is as it was.
+fn alone(header: &Header, asked: Option<Ask>, mut before: Vec<u8>, after: &[u8]) -> bool {
+    if let Some(ask) = asked {
+        let cell = cell_of(header, ask.day, ask.slot);
+        before[cell.clone()].copy_from_slice(&after[cell]);
+    }
+    before == after
+}
+
+fn cell_and_lapses(image: &[u8], day: u8, slot: u8) -> (Cell, u8) {
+    (log::cell(image, day, slot).expect("a sound cell"), log::lapses(image, day, slot).expect("a sound cell"))
 }
 
 type Answer = Result<(), Refusal>;
@@ -82,10 +122,12 @@ fn call(
             seen.missing += u32::from(has_a_cell && ours == Err(Refusal::NotInLog));
             (ours, book.ask(ask))
         }
-        7 => {
-            log::lapse(open);
+        7 | 8 => {
+            seen.lapses += u32::from(open.is_some());
+            seen.cut += u32::from(open.is_some_and(|ask| log::lapses(image, ask.day, ask.slot) == Ok(255)));
+            let ours = log::lapse(image, open);
             book.lapse();
-            (Ok(()), Ok(()))
+            (ours, Ok(()))
         }
         _ => {
             let reply = any_reply(random, *open);

@@ -91,7 +91,7 @@ fn log_and_reader() {
         // 01 83 24 03 and its CRC
         ("reply 01832403AB31", "24 3"),
         ("open", "0 closed"),
-        ("cell 0 0", "0 gap"),
+        ("cell 0 0", "0 gap 0"),
         ("cell 0 48", "22"),
         ("report 0", "0 48 0 0 0 0 0 0 0"),
         ("report 1", "22"),
@@ -133,13 +133,13 @@ fn the_report_of_document_01_with_p9() {
         ("log 2024 5 17 1 30 100 0", "0"),
         ("ask 1 0 0", "0 010324051100536B"),
         ("reply 010324000000000000000000D63A", "0"),
-        ("cell 0 0", "0 empty"),
+        ("cell 0 0", "0 empty 0"),
         ("ask 1 0 0", "0 010324051100536B"),
         ("reply 010324000C00000003000000D62B", "0"),
         ("ask 1 0 0", "0 010324051100536B"),
         ("reply 010324000D0000000300000017E7", "25"),
         ("open", "0 closed"),
-        ("cell 0 0", "0 measured 12 0 3 0"),
+        ("cell 0 0", "0 measured 12 0 3 0 0"),
         ("ask 1 0 1", "0 01032405110192AB"),
         ("reply 010324000000000000000000D63A", "0"),
         ("report 0", "0 46 1 1 12 0 3 0 0"),
@@ -228,10 +228,10 @@ fn the_two_season_days() {
         ("log 2024 3 31 1 30 100 255", "27"),
         // the March day: no slots 4 and 5, and 03:00 is there
         ("log 2024 3 31 1 30 100 1", "0"),
-        ("cell 0 3", "0 gap"),
+        ("cell 0 3", "0 gap 0"),
         ("cell 0 4", "22"),
         ("cell 0 5", "22"),
-        ("cell 0 6", "0 gap"),
+        ("cell 0 6", "0 gap 0"),
         ("ask 1 0 4", "22"),
         ("ask 1 0 5", "22"),
         ("open", "0 closed"),
@@ -240,7 +240,7 @@ fn the_two_season_days() {
         ("report 0", "0 45 0 1 12 0 3 0 0"),
         (&format!("save {path}"), "0"),
         ("log 2024 3 31 1 30 100 0", "0"),
-        ("cell 0 4", "0 gap"),
+        ("cell 0 4", "0 gap 0"),
         ("report 0", "0 48 0 0 0 0 0 0 0"),
         (&format!("load {path}"), "0"),
         ("cell 0 4", "22"),
@@ -249,7 +249,7 @@ fn the_two_season_days() {
         ("report 0", "0 92 0 0 0 0 0 0 0"),
         ("cell 0 8", "22"),
         ("cell 0 11", "22"),
-        ("cell 0 12", "0 gap"),
+        ("cell 0 12", "0 gap 0"),
         // the October day: 4 and 5 are counted once more when they are measured, 03:00 is not
         ("log 2024 10 27 1 30 100 1", "0"),
         ("ask 1 0 4", "0 0103240A1B04640B"),
@@ -263,4 +263,62 @@ fn the_two_season_days() {
         ("report 0", "0 46 0 2 24 0 6 0 1"),
     ]);
     std::fs::remove_file(path).expect("the file was written");
+}
+
+#[test]
+fn lapses_counted() {
+    let path = std::env::temp_dir().join(format!("metlazuel-check-lapses-{}.gel", std::process::id()));
+    let path = path.to_str().expect("a plain path");
+    talk(&[
+        ("lapse", "0"),
+        ("log 2024 5 17 1 30 100 0", "0"),
+        ("lapse", "0"),
+        ("cell 0 0", "0 gap 0"),
+        ("ask 1 0 0", "0 010324051100536B"),
+        ("lapse", "0"),
+        ("open", "0 closed"),
+        ("cell 0 0", "0 gap 1"),
+        ("lapse", "0"),
+        ("cell 0 0", "0 gap 1"),
+        // a malformed reply and a refused one are no lapses
+        ("ask 1 0 0", "0 010324051100536B"),
+        ("reply", "50 0"),
+        ("reply 01832403AB31", "24 3"),
+        ("lapse", "0"),
+        ("cell 0 0", "0 gap 1"),
+        // what a reply puts keeps them
+        ("ask 1 0 0", "0 010324051100536B"),
+        ("reply 010324000000000000000000D63A", "0"),
+        ("cell 0 0", "0 empty 1"),
+        ("ask 1 0 0", "0 010324051100536B"),
+        ("lapse", "0"),
+        ("cell 0 0", "0 empty 2"),
+        ("ask 1 0 0", "0 010324051100536B"),
+        ("reply 010324000C00000003000000D62B", "0"),
+        ("cell 0 0", "0 measured 12 0 3 0 2"),
+        ("ask 1 0 0", "0 010324051100536B"),
+        ("lapse", "0"),
+        ("cell 0 0", "0 measured 12 0 3 0 3"),
+        ("cell 0 1", "0 gap 0"),
+        ("report 0", "0 47 0 1 12 0 3 0 0"),
+        (&format!("save {path}"), "0"),
+        ("log 2024 5 17 1 30 100 0", "0"),
+        ("cell 0 0", "0 gap 0"),
+        (&format!("load {path}"), "0"),
+        ("cell 0 0", "0 measured 12 0 3 0 3"),
+        ("lapse 0", "?"),
+    ]);
+    std::fs::remove_file(path).expect("the file was written");
+}
+
+/// A cell counts up to 255 and stays there.
+#[test]
+fn the_most_lapses() {
+    let mut lines = vec![("log 2024 5 17 1 30 100 0", "0")];
+    for _ in 0..255 {
+        lines.extend([("ask 1 0 0", "0 010324051100536B"), ("lapse", "0")]);
+    }
+    lines.push(("cell 0 0", "0 gap 255"));
+    lines.extend([("ask 1 0 0", "0 010324051100536B"), ("lapse", "0"), ("cell 0 0", "0 gap 255")]);
+    talk(&lines);
 }

@@ -10,10 +10,10 @@ use std::ops::Range;
 const MARCH: u8 = 3;
 const OCTOBER: u8 = 10;
 const HEADER_BYTES: usize = 14;
-const CELL_BYTES: usize = 9;
+const CELL_BYTES: usize = 10;
 const COUNTS: [u16; 4] = [12, 0, 3, 0];
 /// Bytes that are no cell: an empty one with counts, and a fourth kind.
-const NO_CELLS: [[u8; CELL_BYTES]; 2] = [[1, 0, 0, 0, 0, 0, 0, 0, 9], [3, 0, 0, 0, 0, 0, 0, 0, 0]];
+const NO_CELLS: [[u8; CELL_BYTES]; 2] = [[1, 0, 0, 0, 0, 0, 0, 0, 9, 0], [3, 0, 0, 0, 0, 0, 0, 0, 0, 0]];
 
 /// The last Sunday of March or of October, reckoned from the year alone.
 fn season_day(year: u8, month: u8) -> u8 {
@@ -67,19 +67,19 @@ fn the_days_of_the_marked_examples() {
 #[test]
 fn the_header_byte() {
     let header = day_of(24, 3, 31, 30, 0);
-    assert_eq!(fresh(header)[..14], [b'G', b'E', b'L', 2, 0, 24, 3, 31, 1, 30, 100, 0, 0, 0]);
-    assert_eq!(fresh(Header { seasons: 1, ..header })[..14], [b'G', b'E', b'L', 2, 0, 24, 3, 31, 1, 30, 100, 0, 1, 0]);
+    assert_eq!(fresh(header)[..14], [b'G', b'E', b'L', 3, 0, 24, 3, 31, 1, 30, 100, 0, 0, 0]);
+    assert_eq!(fresh(Header { seasons: 1, ..header })[..14], [b'G', b'E', b'L', 3, 0, 24, 3, 31, 1, 30, 100, 0, 1, 0]);
     for seasons in 2..=255 {
         assert_eq!(log::fresh(Header { seasons, ..header }), Err(OutOfRange));
     }
-    for (at, byte) in [(3, 1), (3, 3), (4, 1), (12, 2), (12, 255), (13, 1)] {
+    for (at, byte) in [(3, 1), (3, 2), (3, 4), (4, 1), (12, 2), (12, 255), (13, 1)] {
         let mut image = fresh(header);
         image[at] = byte;
         assert_eq!(log::header(&image), Err(Unsound), "byte {at} is {byte}");
     }
 }
 
-/// Of the three days just the slots of that hour on the Sunday are outside: for an ask, a reply and the cell.
+/// Of the three days just the slots of that hour on the Sunday are outside: for an ask, a reply, a lapse and the cell.
 #[test]
 fn the_march_hour_is_outside() {
     for (year, minutes) in years_and_minutes() {
@@ -103,6 +103,8 @@ fn outside(image: &[u8], day: u8, slot: u8, expected: bool) {
     let (mut copy, mut open) = (image.to_vec(), Some(ask));
     assert_eq!(log::take(&mut copy, &mut open, &[]) == Err(NotInLog), expected);
     assert_eq!((copy.as_slice(), open), (image, Some(ask)));
+    assert_eq!(log::lapse(&mut copy, &mut open) == Err(NotInLog), expected);
+    assert_eq!((copy.as_slice() == image, open.is_some()), (expected, expected));
 }
 
 #[test]
@@ -139,17 +141,18 @@ fn the_march_hour_is_no_gap() {
     }
 }
 
-/// Whatever stands in a cell of the missing hour, the walks pass over it; only a file is not made of it, but of a gap.
+/// Whatever stands in a cell of the missing hour, the walks pass over it; only a file is not made of it, but of a gap without lapses.
 #[test]
 fn bytes_in_the_march_hour() {
-    let measured = [&[2][..], &count_bytes(COUNTS)].concat();
-    let empty = [1, 0, 0, 0, 0, 0, 0, 0, 0];
+    let measured = [&[2][..], &count_bytes(COUNTS), &[0]].concat();
+    let empty = [1, 0, 0, 0, 0, 0, 0, 0, 0, 0];
+    let lapsed = [0, 0, 0, 0, 0, 0, 0, 0, 0, 1];
     for (year, minutes) in years_and_minutes() {
         let sound = fresh(day_of(year, MARCH, season_day(year, MARCH), minutes, 1));
         let file = log::write_file(&sound).expect("a sound log");
         assert_eq!(log::read_file(&file).as_ref(), Ok(&sound));
         for slot in hour(minutes) {
-            for bytes in [&measured[..], &empty, &NO_CELLS[0], &NO_CELLS[1]] {
+            for bytes in [&measured[..], &empty, &lapsed, &NO_CELLS[0], &NO_CELLS[1]] {
                 let mut image = sound.clone();
                 put(&mut image, slot, bytes);
                 assert_eq!(log::report(&image, 0), log::report(&sound, 0));
@@ -240,7 +243,7 @@ fn no_other_day_of_the_century() {
             let header = Header { days, ..day_of(year, month, first, minutes, 1) };
             let mut image = fresh(header);
             for cell in image[HEADER_BYTES..].chunks_exact_mut(CELL_BYTES) {
-                cell.copy_from_slice(&[2, 1, 0, 0, 0, 0, 0, 0, 0]);
+                cell.copy_from_slice(&[2, 1, 0, 0, 0, 0, 0, 0, 0, 7]);
             }
             for day in 0..days {
                 let (measured, doubled) = measured_and_doubled(header.date(day), minutes);

@@ -134,8 +134,7 @@ impl Console {
 
     fn lapse(&mut self, words: &[&str]) -> Line {
         let [] = *words else { return None };
-        log::lapse(&mut self.open);
-        Some(done(Ok(())))
+        Some(done(log::lapse(&mut self.image, &mut self.open)))
     }
 
     fn reply(&mut self, words: &[&str]) -> Line {
@@ -153,11 +152,16 @@ impl Console {
 
     fn cell(&self, words: &[&str]) -> Line {
         let [day, slot] = bytes(words)?;
-        Some(said(log::cell(&self.image, day, slot).map(|cell| match cell {
-            Cell::Gap => "gap".into(),
-            Cell::Empty => "empty".into(),
-            Cell::Measured(counts) => format!("measured {}", list(counts)),
-        })))
+        Some(said(self.cell_and_lapses(day, slot)))
+    }
+
+    fn cell_and_lapses(&self, day: u8, slot: u8) -> Result<String, Refusal> {
+        let (cell, lapses) = (log::cell(&self.image, day, slot)?, log::lapses(&self.image, day, slot)?);
+        Ok(match cell {
+            Cell::Gap => format!("gap {lapses}"),
+            Cell::Empty => format!("empty {lapses}"),
+            Cell::Measured(counts) => format!("measured {} {lapses}", list(counts)),
+        })
     }
 
     fn report(&self, words: &[&str]) -> Line {

@@ -4,7 +4,7 @@
 use crate::damage::{change_byte, damaged, damaged_and_sealed};
 use crate::library;
 use crate::logs::{
-    about_the_hour, any_file_image, any_log, day_of_the_hour, fitting, right_header, spoil, start, with_faulty_cell,
+    about_the_hour, any_file_bytes, any_log, day_of_the_hour, fitting, right_header, spoil, start, with_faulty_cell,
 };
 use crate::random::Random;
 use crate::run::{same, same_bytes, Answer, Group, Same};
@@ -28,6 +28,8 @@ const LENT: u8 = 0xA5;
 const LENT_LENGTH: usize = usize::MAX;
 /// At least so many asks of the histories, with none open, are for a slot that does not exist.
 const ASKS_FOR_NO_SLOT: u32 = 4_000;
+/// At least so many lapses of the histories are of a cell that has 255 already.
+const LAPSES_PAST_THE_MOST: u32 = 2_000;
 
 #[test]
 fn fresh_logs() {
@@ -115,13 +117,14 @@ pub struct Logs {
 #[test]
 fn histories() {
     let mut group = Group::new("histories of asks, lapses and replies");
-    let mut missing = 0;
+    let (mut missing, mut cut) = (0, 0);
     for case in 0..HISTORIES {
         let random = &mut Random::of(group.seed, case);
         let mut logs = begun(random);
         for _ in 0..CALLS_OF_A_HISTORY {
             let call = any_call(random, &logs);
             missing += u32::from(logs.meet_no_slot(&call));
+            cut += u32::from(logs.meet_most_lapses(&call));
             if random.one_in(16) {
                 let mut other = logs.with_other_bytes(random);
                 compare(&mut group, case, &mut other, &call);
@@ -131,6 +134,7 @@ fn histories() {
         }
     }
     assert!(missing >= ASKS_FOR_NO_SLOT, "asks for slots that do not exist: {missing}");
+    assert!(cut >= LAPSES_PAST_THE_MOST, "lapses of cells that have 255: {cut}");
     group.end(&[0, 1, 20, 21, 22, 24, 25, 28, 50, 51, 52, 53, 54]);
 }
 
@@ -156,7 +160,7 @@ fn fresh(random: &mut Random) -> (Vec<u8>, Vec<u8>) {
 
 fn read(random: &mut Random) -> (Vec<u8>, Vec<u8>) {
     loop {
-        let file = sealed(any_file_image(random));
+        let file = sealed(any_file_bytes(random));
         if let Ok(image) = read_file(&file) {
             let mut library_image = vec![LENT; image.len()];
             library::read_file(&file, &mut library_image, &mut 0);
@@ -201,6 +205,14 @@ impl Logs {
         }
     }
 
+    /// Whether a lapse is one of a cell that has as many as it counts.
+    fn meet_most_lapses(&self, call: &Call) -> bool {
+        match (call, open_of(&self.ask)) {
+            (Call::Lapse, Some(Some(ask))) => log::lapses(&self.image, ask.day, ask.slot) == Ok(u8::MAX),
+            _ => false,
+        }
+    }
+
     fn call(&mut self, call: &Call) -> Answer {
         match call {
             Call::Ask(ask, room) => self.ask(*ask, *room),
@@ -233,20 +245,23 @@ impl Logs {
         log::ask(&self.image, &mut open, ask)
     }
 
-    /// The ask's bytes change only where one was open.
     fn lapse(&mut self) -> Answer {
-        let outcome = open_of(&self.ask).ok_or(Refusal::Unsound);
-        if let Ok(before) = outcome {
-            let mut open = before;
-            log::lapse(&mut open);
-            if open != before {
-                self.ask = bytes_of(open);
-            }
-        }
-        let library_number = library::lapse(&mut self.library_ask);
+        let outcome = self.model_lapse();
+        let library_number = library::lapse(&mut self.library_image, &mut self.library_ask);
         same("number", number(&outcome), library_number)?;
         self.same_logs()?;
         Ok(library_number)
+    }
+
+    /// Bytes that are no ask are 28 over any log. The ask's bytes change only where one was open and is closed.
+    fn model_lapse(&mut self) -> Result<(), Refusal> {
+        let before = open_of(&self.ask).ok_or(Refusal::Unsound)?;
+        let mut open = before;
+        let outcome = log::lapse(&mut self.image, &mut open);
+        if open != before {
+            self.ask = bytes_of(open);
+        }
+        outcome
     }
 
     /// Only a 24 stores the result, and only a 50 the length received.
@@ -297,7 +312,7 @@ impl Logs {
 fn any_call(random: &mut Random, logs: &Logs) -> Call {
     match random.below(16) {
         0..=6 => Call::Ask(any_ask(random, &logs.image), room(random, REQUEST_BYTES)),
-        7 => Call::Lapse,
+        7 | 8 => Call::Lapse,
         _ => Call::Reply(any_reply(random, logs)),
     }
 }

@@ -18,7 +18,15 @@ mod c {
             seasons: u8,
             length: *mut usize,
         ) -> u8;
-        pub fn metlazuel_cell(log: *const u8, n: usize, day: u8, slot: u8, kind: *mut u8, counts: *mut u16) -> u8;
+        pub fn metlazuel_cell(
+            log: *const u8,
+            n: usize,
+            day: u8,
+            slot: u8,
+            kind: *mut u8,
+            counts: *mut u16,
+            lapses: *mut u8,
+        ) -> u8;
         pub fn metlazuel_next_gap(log: *const u8, n: usize, day: u8, from: u8, slot: *mut u8) -> u8;
         pub fn metlazuel_ask(
             log: *const u8,
@@ -31,7 +39,7 @@ mod c {
             out: *mut u8,
             room: usize,
         ) -> u8;
-        pub fn metlazuel_lapse(ask: *mut u8, size: usize) -> u8;
+        pub fn metlazuel_lapse(log: *mut u8, n: usize, ask: *mut u8, size: usize) -> u8;
         pub fn metlazuel_take(
             log: *mut u8,
             n: usize,
@@ -217,9 +225,12 @@ pub fn fresh(log: &mut [u8], header: &Header, length: &mut usize) -> u8 {
     })
 }
 
-pub fn cell(log: &[u8], day: u8, slot: u8, kind: &mut u8, counts: &mut [u16; 4]) -> u8 {
+/// What a cell is told as: its kind, its counts, its lapses.
+pub type Lookup = (u8, [u16; 4], u8);
+
+pub fn cell(log: &[u8], day: u8, slot: u8, (kind, counts, lapses): &mut Lookup) -> u8 {
     guarded(counts, |counts| unsafe {
-        c::metlazuel_cell(log.as_ptr(), log.len(), day, slot, kind, counts.as_mut_ptr())
+        c::metlazuel_cell(log.as_ptr(), log.len(), day, slot, kind, counts.as_mut_ptr(), lapses)
     })
 }
 
@@ -238,8 +249,13 @@ pub fn ask(log: &[u8], kept: &mut [u8], ask: Ask, out: &mut [u8]) -> u8 {
     })
 }
 
-pub fn lapse(kept: &mut [u8]) -> u8 {
-    guarded(kept, |kept| unsafe { c::metlazuel_lapse(kept.as_mut_ptr(), kept.len()) })
+pub fn lapse(log: &mut [u8], kept: &mut [u8]) -> u8 {
+    guarded(log, |log| {
+        guarded(kept, |kept| unsafe {
+            let (n, size) = (log.len(), kept.len());
+            c::metlazuel_lapse(log.as_mut_ptr(), n, kept.as_mut_ptr(), size)
+        })
+    })
 }
 
 pub fn take(log: &mut [u8], kept: &mut [u8], reply: &[u8], result: &mut u8, length: &mut usize) -> u8 {

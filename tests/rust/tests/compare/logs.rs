@@ -8,7 +8,7 @@ use crate::run::{same, same_bytes, Answer, Group};
 use crate::twin::number;
 use metlazuel_check::model::calendar::{date_of, day_number, last_sunday, month_length};
 use metlazuel_check::model::crc::sealed;
-use metlazuel_check::model::log::{self, cell, next_gap, read_file, report, Cell, Header, ROW};
+use metlazuel_check::model::log::{self, cell, lapses, next_gap, read_file, report, Cell, Header, ROW};
 use metlazuel_check::model::refusal::Refusal;
 use metlazuel_check::model::{count_bytes, slots};
 
@@ -18,15 +18,19 @@ const REPORTS_OF_A_LOG: usize = 6;
 const CELLS_OF_A_LOG: usize = 12;
 /// At least so many reports are of a March day that lacks an hour, and so many count slots twice.
 const SEASON_REPORTS: u32 = 8_000;
-/// The version of a log, and the one before, of which there are files.
-pub const VERSION: u8 = 2;
+/// The version of a log, and those before, of which there are files.
+pub const VERSION: u8 = 3;
+pub const FORMER_VERSIONS: [u8; 2] = [1, 2];
 pub const FIRST_VERSION: u8 = 1;
 /// About the hour from 02:00, for 15 and 30 minutes.
 pub const ABOUT_THE_HOUR: (u8, u8) = (3, 12);
 /// What C is told where a day has no gap.
 const NO_GAP: u8 = 255;
 const HEADER_BYTES: usize = 14;
-const CELL_BYTES: usize = 9;
+/// A cell: its kind, its counts and its lapses.
+pub const CELL_BYTES: usize = 10;
+/// A cell of a former version's file, which has no lapses.
+const FORMER_CELL_BYTES: usize = 9;
 /// The days of 2000 to 2099.
 const DAYS: u32 = 36_525;
 
@@ -36,7 +40,7 @@ fn files() {
     for case in 0..FILES {
         let random = &mut Random::of(group.seed, case);
         let file = any_file(random);
-        let room = room(random, file.len());
+        let room = room(random, read_file(&file).map_or(file.len().saturating_sub(2), |image| image.len()));
         let answer = read_both(&file, room);
         group.call(case, answer, || format!("{} bytes into {room}, from {:?}", file.len(), start(&file)));
     }
@@ -123,20 +127,21 @@ pub fn report_both(log: &[u8], day: u8, room: usize) -> Answer {
     Ok(library_number)
 }
 
-/// The number, the kind and the counts.
+/// The number, the kind, the counts and the lapses; a refusal leaves all three.
 pub fn cell_both(log: &[u8], day: u8, slot: u8) -> Answer {
     let outcome = cell(log, day, slot);
-    let (kind, counts) = match outcome {
-        Ok(Cell::Gap) => (0, [0; 4]),
-        Ok(Cell::Empty) => (1, [0; 4]),
-        Ok(Cell::Measured(counts)) => (2, counts),
-        Err(_) => (0xA5, [0xA5A5; 4]),
+    let lent = (0xA5, [0xA5A5; 4], 0xA5);
+    let lapses = lapses(log, day, slot).unwrap_or(lent.2);
+    let expected = match outcome {
+        Ok(Cell::Gap) => (0, [0; 4], lapses),
+        Ok(Cell::Empty) => (1, [0; 4], lapses),
+        Ok(Cell::Measured(counts)) => (2, counts, lapses),
+        Err(_) => lent,
     };
-    let (mut library_kind, mut library_counts) = (0xA5, [0xA5A5; 4]);
-    let library_number = library::cell(log, day, slot, &mut library_kind, &mut library_counts);
+    let mut library_cell = lent;
+    let library_number = library::cell(log, day, slot, &mut library_cell);
     same("number", number(&outcome), library_number)?;
-    same("kind", kind, library_kind)?;
-    same("counts", counts, library_counts)?;
+    same("kind, counts and lapses", expected, library_cell)?;
     Ok(library_number)
 }
 
@@ -155,8 +160,7 @@ pub fn gap_both(log: &[u8], day: u8, from: u8) -> Answer {
 }
 
 /// As long as the image, or shorter, or longer.
-fn room(random: &mut Random, file: usize) -> usize {
-    let image = file.saturating_sub(2);
+fn room(random: &mut Random, image: usize) -> usize {
     match random.below(8) {
         0 => random.below(image + 1),
         1 => image.saturating_sub(1),
@@ -205,13 +209,21 @@ pub fn about_the_hour(random: &mut Random) -> u8 {
 }
 
 fn any_file(random: &mut Random) -> Vec<u8> {
-    let file = sealed(any_file_image(random));
+    let mut file = any_file_bytes(random);
     match random.below(8) {
-        0 => damaged(random, file),
-        1 => damaged_and_sealed(random, &file),
-        2 => faulty_cell(random, file),
+        0 => damaged(random, sealed(file)),
+        1 => damaged_and_sealed(random, &sealed(file)),
+        2 => {
+            put_faulty_cell(random, &mut file);
+            sealed(file)
+        }
         3 => file[..random.below(20).min(file.len())].to_vec(),
-        _ => file,
+        // as long as a file of another version
+        4 if random.one_in(4) => {
+            file[3] = random.within(1, 3);
+            sealed(file)
+        }
+        _ => sealed(file),
     }
 }
 
@@ -225,29 +237,55 @@ pub fn any_log(random: &mut Random) -> Vec<u8> {
         }
         2 => with_faulty_cell(random, log),
         3 if random.one_in(4) => {
-            log[3] = FIRST_VERSION;
+            log[3] = random.pick(&FORMER_VERSIONS);
             log
         }
+        // a former version's file without its CRC is no log
+        3 if random.one_in(4) => any_file_bytes(random),
         _ => log,
     }
 }
 
-/// A file whose CRC is right and one of whose cells may not be.
-fn faulty_cell(random: &mut Random, mut file: Vec<u8>) -> Vec<u8> {
-    file.truncate(file.len() - 2);
-    sealed(with_faulty_cell(random, file))
+/// The length of a file's cell, by its version.
+fn cell_bytes(version: u8) -> usize {
+    if version == VERSION {
+        CELL_BYTES
+    } else {
+        FORMER_CELL_BYTES
+    }
+}
+
+/// A file without its CRC gets a cell that may be none.
+fn put_faulty_cell(random: &mut Random, file: &mut [u8]) {
+    let cell_bytes = cell_bytes(file[3]);
+    if let Some(number) = any_cell_number(random, (file.len() - HEADER_BYTES) / cell_bytes) {
+        let cell = faulty_cell(random);
+        file[HEADER_BYTES + cell_bytes * number..][..cell_bytes].copy_from_slice(&cell[..cell_bytes]);
+    }
+}
+
+/// A log gets a cell that may be none.
+pub fn with_faulty_cell(random: &mut Random, mut image: Vec<u8>) -> Vec<u8> {
+    if let Some(number) = any_cell_number(random, (image.len() - HEADER_BYTES) / CELL_BYTES) {
+        let cell = faulty_cell(random);
+        image[HEADER_BYTES + CELL_BYTES * number..][..CELL_BYTES].copy_from_slice(&cell);
+    }
+    image
 }
 
 /// Any cell, or one about the hour from 02:00 of the first day.
-pub fn with_faulty_cell(random: &mut Random, mut image: Vec<u8>) -> Vec<u8> {
-    let cells = (image.len() - HEADER_BYTES) / CELL_BYTES;
-    if cells > 0 {
-        let number = if random.one_in(2) { usize::from(about_the_hour(random)) } else { random.below(cells) };
-        let at = HEADER_BYTES + CELL_BYTES * number;
-        let cell = [&[random.within(0, 3)][..], &any_counts(random)].concat();
-        image[at..at + CELL_BYTES].copy_from_slice(&cell);
-    }
-    image
+fn any_cell_number(random: &mut Random, cells: usize) -> Option<usize> {
+    let number = if random.one_in(2) { usize::from(about_the_hour(random)) } else { random.below(cells.max(1)) };
+    (number < cells).then_some(number)
+}
+
+/// Any kind with a count or none, and with lapses or none.
+fn faulty_cell(random: &mut Random) -> Row {
+    let mut cell = [0; CELL_BYTES];
+    cell[0] = random.within(0, 3);
+    cell[1..CELL_BYTES - 1].copy_from_slice(&any_counts(random));
+    cell[CELL_BYTES - 1] = any_lapses(random);
+    cell
 }
 
 fn any_counts(random: &mut Random) -> [u8; 8] {
@@ -258,32 +296,64 @@ fn any_counts(random: &mut Random) -> [u8; 8] {
     counts
 }
 
-/// What a file has before its CRC: of the first version at times, most often with a zero in the byte for seasons then.
-pub fn any_file_image(random: &mut Random) -> Vec<u8> {
-    let mut image = any_image(random);
-    if random.one_in(4) {
-        image[3] = FIRST_VERSION;
-        if !random.one_in(8) {
-            image[12] = 0;
-        }
+/// None, few, as many as are counted and a few less, or any number.
+fn any_lapses(random: &mut Random) -> u8 {
+    match random.below(8) {
+        0 => random.within(1, 3),
+        1 | 2 => random.within(253, 255),
+        3 => random.byte(),
+        _ => 0,
     }
-    image
 }
 
-/// An image, most often with a header in its ranges. Where a slot does not exist there is a gap most often.
+/// A cell's bytes.
+pub type Row = [u8; CELL_BYTES];
+
+/// What a file has before its CRC: of a former version at times, and with a zero in the byte for seasons most often where it is the first.
+pub fn any_file_bytes(random: &mut Random) -> Vec<u8> {
+    let (mut front, rows) = front_and_rows(random);
+    if random.one_in(3) {
+        front[3] = random.pick(&FORMER_VERSIONS);
+    }
+    if front[3] == FIRST_VERSION && !random.one_in(8) {
+        front[12] = 0;
+    }
+    file_bytes(&front, &rows)
+}
+
+/// A file without its CRC: the header, and the cells as its version has them.
+pub fn file_bytes(front: &[u8], rows: &[Row]) -> Vec<u8> {
+    let cell_bytes = cell_bytes(front[3]);
+    let cells = rows.iter().flat_map(|row| &row[..cell_bytes]);
+    front.iter().chain(cells).copied().collect()
+}
+
+/// A log, most often with a header in its ranges.
 pub fn any_image(random: &mut Random) -> Vec<u8> {
+    let (front, rows) = front_and_rows(random);
+    image_of(&front, &rows)
+}
+
+/// A log as it is in memory.
+pub fn image_of(front: &[u8], rows: &[Row]) -> Vec<u8> {
+    file_bytes(front, rows)
+}
+
+/// A header of the present version, most often in its ranges, and cells. Where a slot does not exist there is a gap without lapses most
+/// often.
+fn front_and_rows(random: &mut Random) -> (Vec<u8>, Vec<Row>) {
     let mut header = right_header(random);
     if random.one_in(6) {
         spoil(random, &mut header);
     }
-    let mut image = image_front(&header);
     let (empty, anything) = (random.one_in(4), random.one_in(6));
+    let mut rows = vec![];
     for (day, slot) in (0..header.days).flat_map(|day| (0..slots(header.minutes)).map(move |slot| (day, slot))) {
         let cell = any_cell(random, empty);
         let missing = header.valid() && !header.holds(day, slot);
-        image.extend(if missing && !anything { [0; CELL_BYTES] } else { cell });
+        rows.push(if missing && !anything { [0; CELL_BYTES] } else { cell });
     }
-    image
+    (image_front(&header), rows)
 }
 
 /// The 14 bytes of a header, in its ranges or not.
@@ -342,13 +412,14 @@ pub fn spoil(random: &mut Random, header: &mut Header) {
     }
 }
 
-fn any_cell(random: &mut Random, empty: bool) -> [u8; CELL_BYTES] {
+fn any_cell(random: &mut Random, empty: bool) -> Row {
     let mut cell = [0; CELL_BYTES];
+    cell[CELL_BYTES - 1] = any_lapses(random);
     cell[0] = if empty { random.within(0, 1) } else { random.within(0, 2) };
     if cell[0] == 2 {
         let mut counts = std::array::from_fn(|_| random.word() >> random.below(16));
         counts[random.below(4)] |= 1;
-        cell[1..].copy_from_slice(&count_bytes(counts));
+        cell[1..CELL_BYTES - 1].copy_from_slice(&count_bytes(counts));
     }
     cell
 }

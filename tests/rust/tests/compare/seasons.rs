@@ -1,9 +1,9 @@
 //! The season days of every year from 2000 to 2099, each between its neighbours, for 15 and 30 minutes, with and without seasons: every
-//! slot asked for, looked up and answered for, every day reported, and files with every kind of cell about the hour from 02:00.
+//! slot asked for, looked up, answered for and lapsed, every day reported, and files with every kind of cell about the hour from 02:00.
 
 use crate::asks::{compare, write_both, Call, Logs};
 use crate::logs::{
-    cell_both, gap_both, image_front, read_both, report_both, start, ABOUT_THE_HOUR, FIRST_VERSION, VERSION,
+    cell_both, file_bytes, gap_both, image_front, image_of, read_both, report_both, start, Row, ABOUT_THE_HOUR,
 };
 use crate::random::Random;
 use crate::run::Group;
@@ -14,19 +14,23 @@ use metlazuel_check::model::log::{Ask, Header, ROW};
 
 const DAYS: u8 = 3;
 const SUNDAY: u8 = 1;
-const CELL_BYTES: usize = 9;
-const HEADER_BYTES: usize = 14;
 const REQUEST_BYTES: usize = 8;
-/// A gap, an empty and a measured cell, and bytes that are none.
-const KINDS: [[u8; CELL_BYTES]; 7] = [
-    [0; CELL_BYTES],
-    [1, 0, 0, 0, 0, 0, 0, 0, 0],
-    [2, 12, 0, 0, 0, 3, 0, 0, 0],
-    [0, 0, 0, 0, 0, 0, 0, 0, 1],
-    [1, 1, 0, 0, 0, 0, 0, 0, 0],
-    [2, 0, 0, 0, 0, 0, 0, 0, 0],
-    [3, 0, 0, 0, 0, 0, 0, 0, 0],
+const GAP: Row = [0; 10];
+/// A gap, an empty and a measured cell, without lapses and with some, and bytes that are none.
+const KINDS: [Row; 10] = [
+    GAP,
+    [1, 0, 0, 0, 0, 0, 0, 0, 0, 0],
+    [2, 12, 0, 0, 0, 3, 0, 0, 0, 0],
+    [0, 0, 0, 0, 0, 0, 0, 0, 0, 1],
+    [1, 0, 0, 0, 0, 0, 0, 0, 0, 254],
+    [2, 12, 0, 0, 0, 3, 0, 0, 0, 255],
+    [0, 0, 0, 0, 0, 0, 0, 0, 1, 0],
+    [1, 1, 0, 0, 0, 0, 0, 0, 0, 7],
+    [2, 0, 0, 0, 0, 0, 0, 0, 0, 0],
+    [3, 0, 0, 0, 0, 0, 0, 0, 0, 0],
 ];
+/// Those of them that are cells.
+const CELLS: usize = 6;
 
 /// The three days about each season day, as headers, with the year as the case.
 fn headers() -> impl Iterator<Item = (u64, Header)> {
@@ -40,16 +44,19 @@ fn headers() -> impl Iterator<Item = (u64, Header)> {
 
 /// A log of gaps, empties and measured cells, also where a slot does not exist.
 fn log_of(header: &Header, random: &mut Random) -> Vec<u8> {
-    let mut log = image_front(header);
-    for _ in 0..usize::from(DAYS) * usize::from(header.slots()) {
-        log.extend(random.pick(&KINDS[..3]));
-    }
-    log
+    let rows: Vec<Row> = (0..cells(header)).map(|_| random.pick(&KINDS[..CELLS])).collect();
+    image_of(&image_front(header), &rows)
 }
 
-fn put(log: &mut [u8], header: &Header, slot: u8, cell: [u8; CELL_BYTES]) {
-    let number = usize::from(SUNDAY) * usize::from(header.slots()) + usize::from(slot);
-    log[HEADER_BYTES + CELL_BYTES * number..][..CELL_BYTES].copy_from_slice(&cell);
+fn cells(header: &Header) -> usize {
+    usize::from(DAYS) * usize::from(header.slots())
+}
+
+/// All gaps but for one slot of the Sunday.
+fn rows_with(header: &Header, slot: u8, row: Row) -> Vec<Row> {
+    let mut rows = vec![GAP; cells(header)];
+    rows[usize::from(SUNDAY) * usize::from(header.slots()) + usize::from(slot)] = row;
+    rows
 }
 
 #[test]
@@ -71,33 +78,34 @@ fn slots_of_the_century() {
     group.end(&[0, 1, 22, 25]);
 }
 
-/// An ask with none open, and a reply with the ask open whether it could be or not.
+/// An ask with none open, and a reply and a lapse with the ask open whether it could be or not.
 fn asked_and_answered(group: &mut Group, case: u64, log: &[u8], ask: Ask) {
     compare(group, case, &mut Logs::of(log, None), &Call::Ask(ask, REQUEST_BYTES));
     let reply = sealed([&[1, 3, 36, 0][..], &count_bytes([13, 0, 3, 0])].concat());
     compare(group, case, &mut Logs::of(log, Some(ask)), &Call::Reply(reply));
+    compare(group, case, &mut Logs::of(log, Some(ask)), &Call::Lapse);
 }
 
-/// Each slot about the hour with each kind of cell and no cell: read from files of both versions, written, reported, passed over.
+/// Each slot about the hour with each kind of cell and no cell: read from files of each version, written, reported, passed over, lapsed.
 #[test]
 fn cells_about_the_hour() {
     let mut group = Group::new("cells about the season hour");
     let (first, last) = ABOUT_THE_HOUR;
     for (case, header) in headers() {
         for (slot, kind) in (first..=last).flat_map(|slot| KINDS.map(|kind| (slot, kind))) {
-            let mut log = image_front(&header);
-            log.resize(HEADER_BYTES + CELL_BYTES * usize::from(DAYS) * usize::from(header.slots()), 0);
-            put(&mut log, &header, slot, kind);
+            let (mut front, rows) = (image_front(&header), rows_with(&header, slot, kind));
+            let log = image_of(&front, &rows);
             let call = || format!("slot {slot} with {kind:?}, from {:?}", start(&log));
             group.call(case, write_both(&log, log.len() + 2), call);
             group.call(case, report_both(&log, SUNDAY, ROW), call);
             group.call(case, gap_both(&log, SUNDAY, slot), call);
-            for version in [FIRST_VERSION, VERSION] {
-                let mut file = log.clone();
-                file[3] = version;
-                group.call(case, read_both(&sealed(file), log.len()), call);
+            let ask = Ask { address: 1, day: SUNDAY, slot };
+            compare(&mut group, case, &mut Logs::of(&log, Some(ask)), &Call::Lapse);
+            for version in 1..=3 {
+                front[3] = version;
+                group.call(case, read_both(&sealed(file_bytes(&front, &rows)), log.len()), call);
             }
         }
     }
-    group.end(&[0, 28, 32, 35]);
+    group.end(&[0, 22, 28, 32, 35]);
 }

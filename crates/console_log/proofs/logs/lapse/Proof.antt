@@ -9,32 +9,24 @@ use Rattle.console_log.proofs.logs.lapse.Tie as tie
 spaces-requires : tie.Need-spaces-requires
 spaces-requires c κs = search needs
 
-unread-requires : tie.Need-unread-requires
-unread-requires c κs = search needs
+lapse-of-requires : tie.Need-lapse-of-requires
+lapse-of-requires c κs = search needs
+
+same-length : tie.Need-same-length
+same-length c = search needs
 
 returns : tie.Need-returns
 unfolding lapseLine
-returns c = rw (sym (c .before .before .spaces .ensures), ne-eqb _ _ (c .before .if1 .taken), c .unread .ensures)
+returns c =
+    let at-test = c .before .before .before .before in
+    rw (sym (at-test .before .spaces .ensures), eq-eqb _ _ (at-test .if1 .taken)) (c .before .before .lapse-of .ensures)
 
-number-line-requires : tie.Need-number-line-requires
-number-line-requires c κs = search needs
-
-lapse-requires : tie.Need-lapse-requires
-lapse-requires c κs = search needs
+unread-requires : tie.Need-unread-requires
+unread-requires c κs = search needs
 
 returns-2 : tie.Need-returns-2
 unfolding lapseLine
-returns-2 c =
-    let spaces = c .before .before .before .spaces in
-    rw (sym (spaces .ensures), eq-eqb _ _ (c .before .before .if1 .left), c .lapse .ensures)
+returns-2 c = rw (sym (c .before .before .spaces .ensures), ne-eqb _ _ (c .before .if1 .left), c .unread .ensures)
 
 pub lapse-spec : {M : Type 1} → statement M
-lapse-spec =
-    tie.close
-    (tie.spec
-    spaces-requires
-    unread-requires
-    returns
-    number-line-requires
-    lapse-requires
-    returns-2)
+lapse-spec = tie.close (tie.spec spaces-requires lapse-of-requires same-length returns unread-requires returns-2)

@@ -1,5 +1,5 @@
--- `write_cell` meets its contract: it writes the kind and the counts that `cellBytes` names.
-use Rattle.log.specs.Cell.{cellBytes}
+-- `write_cell` meets its contract: it writes the kind and the counts that `countsBytes` names.
+use Rattle.log.specs.Cell.{countsBytes}
 use mathlib.Core.Path.{_≡_, _∙_}
 use Prim.Native.Nat.{ℕ}
 use borrow.Author.Needs.{needs}
@@ -28,7 +28,7 @@ same-length : tie.Need-same-length
 same-length c = search needs
 
 returns : tie.Need-returns
-unfolding cellBytes
+unfolding countsBytes
 returns c =
     let at-kind-of = c .before .before .before .before .before .before .before .kind-of in
     let at-e-plus = c .before .before .before .before .before .before .e-plus in

@@ -1,21 +1,21 @@
 -- `write_gaps` meets its contract: the loop keeps that the gaps left, written from cell i on, give the whole result; it ends as they run out.
 use mathlib.Core.List.{List}
 use borrow.Author.Needs.{needs}
-use Rattle.log.proofs.ImageLaws.{length-putCell}
+use Rattle.log.proofs.ImageLaws.{length-putWhole}
 use native.Mathlib.Nat.{sub-zero}
 use Rattle.log.proofs.FreshLaws.{gap-put}
 use lib.ListN.{length}
 use Prim.Native.Nat.{ℕ, suc, _+_, _-_, _≤_}
 use mathlib.Core.Path.{_≡_, refl, sym, ap, _∙_}
 use native.Mathlib.Omega.{arith}
-use Rattle.log.specs.Fresh.{gaps}
+use Rattle.log.specs.Fresh.{gaps, noLapses}
 use Rattle.log.specs.Image.{putCells}
 use Rattle.log.proofs.fresh.write_gaps.Statement.{statement}
 use Rattle.log.proofs.fresh.write_gaps.Tie as tie
 
 abbrev Inv-loop : tie.InvT-loop
 Inv-loop out₀ cells i₀ out i =
-    (i ≤ cells) × (length out ≡ length out₀) × (putCells out i (gaps (cells - i)) ≡ putCells out₀ 0 (gaps cells))
+    (i ≤ cells) × (length out ≡ length out₀) × (putCells out i (gaps (cells - i)) noLapses ≡ putCells out₀ 0 (gaps cells) noLapses)
 
 abbrev μ-loop : tie.MeasureT-loop
 μ-loop out₀ cells i₀ out i = cells - i
@@ -23,8 +23,8 @@ abbrev μ-loop : tie.MeasureT-loop
 loop-holds : tie.Need-loop-holds Inv-loop μ-loop
 loop-holds c = (omega arith, refl, rw sub-zero)
 
-put-cell-requires : tie.Need-put-cell-requires Inv-loop μ-loop
-put-cell-requires c κs = search needs
+put-whole-requires : tie.Need-put-whole-requires Inv-loop μ-loop
+put-whole-requires c κs = search needs
 
 add-i : tie.Need-add-i Inv-loop μ-loop
 add-i c = omega arith
@@ -41,10 +41,10 @@ loop-again c =
     let n = start .args .cells in
     let e : suc (n - (i + 1)) ≡ n - i = omega arith in (
       omega arith,
-      ap length (c .before .before .put-cell .ensures) ∙ length-putCell s i _ ∙ turn .inv .1,
-      ap (λ (x : List ℕ). putCells x (i + 1) (gaps (n - (i + 1)))) (c .before .before .put-cell .ensures)
+      ap length (c .before .before .put-whole .ensures) ∙ length-putWhole s i _ _ ∙ turn .inv .1,
+      ap (λ (x : List ℕ). putCells x (i + 1) (gaps (n - (i + 1))) noLapses) (c .before .before .put-whole .ensures)
           ∙ gap-put s i (n - (i + 1))
-          ∙ ap (λ (k : ℕ). putCells s i (gaps k)) e
+          ∙ ap (λ (k : ℕ). putCells s i (gaps k) noLapses) e
           ∙ turn .inv .2,
     )
 
@@ -59,7 +59,7 @@ returns c =
     let n = start .args .cells in
     let i = turn .i in
     let e : n - i ≡ 0 = omega arith in
-    sym (ap (λ (k : ℕ). putCells (turn .out) i (gaps k)) e) ∙ turn .inv .2
+    sym (ap (λ (k : ℕ). putCells (turn .out) i (gaps k) noLapses) e) ∙ turn .inv .2
 
 pub write-gaps-spec : {M : Type 1} → statement M
 write-gaps-spec =
@@ -68,7 +68,7 @@ write-gaps-spec =
     Inv-loop
     μ-loop
     loop-holds
-    put-cell-requires
+    put-whole-requires
     add-i
     loop-less
     loop-again

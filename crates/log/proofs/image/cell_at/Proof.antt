@@ -4,7 +4,7 @@ use Prim.Native.Nat.{ℕ, _+_, _*_, _-_}
 use mathlib.Core.Path.{_≡_, sym, ap, _∙_}
 use native.Mathlib.Omega.{arith}
 use Rattle.log.proofs.ImageLaws.{cellAt-past}
-use Rattle.log.specs.Cell.{cellSize, cellOf}
+use Rattle.log.specs.Cell.{countsSize, cellSize, cellOf}
 use Rattle.log.specs.Header.{headerSize}
 use Rattle.log.specs.Image.{cellAt}
 use borrow.Author.Needs.{needs}
@@ -47,7 +47,7 @@ unfolding cellAt
 returns-3 c =
     let args = c .before .before .before .before .before .args in
     let i = c .before .before .before .before .before .args .i in
-    let e : headerSize + cellSize * i + cellSize - (headerSize + cellSize * i) ≡ cellSize = omega arith in
+    let e : headerSize + cellSize * i + countsSize - (headerSize + cellSize * i) ≡ countsSize = omega arith in
     c .cell-of .ensures ∙ ap (λ (n : ℕ). cellOf (take n (drop (headerSize + cellSize * i) (args .log .now)))) e
 
 pub cell-at-spec : {M : Type 1} → statement M

@@ -4,7 +4,7 @@ use Prim.Native.Nat.{ℕ, _+_, _*_, _-_}
 use mathlib.Core.Path.{_≡_, sym, ap, _∙_}
 use native.Mathlib.Omega.{arith}
 use Rattle.log.proofs.ImageLaws.{knownAt-past}
-use Rattle.log.specs.Cell.{cellSize, knownCell}
+use Rattle.log.specs.Cell.{countsSize, cellSize, knownCell}
 use Rattle.log.specs.Header.{headerSize}
 use Rattle.log.specs.Image.{knownAt}
 use borrow.Author.Needs.{needs}
@@ -47,7 +47,7 @@ unfolding knownAt
 returns-3 c =
     let args = c .before .before .before .before .before .args in
     let i = c .before .before .before .before .before .args .i in
-    let e : headerSize + cellSize * i + cellSize - (headerSize + cellSize * i) ≡ cellSize = omega arith in
+    let e : headerSize + cellSize * i + countsSize - (headerSize + cellSize * i) ≡ countsSize = omega arith in
     c .known-cell .ensures ∙ ap (λ (n : ℕ). knownCell (take n (drop (headerSize + cellSize * i) (args .log .now)))) e
 
 pub known-at-spec : {M : Type 1} → statement M

@@ -1,8 +1,8 @@
 -- `put_cell` meets its contract: what is written to the cell's nine bytes is written at its place (`part-put`); what does not fit is left to `put_front`.
 use Rattle.log.proofs.ImageLaws.{part-put}
-use Rattle.log.proofs.CellLaws.{length-cellBytes}
+use Rattle.log.proofs.CellLaws.{length-countsBytes}
 use Rattle.log.specs.Image.{cellStart, putCell}
-use Rattle.log.specs.Cell.{cellSize, cellBytes}
+use Rattle.log.specs.Cell.{countsSize, countsBytes}
 use Rattle.words.proofs.PlaceLaws.{written-past}
 use native.Mathlib.Omega.{arith}
 use mathlib.Core.Path.{sym}
@@ -50,8 +50,8 @@ unfolding putCell
 returns-2 c =
     let at-args = c .before .before .before .before .before .before .before .args in
     let from = cellStart (at-args .i) in
-    let nine : length (cellBytes (at-args .c)) ≤ from + cellSize - from = omega (arith, length-cellBytes (at-args .c)) in
-    part-put (at-args .log .now) from (cellBytes (at-args .c)) _ (from + cellSize - from) nine (c .before .before .write-cell .ensures)
+    let nine : length (countsBytes (at-args .c)) ≤ from + countsSize - from = omega (arith, length-countsBytes (at-args .c)) in
+    part-put (at-args .log .now) from (countsBytes (at-args .c)) _ (from + countsSize - from) nine (c .before .before .write-cell .ensures)
 
 same-length-2 : tie.Need-same-length-2
 same-length-2 c = search needs

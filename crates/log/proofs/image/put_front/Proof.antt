@@ -1,6 +1,6 @@
 -- `put_front` meets its contract: what is written to the front of the rest is written at its place (`rest-put`); past the end nothing.
 use Rattle.log.proofs.ImageLaws.{rest-put}
-use Rattle.log.specs.Cell.{cellBytes}
+use Rattle.log.specs.Cell.{countsBytes}
 use Rattle.words.proofs.PlaceLaws.{written-past}
 use mathlib.Core.Path.{sym}
 use borrow.Author.Needs.{needs}
@@ -25,7 +25,7 @@ same-length c = search needs
 returns : tie.Need-returns
 returns c =
     let at-args = c .before .before .before .before .before .before .args in
-    rest-put (at-args .log .now) (at-args .from) (cellBytes (at-args .c)) _ (c .before .before .write-cell .ensures)
+    rest-put (at-args .log .now) (at-args .from) (countsBytes (at-args .c)) _ (c .before .before .write-cell .ensures)
 
 returns-2 : tie.Need-returns-2
 returns-2 c =

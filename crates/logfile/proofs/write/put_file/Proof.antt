@@ -1,9 +1,10 @@
 -- `put_file` meets its contract: a header, the rows behind it and their CRC are the file (`file-written`); no header has so many cells that the sum leaves a word.
 use lib.ListN.{length}
 use Rattle.words.proofs.PlaceLaws.{length-written}
-use Rattle.log.specs.Header.{headerBytes}
-use Rattle.logfile.specs.File.{fileLength}
+use Rattle.log.specs.Header.{headerBytes, version, cellsOf}
+use Rattle.logfile.specs.File.{fileLengthAs}
 use Rattle.logfile.proofs.FileLaws.{rows-at-most, file-written}
+use Rattle.logfile.proofs.RowLaws.{today-starts}
 use Rattle.logfile.proofs.WalkLaws.{goodFrom}
 use Rattle.log.specs.Image.{cellAt}
 use mathlib.Core.Path.{ap, _∙_}
@@ -20,7 +21,7 @@ write-header-requires : tie.Need-write-header-requires
 write-header-requires c κs = search needs
 
 put-rows-requires : tie.Need-put-rows-requires
-unfolding fileLength
+unfolding fileLengthAs
 put-rows-requires c κs =
     let at-args = c .before .before .before .before .before .before .before .before .args in
     let at-cells-of = c .before .before .before .before .before .cells-of in
@@ -28,7 +29,7 @@ put-rows-requires c κs =
     let header = c .before .before .before .write-header in
     let same = ap length (header .ensures) ∙ length-written (at-args .out .now) 0 (headerBytes (at-args .h)) in (
       ap (λ (k : ℕ). goodFrom (cellAt (at-args .log .now)) 0 k) (at-cells-of .ensures) ∙ at-pre .0,
-      omega (arith, same, at-cells-of .ensures, at-pre .1),
+      rw (at-cells-of .ensures) (omega (arith, same, at-pre .1)),
     )
 
 mul-seal : tie.Need-mul-seal
@@ -36,14 +37,14 @@ mul-seal c =
     let cells-of = c .before .before .before .before .before .before .before .before .before .cells-of in
     let args = c .before .before .before .before .before .before .before .before .before .before .before .before .args in
     let d : args .h .days < 256 = search needs in
-    omega (arith, cells-of .ensures, rows-at-most (args .h) d)
+    omega (arith, cells-of .ensures, today-starts (cellsOf (args .h)), rows-at-most version (args .h) d)
 
 add-seal : tie.Need-add-seal
 add-seal c =
     let cells-of = c .before .before .before .before .before .before .before .before .before .cells-of in
     let args = c .before .before .before .before .before .before .before .before .before .before .before .before .args in
     let d : args .h .days < 256 = search needs in
-    omega (arith, cells-of .ensures, rows-at-most (args .h) d)
+    omega (arith, cells-of .ensures, today-starts (cellsOf (args .h)), rows-at-most version (args .h) d)
 
 seal-requires : tie.Need-seal-requires
 seal-requires c κs = search needs

@@ -2,7 +2,7 @@
 use Rattle.logfile.proofs.WalkLaws.{right-good}
 use Rattle.logfile.specs.Write.{writtenFile}
 use Rattle.log.proofs.HeaderLaws.{sound-log}
-use Rattle.log.specs.Image.{cellAt}
+use Rattle.log.specs.Image.{cellAt, lapsesAt}
 use Rattle.refusal.specs.Outcome.{outcome}
 use borrow.Author.Tests.{le-leb, lt-leb}
 use mathlib.Core.Path.{sym, ap, _∙_}
@@ -45,7 +45,7 @@ put-file-requires c κs =
     let room = c .before .before .before in
     let known = room .before .before .before in
     let args = known .before .before .before .before .before .args in (
-      right-good _ (cellAt (args .log .now)) (sym (c .before .before .cells-right .ensures) ∙ c .before .if2 .taken),
+      right-good _ (cellAt (args .log .now)) (lapsesAt (args .log .now)) (sym (c .before .before .cells-right .ensures) ∙ c .before .if2 .taken),
       omega (arith, room .before .file-length .ensures, room .if1 .left),
     )
 

@@ -1,6 +1,6 @@
--- `metlazuel_cell` meets its contract: the answers of `sound`, `interval_of` and `cell_at` pick the clause, and kind and counts are those of the cell.
-use mathlib.Core.Path.{sym, _∙_}
+-- `metlazuel_cell` meets its contract: each refusal is its check, and a good cell gives kind, counts and lapses.
 use Rattle.metlazuel.specs.CellCalls.{cellForC}
+use mathlib.Core.Path.{sym, _∙_}
 use borrow.Author.Needs.{needs}
 use Rattle.metlazuel.proofs.cell_calls.metlazuel_cell.Statement.{statement}
 use Rattle.metlazuel.proofs.cell_calls.metlazuel_cell.Tie as tie
@@ -58,16 +58,26 @@ kind-of-requires c κs = search needs
 counts-of-requires : tie.Need-counts-of-requires
 counts-of-requires c κs = search needs
 
+lapses-at-requires : tie.Need-lapses-at-requires
+lapses-at-requires c κs = search needs
+
 returns-4 : tie.Need-returns-4
 unfolding cellForC
 returns-4 c =
-    let at-sound = c .before .before .before .before .before .before .before .before .before .before .before .before .before .sound in
-    let at-h = c .before .before .before .before .before .before .before .before .before .before .before .h in
-    let at-interval-of = c .before .before .before .before .before .before .before .before .before .interval-of in
-    let at-i = c .before .before .before .before .before .before .before .i in
-    let at-cell-at = c .before .before .before .before .before .cell-at in
-    let at-c = c .before .before .before .c in
-    simp (sym (at-sound .ensures) ∙ at-h .given .1, sym (at-interval-of .ensures) ∙ at-i .given .1, sym (at-cell-at .ensures) ∙ at-c .given .1, c .before .kind-of .ensures, c .counts-of .ensures)
+    let at-sound = c .before .before .before .before .before .before .before .before .before .before .before .before .before .before .sound in
+    let at-h = c .before .before .before .before .before .before .before .before .before .before .before .before .h in
+    let at-interval-of = c .before .before .before .before .before .before .before .before .before .before .interval-of in
+    let at-i = c .before .before .before .before .before .before .before .before .i in
+    let at-cell-at = c .before .before .before .before .before .before .cell-at in
+    let at-c = c .before .before .before .before .c in
+    simp (
+      sym (at-sound .ensures) ∙ at-h .given .1,
+      sym (at-interval-of .ensures) ∙ at-i .given .1,
+      sym (at-cell-at .ensures) ∙ at-c .given .1,
+      c .before .before .kind-of .ensures,
+      c .before .counts-of .ensures,
+      c .lapses-at .ensures,
+    )
 
 pub metlazuel-cell-spec : {M : Type 1} → statement M
 metlazuel-cell-spec =
@@ -87,4 +97,5 @@ metlazuel-cell-spec =
     returns-3
     kind-of-requires
     counts-of-requires
+    lapses-at-requires
     returns-4)

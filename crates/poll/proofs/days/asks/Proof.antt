@@ -7,13 +7,14 @@ use native.Mathlib.Omega.{arith}
 use Rattle.slots.proofs.DayLaws.{slotsMost}
 use Rattle.log.specs.View.{viewOf}
 use Rattle.polling.proofs.NextLaws.{next-bounds}
-use Rattle.polling.specs.Reached.{Polled}
+use Rattle.polling.specs.Reached.{standing, Reached}
 use Rattle.polling.proofs.ReachedLaws.{stays, onward}
 use Rattle.poll.proofs.days.asks.Statement.{statement}
 use Rattle.poll.proofs.days.asks.Tie as tie
 
 abbrev Inv-loop : tie.InvT-loop
-Inv-loop wire plan device path image₀ day wanted course₀ slot₀ image course slot = (length image ≡ length image₀) × Polled image₀ image
+Inv-loop wire plan device path image₀ day wanted course₀ slot₀ image course slot =
+    (length image ≡ length image₀) × Reached (standing image₀ (course₀ .held)) (standing image (course .held))
 
 abbrev μ-loop : tie.MeasureT-loop
 μ-loop wire plan device path image₀ day wanted course₀ slot₀ image course slot = slotsMost - slot
@@ -37,7 +38,9 @@ same-length : tie.Need-same-length Inv-loop μ-loop
 same-length c = search needs
 
 returns : tie.Need-returns Inv-loop μ-loop
-returns c = let turn = c .before .before .before .before .before in turn .loop .inv .1
+returns c =
+    let turn = c .before .before .before .before .before in
+    rw (sym (turn .before .nothing .ensures)) (turn .loop .inv .1)
 
 one-slot-requires : tie.Need-one-slot-requires Inv-loop μ-loop
 one-slot-requires c κs = search needs
@@ -52,7 +55,7 @@ returns-2 : tie.Need-returns-2 Inv-loop μ-loop
 returns-2 c =
     let one-slot = c .before .before .before .before .one-slot in
     let turn = c .before .before .before .before .before .before .before .before .before .before .before .before in
-    onward (turn .loop .inv .1) (one-slot .ensures)
+    rw (sym (turn .before .nothing .ensures)) (onward (turn .loop .inv .1) (one-slot .ensures))
 
 add-slot : tie.Need-add-slot Inv-loop μ-loop
 add-slot c =
@@ -78,7 +81,7 @@ same-length-3 : tie.Need-same-length-3 Inv-loop μ-loop
 same-length-3 c = search needs
 
 returns-3 : tie.Need-returns-3 Inv-loop μ-loop
-returns-3 c = c .before .loop .inv .1
+returns-3 c = rw (sym (c .before .before .nothing .ensures)) (c .before .loop .inv .1)
 
 pub asks-spec : {M : Type 1} → statement M
 asks-spec =

@@ -1,5 +1,5 @@
--- An ask that was made leads to the exchange, which closes it; one that was refused has left the log as it was.
-use Rattle.polling.proofs.ReachedLaws.{asks, stays, onward}
+-- An ask leaves the log and the ask that it answers; one that was made leads on to the exchange.
+use Rattle.polling.proofs.ReachedLaws.{asks, onward}
 use borrow.Author.Needs.{needs}
 use Rattle.poll.proofs.days.one_ask.Statement.{statement}
 use Rattle.poll.proofs.days.one_ask.Tie as tie
@@ -34,6 +34,9 @@ refused-requires c κs = search needs
 ends-requires : tie.Need-ends-requires
 ends-requires c κs = search needs
 
+holding-requires : tie.Need-holding-requires
+holding-requires c κs = search needs
+
 same-length : tie.Need-same-length
 same-length c = search needs
 
@@ -46,7 +49,9 @@ same-length-2 : tie.Need-same-length-2
 same-length-2 c = search needs
 
 returns-2 : tie.Need-returns-2
-returns-2 c = stays _
+returns-2 c =
+    let ask = c .before .before .before .before .before .before .before in
+    rw (c .holding .ensures) (asks _ _ _ _ _ _ _ (ask .put-ask .result) (ask .put-ask .ensures))
 
 pub one-ask-spec : {M : Type 1} → statement M
 one-ask-spec =
@@ -62,6 +67,7 @@ one-ask-spec =
     number-requires
     refused-requires
     ends-requires
+    holding-requires
     same-length
     returns
     same-length-2

@@ -1,4 +1,4 @@
--- One ask does what a poll may do; an interval that is passed over leaves the log as it was.
+-- One ask does what a poll may do; an interval that is passed over leaves log and ask as they were.
 use Rattle.polling.proofs.ReachedLaws.{stays}
 use borrow.Author.Needs.{needs}
 use Rattle.poll.proofs.days.one_slot.Statement.{statement}
@@ -32,10 +32,10 @@ returns : tie.Need-returns
 returns c = search needs
 
 returns-2 : tie.Need-returns-2
-returns-2 c = stays _
+returns-2 c = rw (c .passed-over .ensures) (stays _)
 
 returns-3 : tie.Need-returns-3
-returns-3 c = stays _
+returns-3 c = rw (c .passed-over2 .ensures) (stays _)
 
 pub one-slot-spec : {M : Type 1} → statement M
 one-slot-spec =

@@ -3,13 +3,15 @@ use borrow.Author.Needs.{needs}
 use Prim.Native.Nat.{_-_}
 use mathlib.Core.Path.{_≡_, refl}
 use lib.ListN.{length}
-use Rattle.polling.specs.Reached.{Polled}
+use Rattle.logger.specs.declared.held.OpenAsk.the-variants.{Closed}
+use Rattle.polling.specs.Reached.{standing, Reached}
 use Rattle.polling.proofs.ReachedLaws.{stays, onward}
 use Rattle.poll.proofs.days.poll.Statement.{statement}
 use Rattle.poll.proofs.days.poll.Tie as tie
 
 abbrev Inv-loop : tie.InvT-loop
-Inv-loop wire plan device path image₀ from end course₀ day₀ image course day = (length image ≡ length image₀) × Polled image₀ image
+Inv-loop wire plan device path image₀ from end course₀ day₀ image course day =
+    (length image ≡ length image₀) × Reached (standing image₀ Closed) (standing image (course .held))
 
 abbrev μ-loop : tie.MeasureT-loop
 μ-loop wire plan device path image₀ from end course₀ day₀ image course day = end - day
@@ -18,7 +20,7 @@ nothing-requires : tie.Need-nothing-requires Inv-loop μ-loop
 nothing-requires c κs = search needs
 
 loop-holds : tie.Need-loop-holds Inv-loop μ-loop
-loop-holds c = (refl, stays _)
+loop-holds c = (refl, rw (c .nothing .ensures) (stays _))
 
 one-day-requires : tie.Need-one-day-requires Inv-loop μ-loop
 one-day-requires c κs = search needs
@@ -33,7 +35,7 @@ returns : tie.Need-returns Inv-loop μ-loop
 returns c =
     let one-day = c .before .before .before .before .one-day in
     let turn = c .before .before .before .before .before .before .before in
-    onward (turn .loop .inv .1) (one-day .ensures)
+    record { held = one-day .result .held; reached = onward (turn .loop .inv .1) (one-day .ensures) }
 
 add-day : tie.Need-add-day Inv-loop μ-loop
 add-day c = search needs
@@ -51,7 +53,7 @@ same-length-2 : tie.Need-same-length-2 Inv-loop μ-loop
 same-length-2 c = search needs
 
 returns-2 : tie.Need-returns-2 Inv-loop μ-loop
-returns-2 c = c .before .loop .inv .1
+returns-2 c = record { held = c .before .loop .course .held; reached = c .before .loop .inv .1 }
 
 pub poll-spec : {M : Type 1} → statement M
 poll-spec =

@@ -1,4 +1,4 @@
--- `settle` promises the equation, which is a list of the logger's calls, at whose end no ask is open.
+-- `settle` promises the equation, which is a list of the logger's calls, with the ask that they leave.
 use native.Mathlib.Omega.{arith}
 use Rattle.polling.proofs.ReachedLaws.{settles}
 use borrow.Author.Needs.{needs}

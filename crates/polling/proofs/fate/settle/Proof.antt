@@ -1,11 +1,5 @@
--- What was heard, and then the lapse: the two halves of `settled`.
-use mathlib.Core.Path.{ap}
-use Rattle.refusal.specs.Outcome.{Outcome, outcome}
-use Rattle.polling.specs.declared.fate.Settled.{Settled}
-use mathlib.Core.List.{List}
-use Prim.Native.Nat.{ℕ}
-use Rattle.logger.specs.Held.{lapsed}
-use Rattle.polling.specs.Fate.{settled}
+-- What was heard, and then the lapse: the two halves of `settled` (`settled-by`).
+use Rattle.polling.proofs.FateLaws.{settled-by}
 use borrow.Author.Needs.{needs}
 use Rattle.polling.proofs.fate.settle.Statement.{statement}
 use Rattle.polling.proofs.fate.settle.Tie as tie
@@ -16,14 +10,18 @@ heard-requires c κs = search needs
 lapse-requires : tie.Need-lapse-requires
 lapse-requires c κs = search needs
 
+fate-lapsed-requires : tie.Need-fate-lapsed-requires
+fate-lapsed-requires c κs = search needs
+
 same-length : tie.Need-same-length
 same-length c = search needs
 
 returns : tie.Need-returns
-unfolding settled
 returns c =
-    let heard = c .before .before .before .heard in
-    simp (c .lapse .ensures) (ap (λ (o : Outcome Settled (List ℕ)). outcome (record { fate = o .result .fate; held = lapsed (o .result .held) }) (o .left)) (heard .ensures))
+    let at-heard = c .before .before .before .before .before .before .before .heard in
+    let at-lapse = c .before .before .before .lapse in
+    settled-by _ _ _ _ _ _ _ _ (at-heard .ensures) (at-lapse .ensures) (c .fate-lapsed .ensures)
 
 pub settle-spec : {M : Type 1} → statement M
-settle-spec = tie.close (tie.spec heard-requires lapse-requires same-length returns)
+settle-spec =
+    tie.close (tie.spec heard-requires lapse-requires fate-lapsed-requires same-length returns)

@@ -1,0 +1,97 @@
+-- Document 02, CR 7: what a lapse and a reply do to a cell's count of lapses, and the files of the versions before.
+use mathlib.Core.Path.{_≡_, refl, sym, ap, subst, _∙_}
+use mathlib.Core.Bool.{Bool, true, false, cond}
+use mathlib.Core.List.{List, _++_}
+use Prim.Native.Nat.{ℕ, _+_, _≤_, _<_}
+use lib.Dec.{eqb, ltb}
+use lib.ListN.{length, take, drop}
+use borrow.Author.Tests.{eq-eqb, lt-ltb}
+use Rattle.refusal.specs.Outcome.{Outcome, outcome}
+use Rattle.words.specs.Number.{Bytes}
+use Rattle.log.specs.Header.{versionAt, soundOf}
+use Rattle.log.specs.View.{View, viewOf}
+use Rattle.log.proofs.ViewLaws.{changed, view-image}
+use Rattle.log.specs.declared.cell.Cell.{Cell}
+use Rattle.log.specs.declared.cell.CellAnswer.the-variants.{Good}
+use Rattle.log.specs.declared.header.Header.{Header}
+use Rattle.log.specs.declared.header.Lent.the-variants.{Sound}
+use Rattle.log.specs.declared.image.Change.{Change}
+use Rattle.logfile.specs.File.{isVersion, seasonsFit, fileBytesAs}
+use Rattle.logfile.specs.Read.{readFile}
+use Rattle.logfile.specs.declared.read.ReadAnswer.{ReadAnswer}
+use Rattle.logfile.specs.declared.read.ReadAnswer.the-variants as read
+use Rattle.logfile.proofs.FileLaws as file
+use Rattle.logger.specs.Held.{OpenFor}
+use Rattle.logger.specs.Lapse.{closes, lapsing, lapsed, oneMore}
+use Rattle.logger.proofs.LapseLaws.{lapsed-seen}
+use Rattle.logger.specs.Take as Take
+use Rattle.logger.proofs.TakeLaws.{decided-ways, taken-seen}
+use Rattle.logger.specs.declared.take.Decision.{Decision}
+use Rattle.logger.specs.declared.no_reply.LapseAnswer.the-variants.{Done}
+use Rattle.logger.specs.declared.no_reply.LapseDecision.{LapseDecision}
+use Rattle.log.specs.declared.image.Change.the-variants as change
+use Rattle.logger.specs.declared.held.OpenAsk.{OpenAsk}
+use Rattle.logger.specs.declared.held.OpenAsk.the-variants.{Closed}
+use Rattle.demands.specs.Demand3.{Start}
+use Rattle.demands.proofs.History.{start-is}
+
+-- what a lapse comes to where its ask is for a good cell of the log
+lapsing-counted : (v : View) (h : Header) (held : OpenAsk) (i : ℕ) (c : Cell) → v .lent ≡ Sound h → OpenFor h held i → v .cell i ≡ Good c
+    → lapsing v held ≡ closes (change.Lapses i (oneMore (v .lapses i)))
+unfolding lapsing
+lapsing-counted v h held i c p o g = rw (o .open-ask, p, o .interval, g) refl
+
+pub counted : (s : List ℕ) (h : Header) (held : OpenAsk) (i : ℕ) (c : Cell) → soundOf s ≡ Sound h → OpenFor h held i → viewOf s .cell i ≡ Good c
+    → let o = lapsed s held in let v = viewOf (o .left) in
+    (o .result ≡ record { answer = Done; held = Closed }) × (v .lapses i ≡ oneMore (viewOf s .lapses i)) × (v .cell i ≡ Good c)
+unfolding lapsed changed
+counted s h held i c p o g =
+    let v = viewOf s in
+    let d = lapsing-counted v h held i c p o g in
+    let after : viewOf (lapsed s held .left) ≡ changed (change.Lapses i (oneMore (v .lapses i))) v =
+    lapsed-seen s held ∙ ap (λ (x : LapseDecision). changed (x .change) v) d in (
+      ap (λ (x : LapseDecision). x .lapsed) d,
+      ap (λ (w : View). w .lapses i) after ∙ ap (λ (b : Bool). cond b (oneMore (v .lapses i)) (v .lapses i)) (eq-eqb i i refl),
+      ap (λ (w : View). w .cell i) after ∙ g,
+    )
+
+pub below : (n : ℕ) → n < 255 → oneMore n ≡ n + 1
+unfolding oneMore
+below n l = simp (lt-ltb n 255 l)
+
+pub stays : oneMore 255 ≡ 255
+unfolding oneMore
+stays = refl
+
+pub no-lapse : (s : List ℕ) (held : OpenAsk) (y : List ℕ) → Bytes y → (i : ℕ) → viewOf (Take.taken s held y .left) .lapses i ≡ viewOf s .lapses i
+unfolding changed
+no-lapse s held y bytes i =
+    ap (λ (w : View). w .lapses i) (taken-seen s held y bytes)
+    ∙ decided-ways (λ (d : Decision). changed (d .change) (viewOf s) .lapses i ≡ viewOf s .lapses i) (viewOf s) held y (record {
+      kept-open = λ a n. refl;
+      closed = λ a n. refl;
+      put = λ h j c e o is. refl;
+    })
+
+-- ---- files of versions 1 and 2
+
+pub early : (f out : List ℕ) (n : ℕ) → Bytes f → versionAt f < 3 → readFile f out .result ≡ read.Done n
+    → (i : ℕ) → viewOf (take n (readFile f out .left)) .lapses i ≡ 0
+early f out n bytes e p i =
+    let y = readFile f out .left in
+    let a = file.accepted f bytes out y n (ap (λ (r : ReadAnswer). outcome r y) p) in
+    let w = a .whole in
+    let front = file.image-front f out y n a in
+    ap (λ (s : List ℕ). viewOf s .lapses i) front
+    ∙ ap (λ (v : View). v .lapses i) (view-image (a .header) (a .cells) (a .lapses) (w .right) (w .count) (w .each))
+    ∙ none (ltb i (length (a .cells))) (a .lapses i) (file.early-read f out y n a e i)
+  where
+    none : (b : Bool) (n : ℕ) → n ≡ 0 → cond b n 0 ≡ 0
+    none true n p = p
+    none false n p = refl
+
+pub early-had : (v : ℕ) (s out : List ℕ) (start : Start s) → isVersion v ≡ true → seasonsFit v (start .header) ≡ true → ((i : ℕ) → start .lapses i ≡ 0)
+    → length s ≤ length out
+    → readFile (fileBytesAs v (start .header) (start .cells) (start .lapses)) out ≡ outcome (read.Done (length s)) (s ++ drop (length s) out)
+early-had v s out start known seasons none l =
+    file.file-had v (start .header) (start .cells) (start .lapses) known seasons (λ n. none) (start-is start) s out (start .image) l

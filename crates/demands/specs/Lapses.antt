@@ -1,0 +1,42 @@
+-- Document 02, CR 7, "Never asked, or asked and not answered?". That a history fixes a cell's lapses, "added to what the file held and cut at 255", is demand 3's
+-- `log`; that a refused lapse leaves all that it was lent, demand 1's; here stands what a reader of the request looks for beside them. Proofs: `lapses`,
+-- proofs/Claims.antt.
+use mathlib.Core.Path.{_≡_}
+use mathlib.Core.Bool.{true}
+use mathlib.Core.List.{List, _++_}
+use Prim.Native.Nat.{ℕ, _+_, _≤_, _<_}
+use lib.ListN.{length, take, drop}
+use Rattle.refusal.specs.Outcome.{outcome}
+use Rattle.words.specs.Number.{Bytes}
+use Rattle.log.specs.Header.{versionAt, soundOf}
+use Rattle.log.specs.View.{viewOf}
+use Rattle.log.specs.declared.cell.Cell.{Cell}
+use Rattle.log.specs.declared.cell.CellAnswer.the-variants.{Good}
+use Rattle.log.specs.declared.header.Header.{Header}
+use Rattle.log.specs.declared.header.Lent.the-variants.{Sound}
+use Rattle.logfile.specs.File.{isVersion, seasonsFit, fileBytesAs}
+use Rattle.logfile.specs.Read.{readFile}
+use Rattle.logfile.specs.declared.read.ReadAnswer.the-variants as read
+use Rattle.logger.specs.Held.{OpenFor}
+use Rattle.logger.specs.Lapse.{lapsed, oneMore}
+use Rattle.logger.specs.Take.{taken}
+use Rattle.logger.specs.declared.held.OpenAsk.{OpenAsk}
+use Rattle.logger.specs.declared.held.OpenAsk.the-variants.{Closed}
+use Rattle.logger.specs.declared.no_reply.LapseAnswer.the-variants.{Done}
+use Rattle.demands.specs.Demand3.{Start}
+
+pub record Lapses : Type 0 where
+  -- "A lapse with an open ask now changes that byte": by one, "staying at 255"; the cell stays, the ask closes, the answer is 0
+  pub counted : (s : List ℕ) (h : Header) (held : OpenAsk) (i : ℕ) (c : Cell) → soundOf s ≡ Sound h → OpenFor h held i → viewOf s .cell i ≡ Good c
+      → let o = lapsed s held in let v = viewOf (o .left) in
+      (o .result ≡ record { answer = Done; held = Closed }) × (v .lapses i ≡ oneMore (viewOf s .lapses i)) × (v .cell i ≡ Good c)
+  pub below : (n : ℕ) → n < 255 → oneMore n ≡ n + 1
+  pub stays : oneMore 255 ≡ 255
+  -- a reply is no lapse, whatever it is: well formed or not, refused by the meter, with other counts
+  pub no-lapse : (s : List ℕ) (held : OpenAsk) (y : List ℕ) → Bytes y → (i : ℕ) → viewOf (taken s held y .left) .lapses i ≡ viewOf s .lapses i
+  -- "Versions 1 and 2 are read with zero lapses", and every start's file of such a version, where it has none, is read
+  pub early : (f out : List ℕ) (n : ℕ) → Bytes f → versionAt f < 3 → readFile f out .result ≡ read.Done n
+      → (i : ℕ) → viewOf (take n (readFile f out .left)) .lapses i ≡ 0
+  pub early-had : (v : ℕ) (s out : List ℕ) (start : Start s) → isVersion v ≡ true → seasonsFit v (start .header) ≡ true → ((i : ℕ) → start .lapses i ≡ 0)
+      → length s ≤ length out
+      → readFile (fileBytesAs v (start .header) (start .cells) (start .lapses)) out ≡ outcome (read.Done (length s)) (s ++ drop (length s) out)

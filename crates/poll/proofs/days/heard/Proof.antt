@@ -1,0 +1,33 @@
+-- What `settled` promises, with the ask that it leaves: `holding` puts it into the course.
+use borrow.Author.Needs.{needs}
+use Rattle.poll.proofs.days.heard.Statement.{statement}
+use Rattle.poll.proofs.days.heard.Tie as tie
+
+settled-requires : tie.Need-settled-requires
+settled-requires c κs = search needs
+
+counted-requires : tie.Need-counted-requires
+counted-requires c κs = search needs
+
+followed-requires : tie.Need-followed-requires
+followed-requires c κs = search needs
+
+holding-requires : tie.Need-holding-requires
+holding-requires c κs = search needs
+
+same-length : tie.Need-same-length
+same-length c = search needs
+
+returns : tie.Need-returns
+returns c = let settled = c .before .before .before .before .before .settled in rw (c .holding .ensures) (settled .ensures .1)
+
+pub heard-spec : {M : Type 1} → statement M
+heard-spec =
+    tie.close
+    (tie.spec
+    settled-requires
+    counted-requires
+    followed-requires
+    holding-requires
+    same-length
+    returns)
