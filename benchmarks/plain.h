@@ -44,12 +44,15 @@ uint16_t c_crc_fold(const uint8_t *p, size_t n);
 
 typedef uint16_t c_crc(const uint8_t *p, size_t n);
 
-uint8_t c_read_file(c_crc *crc, const uint8_t *f, size_t n, uint8_t *out, size_t room, size_t *length);
+uint8_t c_read_file(c_crc *crc, const uint8_t *f, size_t n, uint8_t *out, size_t room, uint32_t *figures, size_t numbers, size_t *length);
 uint8_t c_write_file(c_crc *crc, const uint8_t *log, size_t n, uint8_t *out, size_t room, size_t *length);
-uint8_t c_day_report(const uint8_t *log, size_t n, uint8_t day, uint32_t *row, size_t room);
-uint8_t c_take(uint8_t *log, size_t n, uint8_t *ask, size_t size, const uint8_t *reply, size_t bytes, uint8_t *result,
-               size_t *length);
+uint8_t c_take(c_crc *crc, uint8_t *log, size_t n, uint32_t *figures, size_t numbers, uint8_t *ask, size_t size, const uint8_t *reply,
+               size_t bytes, uint8_t *result, size_t *length);
 uint8_t c_lapse(uint8_t *log, size_t n, uint8_t *ask, size_t size);
+
+// A day's report by its row of the figures, and by a walk over its cells without them.
+uint8_t c_day_report(const uint8_t *log, size_t n, const uint32_t *figures, size_t numbers, uint8_t day, uint32_t *row, size_t room);
+uint8_t c_day_walk(const uint8_t *log, size_t n, uint8_t day, uint32_t *row, size_t room);
 
 int meter_right(const struct meter *m);
 int c_load(struct meter *m, const uint8_t *p);

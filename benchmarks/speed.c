@@ -14,6 +14,9 @@ enum { DAYS = 62, SLOTS = 96, CELL = 10, OLD_ROW = 9, IMAGE = 14 + CELL * DAYS *
 
 static uint8_t file[FULL + 1], ours_out[FULL], c_out[FULL];
 
+// The file's figures, and room for those of the two outputs and a row more.
+static uint32_t figures[METLAZUEL_DAY_FIGURES], ours_figures[METLAZUEL_DAY_FIGURES + METLAZUEL_ROW], c_figures[METLAZUEL_DAY_FIGURES + METLAZUEL_ROW];
+
 static uint32_t rolled = 1;
 
 static uint32_t roll(void)
@@ -91,16 +94,24 @@ static void differ(const char *what)
     exit(1);
 }
 
-static void same_read_of(const uint8_t *f, size_t n, size_t room)
+static void same_read_in(const uint8_t *f, size_t n, size_t room, size_t numbers)
 {
     size_t ours = 7, c = 7;
     memset(ours_out, 0xEE, sizeof ours_out);
     memset(c_out, 0xEE, sizeof c_out);
-    uint8_t a = metlazuel_read_file(f, n, ours_out, room, &ours), b = c_read_file(c_crc_appendix, f, n, c_out, room, &c);
-    if (a != b || ours != c || memcmp(ours_out, c_out, sizeof c_out) != 0)
+    memset(ours_figures, 0xEE, sizeof ours_figures);
+    memset(c_figures, 0xEE, sizeof c_figures);
+    uint8_t a = metlazuel_read_file(f, n, ours_out, room, ours_figures, numbers, &ours);
+    uint8_t b = c_read_file(c_crc_fold, f, n, c_out, room, c_figures, numbers, &c);
+    if (a != b || ours != c || memcmp(ours_out, c_out, sizeof c_out) != 0 || memcmp(ours_figures, c_figures, sizeof c_figures) != 0)
         differ("read");
     compared++;
     refused += a != 0;
+}
+
+static void same_read_of(const uint8_t *f, size_t n, size_t room)
+{
+    same_read_in(f, n, room, METLAZUEL_DAY_FIGURES);
 }
 
 static void same_read(size_t n, size_t room)
@@ -127,16 +138,33 @@ static void same_older(uint8_t version)
     same_read_of(older, n + 2, FULL);
 }
 
-static void same_report(size_t n, unsigned day, size_t room)
+static void same_report_in(size_t n, size_t numbers, unsigned day, size_t room)
 {
     uint32_t ours[METLAZUEL_ROW + 1], c[METLAZUEL_ROW + 1];
     memset(ours, 0xEE, sizeof ours);
     memset(c, 0xEE, sizeof c);
-    uint8_t a = metlazuel_day_report(file, n, (uint8_t)day, ours, room), b = c_day_report(file, n, (uint8_t)day, c, room);
+    uint8_t a = metlazuel_day_report(file, n, figures, numbers, (uint8_t)day, ours, room);
+    uint8_t b = c_day_report(file, n, figures, numbers, (uint8_t)day, c, room);
     if (a != b || memcmp(ours, c, sizeof c) != 0)
         differ("report");
     compared++;
     refused += a != 0;
+}
+
+static void same_report(size_t n, unsigned day, size_t room)
+{
+    same_report_in(n, METLAZUEL_DAY_FIGURES, day, room);
+}
+
+// Figures that were kept are those of a walk over the cells.
+static void same_walk(const uint8_t *log, size_t n, const uint32_t *kept_figures)
+{
+    uint32_t walked[METLAZUEL_ROW];
+    for (unsigned day = 0; day < log[8]; day++) {
+        if (c_day_walk(log, n, (uint8_t)day, walked, METLAZUEL_ROW) != 0 || memcmp(walked, kept_figures + METLAZUEL_ROW * day, sizeof walked) != 0)
+            differ("figures");
+        compared++;
+    }
 }
 
 static void same_crc(size_t from, size_t n)
@@ -254,8 +282,8 @@ static void same_write(size_t n, size_t room)
     refused += a != 0;
 }
 
-// A reply to an open ask, into two copies of the file's image.
-static void same_take(const uint8_t *open, size_t size, const uint8_t *reply, size_t bytes)
+// A reply to an open ask, into two copies of the file's image and of its figures.
+static void same_take_in(size_t n, size_t numbers, const uint8_t *open, size_t size, const uint8_t *reply, size_t bytes)
 {
     uint8_t a[5], b[5], ours = 7, c = 7;
     size_t ours_length = 99, c_length = 99;
@@ -263,12 +291,88 @@ static void same_take(const uint8_t *open, size_t size, const uint8_t *reply, si
     memcpy(b, open, sizeof b);
     memcpy(ours_out, file, IMAGE);
     memcpy(c_out, file, IMAGE);
-    uint8_t x = metlazuel_take(ours_out, IMAGE, a, size, reply, bytes, &ours, &ours_length);
-    uint8_t y = c_take(c_out, IMAGE, b, size, reply, bytes, &c, &c_length);
+    memcpy(ours_figures, figures, sizeof figures);
+    memcpy(c_figures, figures, sizeof figures);
+    uint8_t x = metlazuel_take(ours_out, n, ours_figures, numbers, a, size, reply, bytes, &ours, &ours_length);
+    uint8_t y = c_take(c_crc_appendix, c_out, n, c_figures, numbers, b, size, reply, bytes, &c, &c_length);
     if (x != y || ours != c || ours_length != c_length || memcmp(a, b, sizeof a) != 0 || memcmp(ours_out, c_out, IMAGE) != 0)
         differ("take");
+    if (memcmp(ours_figures, c_figures, sizeof figures) != 0)
+        differ("take's figures");
     compared++;
     refused += x != 0;
+}
+
+static void same_take(const uint8_t *open, size_t size, const uint8_t *reply, size_t bytes)
+{
+    same_take_in(IMAGE, METLAZUEL_DAY_FIGURES, open, size, reply, bytes);
+}
+
+// Figures at their ends, for a gap, an empty and a measured cell and a reply with counts and without; and too few of them.
+static void compare_figures(void)
+{
+    static const uint32_t ends[] = {0, 1, UINT32_MAX - 1, UINT32_MAX};
+    uint8_t ask[5] = {1, 1, 30, 7, 0x55}, r[14] = {1, 3, 36, 0}, *cell = file + 14 + CELL * (30 * SLOTS + 7), was[CELL];
+    memcpy(was, cell, CELL);
+    for (unsigned kind = 0; kind < 3; kind++)
+        for (unsigned counts = 0; counts < 3; counts++) {
+            memset(cell, 0, CELL);
+            cell[0] = (uint8_t)kind;
+            cell[1] = kind == 2;
+            memset(r + 4, 0, 8);
+            r[4] = (uint8_t)counts;
+            r[11] = counts == 2 ? 255 : 0;
+            seal_frame(r, 14);
+            for (unsigned k = 0; k < METLAZUEL_ROW; k++)
+                for (size_t e = 0; e < sizeof ends / sizeof ends[0]; e++) {
+                    uint32_t *figure = figures + 30 * METLAZUEL_ROW + k, before = *figure;
+                    *figure = ends[e];
+                    same_take(ask, 4, r, 14);
+                    *figure = before;
+                }
+            for (size_t few = 0; few < 10; few++)
+                same_take_in(IMAGE, METLAZUEL_DAY_FIGURES - few, ask, 4, r, 14);
+            for (size_t n = 0; n < 20; n++)
+                same_take_in(IMAGE - n, METLAZUEL_DAY_FIGURES, ask, 4, r, 14);
+        }
+    memcpy(cell, was, CELL);
+    for (size_t few = 0; few < 10; few++) {
+        same_report_in(IMAGE, METLAZUEL_DAY_FIGURES - few, 61, METLAZUEL_ROW);
+        same_report_in(IMAGE, METLAZUEL_DAY_FIGURES - few, 62, METLAZUEL_ROW);
+        same_read_in(file, FULL, IMAGE, METLAZUEL_DAY_FIGURES - few);
+        same_read_in(file, FULL, IMAGE - 1, METLAZUEL_DAY_FIGURES - few);
+    }
+}
+
+// A year's logs of whole and half hours, filled slot by slot in an order of their own, with replies some of which are zeros or come again: each
+// answer is C's, and the figures are those of a walk.
+static void compare_filled(unsigned year, unsigned month, unsigned minutes)
+{
+    unsigned slots = minutes == 15 ? 96 : 48, days = 31;
+    size_t n = 0, cells = days * slots;
+    if (metlazuel_log_fresh(ours_out, FULL, ours_figures, METLAZUEL_DAY_FIGURES, (uint8_t)year, (uint8_t)month, 20, (uint8_t)days, (uint8_t)minutes, 100, 1, &n) != 0)
+        differ("fresh");
+    memcpy(c_out, ours_out, n);
+    memcpy(c_figures, ours_figures, sizeof figures);
+    same_walk(ours_out, n, ours_figures);
+    for (size_t i = 0; i < 2 * cells; i++) {
+        size_t at = i * 1001 % cells;
+        uint8_t a[4] = {1, 1, (uint8_t)(at / slots), (uint8_t)(at % slots)}, b[4], r[14] = {1, 3, 36, 0}, ours = 7, c = 7;
+        size_t ours_length = 99, c_length = 99;
+        memcpy(b, a, sizeof b);
+        for (int k = 4; k < 12 && i % 5 != 0; k++)
+            r[k] = (uint8_t)(i < cells ? roll() : 0);
+        seal_frame(r, 14);
+        uint8_t x = metlazuel_take(ours_out, n, ours_figures, METLAZUEL_DAY_FIGURES, a, 4, r, 14, &ours, &ours_length);
+        uint8_t y = c_take(c_crc_words, c_out, n, c_figures, METLAZUEL_DAY_FIGURES, b, 4, r, 14, &c, &c_length);
+        if (x != y || memcmp(a, b, sizeof a) != 0)
+            differ("filling");
+        compared++;
+        refused += x != 0;
+    }
+    if (memcmp(ours_out, c_out, n) != 0 || memcmp(ours_figures, c_figures, sizeof figures) != 0)
+        differ("a filled log");
+    same_walk(ours_out, n, ours_figures);
 }
 
 // A lapse of an open ask, over two copies of the file's image.
@@ -501,14 +605,30 @@ static void fold_crc(void) { sink += c_crc_fold(file, IMAGE); }
 static void ours_short(void) { sink += metlazuel_crc16(file, 14); }
 static void appendix_short(void) { sink += c_crc_appendix(file, 14); }
 static void fold_short(void) { sink += c_crc_fold(file, 14); }
-static void ours_read(void) { sink += metlazuel_read_file(file, FULL, ours_out, FULL, &length); }
-static void plain_read(void) { sink += c_read_file(c_crc_appendix, file, FULL, c_out, FULL, &length); }
-static void fold_read(void) { sink += c_read_file(c_crc_fold, file, FULL, c_out, FULL, &length); }
+
+static void ours_read(void)
+{
+    sink += metlazuel_read_file(file, FULL, ours_out, FULL, ours_figures, METLAZUEL_DAY_FIGURES, &length);
+}
+
+static void read_by(c_crc *crc) { sink += c_read_file(crc, file, FULL, c_out, FULL, c_figures, METLAZUEL_DAY_FIGURES, &length); }
+static void plain_read(void) { read_by(c_crc_appendix); }
+static void fold_read(void) { read_by(c_crc_fold); }
 static void ours_write(void) { sink += metlazuel_write_file(file, IMAGE, ours_out, FULL, &length); }
 static void plain_write(void) { sink += c_write_file(c_crc_appendix, file, IMAGE, c_out, FULL, &length); }
 static void fold_write(void) { sink += c_write_file(c_crc_fold, file, IMAGE, c_out, FULL, &length); }
-static void ours_report(void) { sink += metlazuel_day_report(file, IMAGE, 30, row, METLAZUEL_ROW); }
-static void plain_report(void) { sink += c_day_report(file, IMAGE, 30, row, METLAZUEL_ROW); }
+
+// The same days with half the slots.
+enum { HALF = 14 + CELL * DAYS * SLOTS / 2 };
+
+static uint8_t half[HALF];
+static uint32_t half_figures[METLAZUEL_DAY_FIGURES];
+
+static void ours_report(void) { sink += metlazuel_day_report(file, IMAGE, figures, METLAZUEL_DAY_FIGURES, 30, row, METLAZUEL_ROW); }
+static void ours_half(void) { sink += metlazuel_day_report(half, HALF, half_figures, METLAZUEL_DAY_FIGURES, 30, row, METLAZUEL_ROW); }
+static void plain_walk(void) { sink += c_day_walk(file, IMAGE, 30, row, METLAZUEL_ROW); }
+static void plain_half(void) { sink += c_day_walk(half, HALF, 30, row, METLAZUEL_ROW); }
+static void plain_report(void) { sink += c_day_report(file, IMAGE, figures, METLAZUEL_DAY_FIGURES, 30, row, METLAZUEL_ROW); }
 
 static uint8_t clock_frame[8] = {1, 3, 32, 0, 0, 0}, last_frame[8] = {1, 3, 36, 5, 31, 95}, absent_frame[8] = {1, 3, 36, 6, 31, 95};
 static uint8_t displayed_frame[8] = {1, 4, 36, 0, 0, 0};
@@ -540,17 +660,62 @@ static void make_reply(void)
     memcpy(lapsing, file, IMAGE);
 }
 
-static void ours_take(void)
+static void ours_again(void)
 {
     uint8_t ask[4] = {1, 1, DAYS - 1, SLOTS - 1};
-    sink += metlazuel_take(file, IMAGE, ask, 4, taken, 14, &result, &received);
+    sink += metlazuel_take(file, IMAGE, figures, METLAZUEL_DAY_FIGURES, ask, 4, taken, 14, &result, &received);
 }
 
-static void plain_take(void)
+static void again_by(c_crc *crc)
 {
     uint8_t ask[4] = {1, 1, DAYS - 1, SLOTS - 1};
-    sink += c_take(file, IMAGE, ask, 4, taken, 14, &result, &received);
+    sink += c_take(crc, file, IMAGE, figures, METLAZUEL_DAY_FIGURES, ask, 4, taken, 14, &result, &received);
 }
+
+static void plain_again(void) { again_by(c_crc_appendix); }
+static void fold_again(void) { again_by(c_crc_fold); }
+
+// A log that is filled: each call takes the reply to an ask for its next gap, and after the last one it is fresh again.
+struct filling {
+    uint8_t log[IMAGE], day, slot;
+    uint32_t figures[METLAZUEL_DAY_FIGURES];
+};
+
+static struct filling fresh, ours_filling, plain_filling, fold_filling;
+
+static void make_fresh(void)
+{
+    if (metlazuel_log_fresh(fresh.log, IMAGE, fresh.figures, METLAZUEL_DAY_FIGURES, 24, 5, 17, DAYS, 15, 100, 1, &length) != 0)
+        exit(1);
+    ours_filling = plain_filling = fold_filling = fresh;
+}
+
+static void next_gap(struct filling *f)
+{
+    if (++f->slot == SLOTS) {
+        f->slot = 0;
+        if (++f->day == DAYS)
+            *f = fresh;
+    }
+}
+
+static void ours_take(void)
+{
+    struct filling *f = &ours_filling;
+    uint8_t ask[4] = {1, 1, f->day, f->slot};
+    sink += metlazuel_take(f->log, IMAGE, f->figures, METLAZUEL_DAY_FIGURES, ask, 4, taken, 14, &result, &received);
+    next_gap(f);
+}
+
+static void take_by(c_crc *crc, struct filling *f)
+{
+    uint8_t ask[4] = {1, 1, f->day, f->slot};
+    sink += c_take(crc, f->log, IMAGE, f->figures, METLAZUEL_DAY_FIGURES, ask, 4, taken, 14, &result, &received);
+    next_gap(f);
+}
+
+static void plain_take(void) { take_by(c_crc_appendix, &plain_filling); }
+static void fold_take(void) { take_by(c_crc_fold, &fold_filling); }
 
 static void ours_lapse(void)
 {
@@ -583,8 +748,13 @@ static const struct row rows[] = {
     ROW("file of 5,952 cells read, C by the same fold", ours_read, fold_read, 20),
     ROW("file of 5,952 cells written, C by 002's tables", ours_write, plain_write, 20),
     ROW("file of 5,952 cells written, C by the same fold", ours_write, fold_write, 20),
-    ROW("report of a day of 96 slots", ours_report, plain_report, 5000),
-    ROW("reply to an ask taken into the log", ours_take, plain_take, 5000),
+    ROW("report of a day of 96 slots, C by a walk", ours_report, plain_walk, 5000),
+    ROW("report of a day of 96 slots, C by a copy", ours_report, plain_report, 5000),
+    ROW("report of a day of 48 slots, C by a walk", ours_half, plain_half, 5000),
+    ROW("reply taken into a gap, C by 002's tables", ours_take, plain_take, 5952),
+    ROW("reply taken into a gap, C by the same fold", ours_take, fold_take, 5952),
+    ROW("reply taken again, C by 002's tables", ours_again, plain_again, 5000),
+    ROW("reply taken again, C by the same fold", ours_again, fold_again, 5000),
     ROW("lapse of an ask", ours_lapse, plain_lapse, 5000),
     ROW("meter: the clock read", ours_clock, plain_clock, 5000),
     ROW("meter: a slice in the last of 2,976 places", ours_last, plain_last, 200),
@@ -675,12 +845,27 @@ static void count(void)
     }
 }
 
+// The log of half the slots, and what both reports copy.
+static void make_figures(void)
+{
+    memcpy(half, file, 14);
+    half[9] = 30;
+    for (size_t i = 0; i < DAYS * SLOTS / 2; i++)
+        memcpy(half + 14 + CELL * i, file + 14 + 2 * CELL * i, CELL);
+    for (unsigned day = 0; day < DAYS; day++)
+        if (c_day_walk(file, IMAGE, (uint8_t)day, figures + METLAZUEL_ROW * day, METLAZUEL_ROW) != 0
+            || c_day_walk(half, HALF, (uint8_t)day, half_figures + METLAZUEL_ROW * day, METLAZUEL_ROW) != 0)
+            exit(1);
+}
+
 int main(int words, char **word)
 {
     make_tables();
     make_file();
+    make_figures();
     make_meter();
     make_reply();
+    make_fresh();
     seal_frame(clock_frame, 8);
     seal_frame(last_frame, 8);
     seal_frame(absent_frame, 8);
@@ -693,6 +878,11 @@ int main(int words, char **word)
     compare();
     compare_log();
     compare_lapses();
+    compare_figures();
+    for (unsigned month = 3; month <= 10; month += 7) {
+        compare_filled(24, month, 15);
+        compare_filled(24, month, 30);
+    }
     compare_nights();
     compare_bench();
     compare_meter();

@@ -12,8 +12,8 @@
 #include <stddef.h>
 #include <stdint.h>
 
-// What is declared here, as major * 10000 + minor * 100 + patch: 5.0.0. What is there today stays as it is while the major number does.
-#define METLAZUEL_VERSION 50000
+// What is declared here, as major * 10000 + minor * 100 + patch: 6.0.0. What is there today stays as it is while the major number does.
+#define METLAZUEL_VERSION 60000
 
 #ifdef __cplusplus
 extern "C" {
@@ -22,7 +22,7 @@ extern "C" {
 // The answers: the numbers of document 01's refusal table, and 16, 40, 41 and 50 to 54 of document 02.
 enum metlazuel_answer {
     METLAZUEL_DONE = 0,
-    METLAZUEL_TOO_SHORT = 1,          // a lent output that is too short
+    METLAZUEL_TOO_SHORT = 1,          // a lent output that is too short, or fewer figures than the log has
     METLAZUEL_SILENT = 2,             // meter: a frame with a wrong length, CRC or address, which it passes over
     METLAZUEL_UNKNOWN_FUNCTION = 10,  // meter; 10 to 16 come with a refusal frame
     METLAZUEL_UNKNOWN_PARAMETER = 11, // meter
@@ -38,7 +38,7 @@ enum metlazuel_answer {
     METLAZUEL_OTHER_COUNTS = 25,      // a reply with other counts than those measured
     METLAZUEL_NOT_FINITE = 26,        // a reply of floats with an infinity or no number
     METLAZUEL_OUT_OF_RANGE = 27,      // a bench setting, a new log's header, or a request
-    METLAZUEL_UNSOUND = 28,           // lent bytes that are no log, no cell of one, no ask or no meter's record
+    METLAZUEL_UNSOUND = 28,           // lent bytes that are no log, no cell of one, no ask or no meter's record, or a figure that is not the log's
     METLAZUEL_FILE_MARK = 30,         // a file that is no log's, or of fewer than 5 bytes
     METLAZUEL_FILE_VERSION = 31,
     METLAZUEL_FILE_HEADER = 32,
@@ -67,6 +67,7 @@ enum {
     METLAZUEL_FILE_BYTES = METLAZUEL_LOG_BYTES + 2, // and its file, with a CRC
     METLAZUEL_COUNTS = 4,          // the counts of a cell, in 16-bit numbers: E+, E-, R+, R-
     METLAZUEL_ROW = 8,             // a day's report, in 32-bit numbers
+    METLAZUEL_DAY_FIGURES = 62 * METLAZUEL_ROW, // the figures of the longest log, a row for each day, in 32-bit numbers: 496
     METLAZUEL_FIGURES = 24,        // the most figures of a reply, in 32-bit numbers
     METLAZUEL_MERCURY_REQUEST_BYTES = 7, // a Mercury 206's request
     METLAZUEL_MERCURY_FIGURES = 8, // the most figures of its replies, in 32-bit numbers
@@ -114,6 +115,15 @@ uint16_t metlazuel_crc16(const uint8_t *bytes, size_t n);
 // (4 and 5 of 30 minutes, 8 to 11 of 15) do not exist on that day. Their cells stay gaps, but they are NOT_IN_LOG to metlazuel_ask,
 // metlazuel_take and metlazuel_cell, and neither the report nor the next gap counts them. On the last Sunday of October that hour comes twice
 // under one key: its slots are logged as any other, and the report tells how many of them are measured.
+//
+// Beside the log stand its figures: METLAZUEL_ROW numbers a day, day after day, each row as metlazuel_day_report gives it, so METLAZUEL_DAY_FIGURES
+// at most. They spare the report the walk over the day's cells. The caller owns log, figures and open ask, and the three go together: each call that
+// takes one of them is lent it as the calls before left it, and nothing else writes into them. metlazuel_log_fresh and metlazuel_read_file fill log and
+// figures, and metlazuel_take keeps both right; metlazuel_ask, metlazuel_lapse, metlazuel_cell, metlazuel_next_gap and metlazuel_write_file neither read
+// nor change a figure, and are lent none. More numbers may be lent than the log has: the rest stays as it is. A file does not carry figures: whoever reads
+// it gets them with the log. So after any such calls every figure is what a walk over the cells gives. Figures that are another log's, or were written
+// by hand, are not found out by a walk: metlazuel_day_report copies what it is lent, and metlazuel_take changes it by what the one cell changed, or
+// answers UNSOUND where a figure would fall below 0 or pass 32 bits. A log whose figures were lost is written as a file and read back.
 
 // What a cell is.
 enum metlazuel_kind {
@@ -147,9 +157,10 @@ enum {
 enum { METLAZUEL_NO_GAP = 255 };
 
 // A fresh log, all gaps, that starts on a date (the year counts from 2000) and has 1 to 62 days of slots of 15 or 30 minutes, and ke
-// milliwatt-hours a count; seasons is 1 where it follows the automatic seasons, else 0. OUT_OF_RANGE, TOO_SHORT, else DONE.
-uint8_t metlazuel_log_fresh(uint8_t *log, size_t room, uint8_t year, uint8_t month, uint8_t day, uint8_t days, uint8_t minutes,
-                            uint16_t ke, uint8_t seasons, size_t *length);
+// milliwatt-hours a count; seasons is 1 where it follows the automatic seasons, else 0. Its figures go to the front of figures. OUT_OF_RANGE, TOO_SHORT
+// (log or figures), else DONE. A refusal leaves log, figures and *length.
+uint8_t metlazuel_log_fresh(uint8_t *log, size_t room, uint32_t *figures, size_t numbers, uint8_t year, uint8_t month, uint8_t day,
+                            uint8_t days, uint8_t minutes, uint16_t ke, uint8_t seasons, size_t *length);
 
 // The cell of a slot of a day, both counted from 0: its kind to *kind, one of enum metlazuel_kind, its counts E+, E-, R+, R- to counts, zeros
 // unless it is measured, and how many asks for it lapsed to *lapses, of every kind. UNSOUND (log), NOT_IN_LOG, UNSOUND (the cell), else DONE. A
@@ -158,7 +169,7 @@ uint8_t metlazuel_cell(const uint8_t *log, size_t n, uint8_t day, uint8_t slot, 
                        uint8_t *lapses);
 
 // The first slot of a day, from a slot on, whose cell is a gap, to *slot; METLAZUEL_NO_GAP where there is none, also from a slot on that
-// the day does not have. A damaged cell is no gap: metlazuel_cell and metlazuel_day_report find it; nor is one of a slot that does not exist.
+// the day does not have. A damaged cell is no gap: metlazuel_cell and metlazuel_write_file find it; nor is one of a slot that does not exist.
 // UNSOUND (log), NOT_IN_LOG (the day), else DONE, found or not. A refusal leaves *slot. All gaps of a day:
 //   for (uint8_t slot = 0; metlazuel_next_gap(log, n, day, slot, &slot) == METLAZUEL_DONE && slot != METLAZUEL_NO_GAP; slot++)
 uint8_t metlazuel_next_gap(const uint8_t *log, size_t n, uint8_t day, uint8_t from, uint8_t *slot);
@@ -177,25 +188,28 @@ uint8_t metlazuel_ask(const uint8_t *log, size_t n, uint8_t *ask, size_t size, u
 // log and ask, so that the ask is still open.
 uint8_t metlazuel_lapse(uint8_t *log, size_t n, uint8_t *ask, size_t size);
 
-// Takes a reply for the open ask into the log. UNSOUND (log or ask), NO_ASK_OPEN, NOT_IN_LOG, REPLY_LENGTH (the length received is stored
-// through length, which every other answer leaves) to REPLY_PARAMETER, the first that is wrong (the ask stays open), METER_REFUSED (the ask
-// is closed, and the meter's result stored through result, which every other answer leaves), UNSOUND (the interval's cell), OTHER_COUNTS
-// (the ask is closed, the cell stays), else DONE (the ask is closed).
-uint8_t metlazuel_take(uint8_t *log, size_t n, uint8_t *ask, size_t size, const uint8_t *reply, size_t bytes, uint8_t *result,
-                       size_t *length);
+// Takes a reply for the open ask into the log, and its day's row of figures goes with it. UNSOUND (ask or log), TOO_SHORT (fewer figures than the log
+// has), NO_ASK_OPEN, NOT_IN_LOG, REPLY_LENGTH (the length received is stored through length, which every other answer leaves) to REPLY_PARAMETER, the
+// first that is wrong (the ask stays open), METER_REFUSED (the ask is closed, and the meter's result stored through result, which every other answer
+// leaves), UNSOUND (the interval's cell), OTHER_COUNTS (the ask is closed, the cell stays), UNSOUND (the day's figures cannot be this log's: one would
+// fall below 0 or pass 32 bits; nothing is changed at all, and the ask stays open), else DONE (the ask is closed).
+uint8_t metlazuel_take(uint8_t *log, size_t n, uint32_t *figures, size_t numbers, uint8_t *ask, size_t size, const uint8_t *reply,
+                       size_t bytes, uint8_t *result, size_t *length);
 
 // A day's report, the days counted from 0: the number of gaps, empty and measured cells of the slots that exist, then the sums of E+, E-, R+
 // and R-, and how many of the measured slots came twice (0 but on the last Sunday of October, where seasons are followed), to the front of
-// a row of at least METLAZUEL_ROW numbers. TOO_SHORT, UNSOUND (log), NOT_IN_LOG, UNSOUND (a cell of an existing slot of the day), else DONE.
-uint8_t metlazuel_day_report(const uint8_t *log, size_t n, uint8_t day, uint32_t *row, size_t room);
+// a row of at least METLAZUEL_ROW numbers. It is the day's row of the figures that are lent: no cell is read, so a damaged one is no matter here. TOO_SHORT
+// (the row), UNSOUND (log), TOO_SHORT (fewer figures than the log has), NOT_IN_LOG, else DONE.
+uint8_t metlazuel_day_report(const uint8_t *log, size_t n, const uint32_t *figures, size_t numbers, uint8_t day, uint32_t *row, size_t room);
 
 // A log, written as a file of version 3 to the front of out, its length to *length. UNSOUND (header, length), TOO_SHORT, UNSOUND (a cell, also
 // one that is no gap, or has lapses, in a slot that does not exist), else DONE.
 uint8_t metlazuel_write_file(const uint8_t *log, size_t n, uint8_t *out, size_t room, size_t *length);
 
 // A file of version 3, of version 2, which has no lapses, or of version 1, which follows no seasons either, read as a log to the front of out, the
-// image's length to *length: one byte a cell more than the cells of versions 1 and 2 have. FILE_MARK to FILE_CELL, TOO_SHORT, else DONE.
-uint8_t metlazuel_read_file(const uint8_t *file, size_t n, uint8_t *out, size_t room, size_t *length);
+// image's length to *length: one byte a cell more than the cells of versions 1 and 2 have. Its figures, by a walk over all its cells, go to the front of
+// figures. FILE_MARK to FILE_CELL, TOO_SHORT (out or figures), else DONE. A refusal leaves out, figures and *length.
+uint8_t metlazuel_read_file(const uint8_t *file, size_t n, uint8_t *out, size_t room, uint32_t *figures, size_t numbers, size_t *length);
 
 // ---- read requests and their replies, without a log
 //

@@ -11,6 +11,9 @@ enum { METER = 1, MERCURY = 1234 };
 static uint8_t record[METLAZUEL_RECORD_BYTES], store[METLAZUEL_STORE_BYTES];
 static uint8_t image[METLAZUEL_LOG_BYTES], file[METLAZUEL_FILE_BYTES], back[METLAZUEL_LOG_BYTES];
 
+// The log's figures, lent beside it as the calls before left them, and those of the log that is read back.
+static uint32_t figures[METLAZUEL_DAY_FIGURES], again[METLAZUEL_DAY_FIGURES];
+
 // Stops at an answer that is not the one to come.
 static void expect(const char *call, uint8_t answer, uint8_t wanted)
 {
@@ -69,9 +72,12 @@ static void fill(size_t n)
         if (slot == 2)
             expect("lapse", metlazuel_lapse(image, n, ask, sizeof ask), METLAZUEL_DONE);
         else
-            expect("take", metlazuel_take(image, n, ask, sizeof ask, reply, length, &result, &received), METLAZUEL_DONE);
+            expect("take",
+                   metlazuel_take(image, n, figures, METLAZUEL_DAY_FIGURES, ask, sizeof ask, reply, length, &result, &received),
+                   METLAZUEL_DONE);
     }
-    expect("take", metlazuel_take(image, n, ask, sizeof ask, reply, sizeof reply, &result, &received), METLAZUEL_NO_ASK_OPEN);
+    expect("take", metlazuel_take(image, n, figures, METLAZUEL_DAY_FIGURES, ask, sizeof ask, reply, sizeof reply, &result, &received),
+           METLAZUEL_NO_ASK_OPEN);
 }
 
 // The cells of the three slots, and the day's gaps.
@@ -96,21 +102,23 @@ static void show_cells(size_t n)
 static void report(size_t n, const char *date)
 {
     uint32_t row[METLAZUEL_ROW];
-    expect("day_report", metlazuel_day_report(image, n, 0, row, METLAZUEL_ROW), METLAZUEL_DONE);
+    expect("day_report", metlazuel_day_report(image, n, figures, METLAZUEL_DAY_FIGURES, 0, row, METLAZUEL_ROW), METLAZUEL_DONE);
     printf("date gap empty measured E+ E- R+ R- doubled\n%s", date);
     for (int i = 0; i < METLAZUEL_ROW; i++)
         printf(" %u", (unsigned)row[i]);
     printf("\n");
 }
 
-// The file, and the log read back from it.
+// The file, and the log read back from it, with the figures that the file does not carry.
 static void save(size_t n)
 {
-    size_t length, again;
+    size_t length, m;
     expect("write_file", metlazuel_write_file(image, n, file, sizeof file, &length), METLAZUEL_DONE);
-    expect("read_file", metlazuel_read_file(file, length, back, sizeof back, &again), METLAZUEL_DONE);
-    printf("file of %u bytes, CRC %04X, read back %s\n", (unsigned)length, metlazuel_crc16(file, n),
-           again == n && memcmp(back, image, n) == 0 ? "the same" : "another");
+    expect("read_file", metlazuel_read_file(file, length, back, sizeof back, again, METLAZUEL_ROW - 1, &m), METLAZUEL_TOO_SHORT);
+    expect("read_file", metlazuel_read_file(file, length, back, sizeof back, again, METLAZUEL_ROW, &m), METLAZUEL_DONE);
+    printf("file of %u bytes, CRC %04X, read back %s, its figures %s\n", (unsigned)length, metlazuel_crc16(file, n),
+           m == n && memcmp(back, image, n) == 0 ? "the same" : "another",
+           memcmp(again, figures, METLAZUEL_ROW * sizeof *figures) == 0 ? "too" : "are others");
 }
 
 // A parameter without further fields, read and decoded; a reply with a damaged byte, or one that is cut, is not taken for one.
@@ -167,16 +175,19 @@ static void show_seasons(void)
 {
     uint8_t ask[METLAZUEL_ASK_BYTES] = {0}, frame[METLAZUEL_REQUEST_BYTES], reply[METLAZUEL_FRAME_BYTES], result, slot;
     size_t n, received;
-    expect("log_fresh", metlazuel_log_fresh(image, sizeof image, 24, 3, 31, 1, 30, 100, 1, &n), METLAZUEL_DONE);
+    expect("log_fresh", metlazuel_log_fresh(image, sizeof image, figures, METLAZUEL_DAY_FIGURES, 24, 3, 31, 1, 30, 100, 1, &n),
+           METLAZUEL_DONE);
     expect("ask", metlazuel_ask(image, n, ask, sizeof ask, METER, 0, 5, frame, sizeof frame), METLAZUEL_NOT_IN_LOG);
     expect("next_gap", metlazuel_next_gap(image, n, 0, 4, &slot), METLAZUEL_DONE);
     printf("31 March, from slot 4 on: the next gap is slot %u\n", slot);
     report(n, "2024-03-31");
     expect("meter_slice", metlazuel_meter_slice(record, sizeof record, store, sizeof store, 10, 27, 5, 7, 0, 0, 0), METLAZUEL_DONE);
-    expect("log_fresh", metlazuel_log_fresh(image, sizeof image, 24, 10, 27, 1, 30, 100, 1, &n), METLAZUEL_DONE);
+    expect("log_fresh", metlazuel_log_fresh(image, sizeof image, figures, METLAZUEL_DAY_FIGURES, 24, 10, 27, 1, 30, 100, 1, &n),
+           METLAZUEL_DONE);
     expect("ask", metlazuel_ask(image, n, ask, sizeof ask, METER, 0, 5, frame, sizeof frame), METLAZUEL_DONE);
     size_t length = exchange(frame, reply);
-    expect("take", metlazuel_take(image, n, ask, sizeof ask, reply, length, &result, &received), METLAZUEL_DONE);
+    expect("take", metlazuel_take(image, n, figures, METLAZUEL_DAY_FIGURES, ask, sizeof ask, reply, length, &result, &received),
+           METLAZUEL_DONE);
     report(n, "2024-10-27");
 }
 
@@ -221,7 +232,8 @@ int main(void)
 {
     size_t n;
     make_meter();
-    expect("log_fresh", metlazuel_log_fresh(image, sizeof image, 24, 5, 17, 1, 30, 100, 0, &n), METLAZUEL_DONE);
+    expect("log_fresh", metlazuel_log_fresh(image, sizeof image, figures, METLAZUEL_DAY_FIGURES, 24, 5, 17, 1, 30, 100, 0, &n),
+           METLAZUEL_DONE);
     fill(n);
     show_cells(n);
     report(n, "2024-05-17");

@@ -8,6 +8,7 @@ enum { METER = 7, DAYS = 62, MINUTES = 15, KE = 0x1234, SEASONS = 1, PASSWORD_BY
 
 static uint8_t record[METLAZUEL_RECORD_BYTES], store[METLAZUEL_STORE_BYTES + 1];
 static uint8_t image[METLAZUEL_LOG_BYTES], file[METLAZUEL_FILE_BYTES];
+static uint32_t figures[METLAZUEL_DAY_FIGURES];
 static int wrong;
 
 static void check(const char *what, int agrees)
@@ -28,15 +29,23 @@ static void longest_log(void)
 {
     size_t n = 0, length = 0;
     check("a shorter log's room",
-          metlazuel_log_fresh(image, sizeof image - 1, 24, 5, 17, DAYS, MINUTES, KE, SEASONS, &n) == METLAZUEL_TOO_SHORT);
-    check("a log's room", metlazuel_log_fresh(image, sizeof image, 24, 5, 17, DAYS, MINUTES, KE, SEASONS, &n) == METLAZUEL_DONE);
+          metlazuel_log_fresh(image, sizeof image - 1, figures, METLAZUEL_DAY_FIGURES, 24, 5, 17, DAYS, MINUTES, KE, SEASONS, &n)
+              == METLAZUEL_TOO_SHORT);
+    check("fewer figures",
+          metlazuel_log_fresh(image, sizeof image, figures, METLAZUEL_DAY_FIGURES - 1, 24, 5, 17, DAYS, MINUTES, KE, SEASONS, &n)
+              == METLAZUEL_TOO_SHORT);
+    check("a log's room", metlazuel_log_fresh(image, sizeof image, figures, METLAZUEL_DAY_FIGURES, 24, 5, 17, DAYS, MINUTES, KE, SEASONS, &n)
+                              == METLAZUEL_DONE);
     check("a log's length", n == METLAZUEL_LOG_BYTES);
     check("a shorter file's room", metlazuel_write_file(image, n, file, sizeof file - 1, &length) == METLAZUEL_TOO_SHORT);
     check("a file's room", metlazuel_write_file(image, n, file, sizeof file, &length) == METLAZUEL_DONE);
     check("a file's length", length == METLAZUEL_FILE_BYTES);
     check("a longer log",
-          metlazuel_log_fresh(image, sizeof image, 24, 5, 17, DAYS + 1, MINUTES, KE, SEASONS, &n) == METLAZUEL_OUT_OF_RANGE);
-    check("seasons of 2", metlazuel_log_fresh(image, sizeof image, 24, 5, 17, DAYS, MINUTES, KE, 2, &n) == METLAZUEL_OUT_OF_RANGE);
+          metlazuel_log_fresh(image, sizeof image, figures, 0, 24, 5, 17, DAYS + 1, MINUTES, KE, SEASONS, &n) == METLAZUEL_OUT_OF_RANGE);
+    check("seasons of 2", metlazuel_log_fresh(image, sizeof image, figures, METLAZUEL_DAY_FIGURES, 24, 5, 17, DAYS, MINUTES, KE, 2, &n)
+                              == METLAZUEL_OUT_OF_RANGE);
+    check("a day of gaps", figures[0] == 96 && figures[1] == 0 && figures[METLAZUEL_DAY_FIGURES - METLAZUEL_ROW] == 96
+                               && figures[METLAZUEL_DAY_FIGURES - 1] == 0);
 }
 
 static void header_bytes(void)
@@ -80,13 +89,25 @@ static void meter(void)
                          == METLAZUEL_DONE);
 }
 
+// A reply for the ask, with so many figures: the answer.
+static uint8_t take_with(size_t numbers, uint8_t *ask, const uint8_t *reply, size_t n, uint8_t *result)
+{
+    size_t received;
+    return metlazuel_take(image, sizeof image, figures, numbers, ask, METLAZUEL_ASK_BYTES, reply, n, result, &received);
+}
+
+static uint8_t take(uint8_t *ask, const uint8_t *reply, size_t n, uint8_t *result)
+{
+    return take_with(METLAZUEL_DAY_FIGURES, ask, reply, n, result);
+}
+
 // A slot asked for and taken: the ask, its frame, the reply and the cell.
 static void cell_bytes(void)
 {
     uint8_t ask[METLAZUEL_ASK_BYTES + 1] = {0}, frame[METLAZUEL_REQUEST_BYTES], reply[METLAZUEL_FRAME_BYTES], result, kind, lapses;
     const uint8_t *cell = image + METLAZUEL_HEADER_BYTES + 3 * METLAZUEL_CELL_BYTES;
     uint16_t counts[METLAZUEL_COUNTS];
-    size_t length, received;
+    size_t length;
     check("a gap's byte", cell[METLAZUEL_AT_KIND] == METLAZUEL_KIND_GAP);
     check("a gap", metlazuel_cell(image, sizeof image, 0, 3, &kind, counts, &lapses) == METLAZUEL_DONE && kind == METLAZUEL_KIND_GAP
                        && lapses == 0);
@@ -101,7 +122,8 @@ static void cell_bytes(void)
     check("a reply", metlazuel_meter_answer(record, sizeof record, store, METLAZUEL_STORE_BYTES, frame, sizeof frame, reply, sizeof reply,
                                             &length)
                          == METLAZUEL_DONE);
-    check("a reply taken", metlazuel_take(image, sizeof image, ask, METLAZUEL_ASK_BYTES, reply, length, &result, &received) == METLAZUEL_DONE);
+    check("a reply with fewer figures", take_with(METLAZUEL_DAY_FIGURES - 1, ask, reply, length, &result) == METLAZUEL_TOO_SHORT && ask[0] == 1);
+    check("a reply taken", take(ask, reply, length, &result) == METLAZUEL_DONE);
     check("a measured cell's byte", cell[METLAZUEL_AT_KIND] == METLAZUEL_KIND_MEASURED);
     check("E+", two_bytes(cell + METLAZUEL_AT_EPLUS) == 1);
     check("E-", two_bytes(cell + METLAZUEL_AT_EMINUS) == 2);
@@ -137,12 +159,41 @@ static void empty_cell(void)
 {
     uint8_t ask[METLAZUEL_ASK_BYTES] = {0}, frame[METLAZUEL_REQUEST_BYTES], reply[METLAZUEL_FRAME_BYTES], result, kind, lapses;
     uint16_t counts[METLAZUEL_COUNTS];
-    size_t length, received;
+    size_t length;
     check("an ask", metlazuel_ask(image, sizeof image, ask, sizeof ask, METER, 0, 4, frame, sizeof frame) == METLAZUEL_DONE);
     check("a reply", exchange(frame, sizeof frame - 2, reply, &length) == METLAZUEL_DONE);
-    check("a reply taken", metlazuel_take(image, sizeof image, ask, sizeof ask, reply, length, &result, &received) == METLAZUEL_DONE);
+    check("a reply taken", take(ask, reply, length, &result) == METLAZUEL_DONE);
     check("an empty cell's byte", image[METLAZUEL_HEADER_BYTES + 4 * METLAZUEL_CELL_BYTES + METLAZUEL_AT_KIND] == METLAZUEL_KIND_EMPTY);
     check("an empty cell", metlazuel_cell(image, sizeof image, 0, 4, &kind, counts, &lapses) == METLAZUEL_DONE && kind == METLAZUEL_KIND_EMPTY);
+}
+
+// The figures have gone along. Others than the log's are copied by the report, and a reply that one of them cannot follow changes nothing.
+static void day_figures(void)
+{
+    uint8_t ask[METLAZUEL_ASK_BYTES] = {0}, frame[METLAZUEL_REQUEST_BYTES], reply[METLAZUEL_FRAME_BYTES], result;
+    uint32_t row[METLAZUEL_ROW];
+    size_t length;
+    check("the first day's figures", figures[0] == 94 && figures[1] == 1 && figures[2] == 1 && figures[3] == 1 && figures[6] == 0x0504);
+    check("the next day's", figures[METLAZUEL_ROW] == 96 && figures[METLAZUEL_ROW + 1] == 0);
+    check("an ask", metlazuel_ask(image, sizeof image, ask, sizeof ask, METER, 0, 5, frame, sizeof frame) == METLAZUEL_DONE);
+    check("a reply", exchange(frame, sizeof frame - 2, reply, &length) == METLAZUEL_DONE);
+    figures[0] = 0;
+    check("a reply with no gap left", take(ask, reply, length, &result) == METLAZUEL_UNSOUND && ask[0] == 1 && figures[1] == 1);
+    check("its cell's byte", image[METLAZUEL_HEADER_BYTES + 5 * METLAZUEL_CELL_BYTES + METLAZUEL_AT_KIND] == METLAZUEL_KIND_GAP);
+    check("a report of other figures", metlazuel_day_report(image, sizeof image, figures, METLAZUEL_DAY_FIGURES, 0, row, METLAZUEL_ROW) == METLAZUEL_DONE
+                                           && row[0] == 0 && row[1] == 1);
+    figures[0] = 94;
+    check("a reply taken", take(ask, reply, length, &result) == METLAZUEL_DONE && figures[0] == 93 && figures[1] == 2);
+}
+
+// The figures of a log whose cells were written by hand: it is written as a file and read back.
+static void walk(uint8_t *log, size_t n)
+{
+    static uint8_t out[METLAZUEL_FILE_BYTES];
+    size_t length = 0;
+    check("a file", metlazuel_write_file(log, n, out, sizeof out, &length) == METLAZUEL_DONE);
+    check("fewer figures of it", metlazuel_read_file(out, length, log, n, figures, METLAZUEL_ROW - 1, &length) == METLAZUEL_TOO_SHORT);
+    check("its log", metlazuel_read_file(out, length, log, n, figures, METLAZUEL_DAY_FIGURES, &length) == METLAZUEL_DONE && length == n);
 }
 
 // A day whose slot 3 is measured, made to have no gap.
@@ -160,9 +211,13 @@ static void gaps(void)
 static void report_row(void)
 {
     uint32_t row[METLAZUEL_ROW];
-    check("a shorter row", metlazuel_day_report(image, sizeof image, 0, row, METLAZUEL_ROW - 1) == METLAZUEL_TOO_SHORT);
-    check("a row", metlazuel_day_report(image, sizeof image, 0, row, METLAZUEL_ROW) == METLAZUEL_DONE && row[0] == 0 && row[1] == 95
-                       && row[2] == 1 && row[6] == 0x0504 && row[METLAZUEL_ROW - 1] == 0);
+    walk(image, sizeof image);
+    check("a shorter row", metlazuel_day_report(image, sizeof image, figures, METLAZUEL_DAY_FIGURES, 0, row, METLAZUEL_ROW - 1)
+                               == METLAZUEL_TOO_SHORT);
+    check("a row of fewer figures", metlazuel_day_report(image, sizeof image, figures, METLAZUEL_DAY_FIGURES - 1, 0, row, METLAZUEL_ROW)
+                                        == METLAZUEL_TOO_SHORT);
+    check("a row", metlazuel_day_report(image, sizeof image, figures, METLAZUEL_DAY_FIGURES, 0, row, METLAZUEL_ROW) == METLAZUEL_DONE
+                       && row[0] == 0 && row[1] == 95 && row[2] == 1 && row[6] == 0x0504 && row[METLAZUEL_ROW - 1] == 0);
 }
 
 // A day of 96 slots that all have empty cells, but one measured at 02:45, where the seasons change.
@@ -170,7 +225,8 @@ static size_t season_day(uint8_t *day, uint8_t month, uint8_t date)
 {
     size_t n = 0;
     uint8_t *cells = day + METLAZUEL_HEADER_BYTES;
-    check("a season day", metlazuel_log_fresh(day, METLAZUEL_HEADER_BYTES + 96 * METLAZUEL_CELL_BYTES, 24, month, date, 1, MINUTES, KE, SEASONS, &n)
+    check("a season day", metlazuel_log_fresh(day, METLAZUEL_HEADER_BYTES + 96 * METLAZUEL_CELL_BYTES, figures, METLAZUEL_ROW, 24, month, date, 1,
+                                              MINUTES, KE, SEASONS, &n)
                               == METLAZUEL_DONE);
     for (size_t i = 0; i < 96; i++)
         cells[i * METLAZUEL_CELL_BYTES + METLAZUEL_AT_KIND] = METLAZUEL_KIND_EMPTY;
@@ -191,22 +247,24 @@ static void march(void)
                                    && metlazuel_cell(day, n, 0, 11, &kind, counts, &lapses) == METLAZUEL_NOT_IN_LOG);
     check("the cells beside them", metlazuel_cell(day, n, 0, 7, &kind, counts, &lapses) == METLAZUEL_DONE
                                        && metlazuel_cell(day, n, 0, 12, &kind, counts, &lapses) == METLAZUEL_DONE);
-    check("a report of March", metlazuel_day_report(day, n, 0, row, METLAZUEL_ROW) == METLAZUEL_DONE && row[0] == 0 && row[1] == 92
-                                   && row[2] == 0 && row[3] == 0 && row[METLAZUEL_ROW - 1] == 0);
+    check("a fresh March", figures[0] == 92 && figures[METLAZUEL_ROW - 1] == 0);
     check("no file of it", metlazuel_write_file(day, n, out, sizeof out, &length) == METLAZUEL_UNSOUND);
     memset(gone, 0, 4 * METLAZUEL_CELL_BYTES);
     gone[METLAZUEL_AT_LAPSES] = 1;
     check("no file of its lapses", metlazuel_write_file(day, n, out, sizeof out, &length) == METLAZUEL_UNSOUND);
     gone[METLAZUEL_AT_LAPSES] = 0;
     check("no gap in no slot", metlazuel_next_gap(day, n, 0, 0, &slot) == METLAZUEL_DONE && slot == METLAZUEL_NO_GAP);
+    walk(day, n);
+    check("a report of March", metlazuel_day_report(day, n, figures, METLAZUEL_ROW, 0, row, METLAZUEL_ROW) == METLAZUEL_DONE && row[0] == 0
+                                   && row[1] == 92 && row[2] == 0 && row[3] == 0 && row[METLAZUEL_ROW - 1] == 0);
     check("a file of it", metlazuel_write_file(day, n, out, sizeof out, &length) == METLAZUEL_DONE && length == sizeof out);
     out[METLAZUEL_HEADER_BYTES + 8 * METLAZUEL_CELL_BYTES + METLAZUEL_AT_KIND] = METLAZUEL_KIND_EMPTY;
     seal(out, n);
-    check("a file's cell of no slot", metlazuel_read_file(out, sizeof out, day, sizeof day, &length) == METLAZUEL_FILE_CELL);
+    check("a file's cell of no slot", metlazuel_read_file(out, sizeof out, day, sizeof day, figures, METLAZUEL_ROW, &length) == METLAZUEL_FILE_CELL);
     out[METLAZUEL_HEADER_BYTES + 8 * METLAZUEL_CELL_BYTES + METLAZUEL_AT_KIND] = METLAZUEL_KIND_GAP;
     out[METLAZUEL_HEADER_BYTES + 8 * METLAZUEL_CELL_BYTES + METLAZUEL_AT_LAPSES] = 1;
     seal(out, n);
-    check("a file's lapses of no slot", metlazuel_read_file(out, sizeof out, day, sizeof day, &length) == METLAZUEL_FILE_CELL);
+    check("a file's lapses of no slot", metlazuel_read_file(out, sizeof out, day, sizeof day, figures, METLAZUEL_ROW, &length) == METLAZUEL_FILE_CELL);
 }
 
 // On the last Sunday of October they come twice, and the measured one is told so.
@@ -215,8 +273,10 @@ static void october(void)
     uint8_t day[METLAZUEL_HEADER_BYTES + 96 * METLAZUEL_CELL_BYTES];
     uint32_t row[METLAZUEL_ROW];
     size_t n = season_day(day, 10, 27);
-    check("a report of October", metlazuel_day_report(day, n, 0, row, METLAZUEL_ROW) == METLAZUEL_DONE && row[0] == 0 && row[1] == 95
-                                     && row[2] == 1 && row[3] == 9 && row[METLAZUEL_ROW - 1] == 1);
+    check("a fresh October", figures[0] == 96 && figures[METLAZUEL_ROW - 1] == 0);
+    walk(day, n);
+    check("a report of October", metlazuel_day_report(day, n, figures, METLAZUEL_ROW, 0, row, METLAZUEL_ROW) == METLAZUEL_DONE && row[0] == 0
+                                     && row[1] == 95 && row[2] == 1 && row[3] == 9 && row[METLAZUEL_ROW - 1] == 1);
 }
 
 // The parameters that can be read: the request, how many figures the reply has, and one of them, as the meter was made.
@@ -332,13 +392,6 @@ static void meter_answers(void)
     check("its refusal frame", length == 6 && reply[0] == 0 && reply[1] == (METLAZUEL_FUNCTION_ZERO | METLAZUEL_FUNCTION_REFUSED));
 }
 
-// A reply for the ask: the answer.
-static uint8_t take(uint8_t *ask, uint8_t *reply, size_t n, uint8_t *result)
-{
-    size_t received;
-    return metlazuel_take(image, sizeof image, ask, METLAZUEL_ASK_BYTES, reply, n, result, &received);
-}
-
 // A reply for the open ask with one byte changed, and its CRC made right again where `sealed`: the answer, which leaves ask and length.
 static void damaged_reply(const char *what, uint8_t *ask, uint8_t *reply, size_t at, int sealed, uint8_t answer)
 {
@@ -347,7 +400,8 @@ static void damaged_reply(const char *what, uint8_t *ask, uint8_t *reply, size_t
     reply[at] ^= 1;
     if (sealed)
         seal(reply, 12);
-    check(what, metlazuel_take(image, sizeof image, ask, METLAZUEL_ASK_BYTES, reply, n, &result, &received) == answer);
+    check(what, metlazuel_take(image, sizeof image, figures, METLAZUEL_DAY_FIGURES, ask, METLAZUEL_ASK_BYTES, reply, n, &result, &received)
+                    == answer);
     check(what, result == 7 && received == 99 && ask[0] == 1);
     reply[at] = was;
 }
@@ -357,10 +411,10 @@ static void reply_faults(uint8_t *ask, uint8_t *reply)
 {
     uint8_t result = 7;
     size_t received = 99;
-    check("no reply at all", metlazuel_take(image, sizeof image, ask, METLAZUEL_ASK_BYTES, reply, 0, &result, &received)
+    check("no reply at all", metlazuel_take(image, sizeof image, figures, METLAZUEL_DAY_FIGURES, ask, METLAZUEL_ASK_BYTES, reply, 0, &result, &received)
                                      == METLAZUEL_REPLY_LENGTH
                                  && received == 0);
-    check("a long reply", metlazuel_take(image, sizeof image, ask, METLAZUEL_ASK_BYTES, file, 300, &result, &received)
+    check("a long reply", metlazuel_take(image, sizeof image, figures, METLAZUEL_DAY_FIGURES, ask, METLAZUEL_ASK_BYTES, file, 300, &result, &received)
                                   == METLAZUEL_REPLY_LENGTH
                               && received == 300);
     damaged_reply("another byte", ask, reply, 5, 0, METLAZUEL_REPLY_CRC);
@@ -404,7 +458,7 @@ static void damaged_file(const char *what, size_t at, uint8_t byte, int sealed, 
     file[at] = byte;
     if (sealed)
         seal(file, sizeof file - 2);
-    check(what, metlazuel_read_file(file, sizeof file, image, sizeof image, &length) == answer);
+    check(what, metlazuel_read_file(file, sizeof file, image, sizeof image, figures, METLAZUEL_DAY_FIGURES, &length) == answer);
     file[at] = was;
     seal(file, sizeof file - 2);
 }
@@ -420,8 +474,10 @@ static void older_file(uint8_t version, uint8_t seasons)
     for (size_t i = 0; i < DAYS * 96; i++, n += METLAZUEL_AT_LAPSES)
         memcpy(older + n, file + METLAZUEL_HEADER_BYTES + i * METLAZUEL_CELL_BYTES, METLAZUEL_AT_LAPSES);
     n = seal(older, n);
-    check("an older file in less room", metlazuel_read_file(older, n, image, sizeof image - 1, &length) == METLAZUEL_TOO_SHORT);
-    check("an older file", metlazuel_read_file(older, n, image, sizeof image, &length) == METLAZUEL_DONE && length == sizeof image);
+    check("an older file in less room",
+          metlazuel_read_file(older, n, image, sizeof image - 1, figures, METLAZUEL_DAY_FIGURES, &length) == METLAZUEL_TOO_SHORT);
+    check("an older file", metlazuel_read_file(older, n, image, sizeof image, figures, METLAZUEL_DAY_FIGURES, &length) == METLAZUEL_DONE
+                               && length == sizeof image);
     check("its log", image[METLAZUEL_AT_VERSION] == 3 && image[METLAZUEL_AT_SEASONS] == seasons
                          && image[METLAZUEL_HEADER_BYTES + METLAZUEL_AT_LAPSES] == 0);
 }
@@ -440,7 +496,7 @@ static void file_answers(void)
     damaged_file("a file's cell", METLAZUEL_HEADER_BYTES, METLAZUEL_KIND_MEASURED, 1, METLAZUEL_FILE_CELL);
     damaged_file("a file with lapses", METLAZUEL_HEADER_BYTES + METLAZUEL_AT_LAPSES, 7, 1, METLAZUEL_DONE);
     check("its lapses", image[METLAZUEL_HEADER_BYTES + METLAZUEL_AT_LAPSES] == 7);
-    check("the file itself", metlazuel_read_file(file, sizeof file, image, sizeof image, &length) == METLAZUEL_DONE);
+    check("the file itself", metlazuel_read_file(file, sizeof file, image, sizeof image, figures, METLAZUEL_DAY_FIGURES, &length) == METLAZUEL_DONE);
     older_file(2, SEASONS);
     older_file(1, 0);
 }
@@ -489,6 +545,7 @@ int main(void)
     cell_bytes();
     lapses_byte();
     empty_cell();
+    day_figures();
     gaps();
     report_row();
     march();

@@ -9,14 +9,14 @@ use logfile::WriteAnswer;
 // One byte more than the longest file, so that a longer one shows by its length.
 const READ_ROOM: usize = FILE_MOST + 1;
 
-pub fn load(line: &[u8], image: &mut [u8], kept: Kept) -> Kept {
+pub fn load(line: &[u8], image: &mut [u8], figures: &mut [u32], kept: Kept) -> Kept {
     if console::spaces(line) != 1 {
         say::unread();
         return kept;
     }
     let mut bytes = [0u8; READ_ROOM];
     match file_io::contents(console::word(line, 1), &mut bytes) {
-        FileAnswer::Bytes(n) => console_log::loaded(console::part(&bytes, n), image, kept),
+        FileAnswer::Bytes(n) => console_log::loaded(console::part(&bytes, n), image, figures, kept),
         FileAnswer::Failed => {
             failed(console::word(line, 1));
             kept

@@ -24,8 +24,9 @@ fn main() {
 }
 
 fn begin() {
-    // The longest image, the meter's 2,976 places for slices, all unused, the longest line, and a block of the input.
+    // The longest image and its figures, the meter's 2,976 places for slices, all unused, the longest line, and a block of the input.
     let mut image = [0u8; log::IMAGE_MOST];
+    let mut figures = [0u32; day_figures::FIGURES_MOST];
     let mut store = [0u8; 32736];
     let mut line = [0u8; console_io::LINE_ROOM];
     let mut block = [0u8; 4096];
@@ -33,10 +34,24 @@ fn begin() {
         return;
     };
     typing::greet();
-    session(&mut image, &mut store, &mut line, &mut block, record);
+    session(
+        &mut image,
+        &mut figures,
+        &mut store,
+        &mut line,
+        &mut block,
+        record,
+    );
 }
 
-fn session(image: &mut [u8], store: &mut [u8], line: &mut [u8], block: &mut [u8], first: Record) {
+fn session(
+    image: &mut [u8],
+    figures: &mut [u32],
+    store: &mut [u8],
+    line: &mut [u8],
+    block: &mut [u8],
+    first: Record,
+) {
     let mut kept = Kept {
         length: 0,
         held: OpenAsk::Closed,
@@ -55,35 +70,35 @@ fn session(image: &mut [u8], store: &mut [u8], line: &mut [u8], block: &mut [u8]
         let n = taken.length;
         let verb = verb::verb_of(console::part(line, n));
         // A verb is the log's or one of the two meters': the others leave all as it stands.
-        kept = on_log(verb, console::part(line, n), image, kept);
+        kept = on_log(verb, console::part(line, n), image, figures, kept);
         record = on_meter(verb, console::part(line, n), store, record);
         mercury = on_mercury(verb, console::part(line, n), mercury);
         turns -= 1;
     }
 }
 
-fn on_log(verb: usize, line: &[u8], image: &mut [u8], kept: Kept) -> Kept {
+fn on_log(verb: usize, line: &[u8], image: &mut [u8], figures: &mut [u32], kept: Kept) -> Kept {
     match verb {
-        verb::LOG => console_log::fresh(line, image, kept),
-        verb::LOAD => files::load(line, image, kept),
+        verb::LOG => console_log::fresh(line, image, figures, kept),
+        verb::LOAD => files::load(line, image, figures, kept),
         verb::ASK => console_log::ask(line, image, kept),
         verb::LAPSE => console_log::lapse(line, image, kept),
-        verb::REPLY => console_log::reply(line, image, kept),
+        verb::REPLY => console_log::reply(line, image, figures, kept),
         _ => {
             let held = kept.held;
-            read(verb, line, console::part(image, kept.length), held);
+            read(verb, line, console::part(image, kept.length), figures, held);
             kept
         }
     }
 }
 
-// What changes neither the log nor the open ask.
-fn read(verb: usize, line: &[u8], image: &[u8], held: OpenAsk) {
+// What changes neither the log, nor its figures, nor the open ask.
+fn read(verb: usize, line: &[u8], image: &[u8], figures: &[u32], held: OpenAsk) {
     match verb {
         verb::SAVE => files::save(line, image),
         verb::OPEN => console_log::open_ask(line, held),
         verb::CELL => console_log::cell(line, image),
-        verb::REPORT => console_log::report(line, image),
+        verb::REPORT => console_log::report(line, image, figures),
         verb::REQUEST => console_log::request(Reading::Stored, line),
         verb::DECODE => console_log::decode(Reading::Stored, line),
         verb::REQUEST_DISPLAYED => console_log::request(Reading::Displayed, line),

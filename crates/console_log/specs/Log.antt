@@ -1,4 +1,5 @@
--- What a line of the log makes of the log and of the open ask. Source: the console's page, "Log and reader"; the calls are the logger's.
+-- What a line of the log makes of the log, of its figures and of the open ask. Source: the console's page, "Log and reader"; the calls are the logger's.
+-- The image and the figures that the console keeps beside it (document 02, CR 8) are `Both`; a line that is lent no figures is told of the image alone.
 use Prim.Native.Nat.{ℕ}
 use mathlib.Core.Bool.{cond}
 use mathlib.Core.List.{List, [], _∷_, _++_}
@@ -6,10 +7,11 @@ use lib.Dec.{eqb, ltb}
 use lib.ListN.{length, take, drop, replicate}
 use Rattle.refusal.specs.Outcome.{Outcome, outcome}
 use Rattle.frame.specs.Layout.{readSize}
-use Rattle.log.specs.Fresh.{freshOf}
 use Rattle.log.specs.declared.header.Header.{Header}
 use Rattle.log.specs.declared.fresh.FreshAnswer.{FreshAnswer}
 use Rattle.log.specs.declared.fresh.FreshAnswer.the-variants as fresh
+use Rattle.day_figures.specs.Both.{Both, both}
+use Rattle.day_figures.specs.Fresh.{freshWith}
 use Rattle.logfile.specs.declared.read.ReadAnswer.{ReadAnswer}
 use Rattle.logfile.specs.Read.{ifRead}
 use Rattle.log.specs.View.{viewOf}
@@ -39,14 +41,14 @@ keptAfter (fresh.Done n) kept = record { length = n; held = Closed }
 keptAfter fresh.OutOfRange kept = kept
 keptAfter fresh.TooShort kept = kept
 
-abbrev pub newLog : Kept → Outcome FreshAnswer (List ℕ) → Outcome Kept (List ℕ)
+abbrev pub newLog : Kept → Outcome FreshAnswer Both → Outcome Kept Both
 newLog kept o = outcome (keptAfter (o .result) kept) (o .left)
 
 -- a log read from a file likewise
 unfoldable pub keptLoaded : ReadAnswer → Kept → Kept
 keptLoaded read kept = ifRead read kept (λ n. record { length = n; held = Closed })
 
-abbrev pub loadedLog : Kept → Outcome ReadAnswer (List ℕ) → Outcome Kept (List ℕ)
+abbrev pub loadedLog : Kept → Outcome ReadAnswer Both → Outcome Kept Both
 loadedLog kept o = outcome (keptLoaded (o .result) kept) (o .left)
 
 -- MONTH DAY DAYS MINUTES KE SEASONS behind the year
@@ -59,14 +61,14 @@ headerIn line year = record {
   seasons = byteIn line 7;
 }
 
-unfoldable pub freshIn : YearAnswer → List ℕ → List ℕ → Kept → Outcome Kept (List ℕ)
-freshIn (Year year) line image kept = newLog kept (freshOf (headerIn line year) image)
-freshIn OutOfRange line image kept = outcome kept image
+unfoldable pub freshIn : YearAnswer → List ℕ → Both → Kept → Outcome Kept Both
+freshIn (Year year) line b kept = newLog kept (freshWith (headerIn line year) (b .log) (b .figures))
+freshIn OutOfRange line b kept = outcome kept b
 
 -- YEAR MONTH DAY DAYS MINUTES KE SEASONS; a line that cannot be read leaves all as it was
-unfoldable pub freshLine : List ℕ → List ℕ → Kept → Outcome Kept (List ℕ)
-freshLine line image kept =
-    cond (isForm line (65535 ∷ 255 ∷ 255 ∷ 255 ∷ 255 ∷ 65535 ∷ 255 ∷ [])) (freshIn (yearOf (shortIn line 1)) line image kept) (outcome kept image)
+unfoldable pub freshLine : List ℕ → Both → Kept → Outcome Kept Both
+freshLine line b kept =
+    cond (isForm line (65535 ∷ 255 ∷ 255 ∷ 255 ∷ 255 ∷ 65535 ∷ 255 ∷ [])) (freshIn (yearOf (shortIn line 1)) line b kept) (outcome kept b)
 
 -- the ask of an address, a day and a slot; its frame is printed
 unfoldable pub askedFor : List ℕ → Kept → ℕ → ℕ → ℕ → Kept
@@ -90,22 +92,23 @@ lapseOf image kept =
 unfoldable pub lapseLine : List ℕ → List ℕ → Kept → Outcome Kept (List ℕ)
 lapseLine line image kept = cond (eqb (spacesIn line) 0) (lapseOf image kept) (outcome kept image)
 
--- a reply likewise
-abbrev pub replyTaken : List ℕ → Kept → Outcome Taken (List ℕ) → Outcome Kept (List ℕ)
-replyTaken image kept o = outcome (withAsk kept (o .result .held)) (o .left ++ drop (kept .length) image)
+-- a reply likewise; the figures are lent whole
+abbrev pub replyTaken : Both → Kept → Outcome Taken Both → Outcome Kept Both
+replyTaken b kept o = outcome (withAsk kept (o .result .held)) (both (o .left .log ++ drop (kept .length) (b .log)) (o .left .figures))
 
-unfoldable pub replyOf : List ℕ → List ℕ → Kept → Outcome Kept (List ℕ)
-replyOf y image kept =
-    cond (ltb (length image) (kept .length)) (outcome kept image) (replyTaken image kept (taken (take (kept .length) image) (kept .held) y))
+unfoldable pub replyOf : List ℕ → Both → Kept → Outcome Kept Both
+replyOf y b kept =
+    cond (ltb (length (b .log)) (kept .length)) (outcome kept b)
+    (replyTaken b kept (taken (both (take (kept .length) (b .log)) (b .figures)) (kept .held) y))
 
 -- the bytes that were read are so many of a buffer's first
-unfoldable pub replyIn : BytesAnswer → List ℕ → List ℕ → Kept → Outcome Kept (List ℕ)
+unfoldable pub replyIn : BytesAnswer → List ℕ → Both → Kept → Outcome Kept Both
 unfolding replyOf
-replyIn (Bytes n) buffer image kept = replyOf (partOf n buffer) image kept
-replyIn Unread buffer image kept = outcome kept image
+replyIn (Bytes n) buffer b kept = replyOf (partOf n buffer) b kept
+replyIn Unread buffer b kept = outcome kept b
 
 -- BYTES, or none
-unfoldable pub replyLine : List ℕ → List ℕ → Kept → Outcome Kept (List ℕ)
-replyLine line image kept =
+unfoldable pub replyLine : List ℕ → Both → Kept → Outcome Kept Both
+replyLine line b kept =
     let o = replyRead line 1 (replicate 2048 0) in
-    replyIn (o .result) (o .left) image kept
+    replyIn (o .result) (o .left) b kept

@@ -19,13 +19,14 @@ use logger::OpenAsk;
 use logger::TakeAnswer;
 ghost use mathlib.Core.Path.{_≡_};
 ghost use Rattle.refusal.specs.Outcome.{outcome};
-ghost use Rattle.log.specs.Fresh.{freshOf};
+ghost use Rattle.day_figures.specs.Both.{both};
+ghost use Rattle.day_figures.specs.Fresh.{freshWith};
 ghost use Rattle.logfile.specs.Read.{readFile};
 ghost use Rattle.console.specs.Form.{shortIn, yearOf};
 ghost use Rattle.console_log.specs.Log.{keptAfter, newLog, keptLoaded, loadedLog, freshIn, freshLine};
 ghost use Rattle.console_log.specs.Log.{askedFor, askLine, lapseOf, lapseLine, replyOf, replyLine};
 
-// What is kept of the log beside its image: its length, 0 where there is no log, and the open ask.
+// What is kept of the log beside its image and its figures: its length, 0 where there is no log, and the open ask.
 pub struct Kept {
     pub length: usize,
     pub held: OpenAsk,
@@ -40,17 +41,19 @@ fn unread(kept: Kept) -> Kept
 }
 
 // YEAR MONTH DAY DAYS MINUTES KE SEASONS
-pub fn fresh(line: &[u8], image: &mut [u8], kept: Kept) -> Kept
-    ensures { λ r. ⌜ outcome r (now (image .exit)) ≡ freshLine (now (line .entry)) (now (image .entry)) kept ⌝ }
+pub fn fresh(line: &[u8], image: &mut [u8], figures: &mut [u32], kept: Kept) -> Kept
+    ensures { λ r. ⌜ outcome r (both (now (image .exit)) (now (figures .exit)))
+        ≡ freshLine (now (line .entry)) (both (now (image .entry)) (now (figures .entry))) kept ⌝ }
 {
     if console::is_form(line, &[SHORT, BYTE, BYTE, BYTE, BYTE, SHORT, BYTE]) {
-        return fresh_from(line, image, kept);
+        return fresh_from(line, image, figures, kept);
     }
     unread(kept)
 }
 
-fn fresh_from(line: &[u8], image: &mut [u8], kept: Kept) -> Kept
-    ensures { λ r. ⌜ outcome r (now (image .exit)) ≡ freshIn (yearOf (shortIn (now (line .entry)) 1)) (now (line .entry)) (now (image .entry)) kept ⌝ }
+fn fresh_from(line: &[u8], image: &mut [u8], figures: &mut [u32], kept: Kept) -> Kept
+    ensures { λ r. ⌜ outcome r (both (now (image .exit)) (now (figures .exit)))
+        ≡ freshIn (yearOf (shortIn (now (line .entry)) 1)) (now (line .entry)) (both (now (image .entry)) (now (figures .entry))) kept ⌝ }
 {
     let YearAnswer::Year(year) = console::year(line, 1) else {
         say::number_line(refusal::OUT_OF_RANGE);
@@ -68,13 +71,14 @@ fn fresh_from(line: &[u8], image: &mut [u8], kept: Kept) -> Kept
         ke: console::short(line, 6),
         seasons: byte(line, 7),
     };
-    fresh_of(header, image, kept)
+    fresh_of(header, image, figures, kept)
 }
 
-fn fresh_of(h: Header, image: &mut [u8], kept: Kept) -> Kept
-    ensures { λ r. ⌜ outcome r (now (image .exit)) ≡ newLog kept (freshOf h (now (image .entry))) ⌝ }
+fn fresh_of(h: Header, image: &mut [u8], figures: &mut [u32], kept: Kept) -> Kept
+    ensures { λ r. ⌜ outcome r (both (now (image .exit)) (now (figures .exit)))
+        ≡ newLog kept (freshWith h (now (image .entry)) (now (figures .entry))) ⌝ }
 {
-    let answer = log::fresh_log(h, image);
+    let answer = day_figures::fresh_log(h, image, figures);
     say::number_line(answer.number());
     kept_after(answer, kept)
 }
@@ -93,10 +97,11 @@ fn kept_after(answer: FreshAnswer, kept: Kept) -> Kept
 }
 
 // The bytes of a file.
-pub fn loaded(bytes: &[u8], image: &mut [u8], kept: Kept) -> Kept
-    ensures { λ r. ⌜ outcome r (now (image .exit)) ≡ loadedLog kept (readFile (now (bytes .entry)) (now (image .entry))) ⌝ }
+pub fn loaded(bytes: &[u8], image: &mut [u8], figures: &mut [u32], kept: Kept) -> Kept
+    ensures { λ r. ⌜ outcome r (both (now (image .exit)) (now (figures .exit)))
+        ≡ loadedLog kept (readFile (now (bytes .entry)) (now (image .entry)) (now (figures .entry))) ⌝ }
 {
-    let answer = logfile::read_file(bytes, image);
+    let answer = logfile::read_file(bytes, image, figures);
     say::number_line(answer.number());
     kept_loaded(answer, kept)
 }
@@ -192,25 +197,27 @@ fn lapse_of(image: &mut [u8], kept: Kept) -> Kept
 }
 
 // BYTES, or none
-pub fn reply(line: &[u8], image: &mut [u8], kept: Kept) -> Kept
-    ensures { λ r. ⌜ outcome r (now (image .exit)) ≡ replyLine (now (line .entry)) (now (image .entry)) kept ⌝ }
+pub fn reply(line: &[u8], image: &mut [u8], figures: &mut [u32], kept: Kept) -> Kept
+    ensures { λ r. ⌜ outcome r (both (now (image .exit)) (now (figures .exit)))
+        ≡ replyLine (now (line .entry)) (both (now (image .entry)) (now (figures .entry))) kept ⌝ }
 {
     let mut bytes = [0u8; 2048];
     match crate::reads::reply_bytes(line, 1, &mut bytes) {
-        BytesAnswer::Bytes(n) => reply_of(console::part(&bytes, n), image, kept),
+        BytesAnswer::Bytes(n) => reply_of(console::part(&bytes, n), image, figures, kept),
         BytesAnswer::Unread => unread(kept),
     }
 }
 
-fn reply_of(bytes: &[u8], image: &mut [u8], kept: Kept) -> Kept
-    ensures { λ r. ⌜ outcome r (now (image .exit)) ≡ replyOf (now (bytes .entry)) (now (image .entry)) kept ⌝ }
+fn reply_of(bytes: &[u8], image: &mut [u8], figures: &mut [u32], kept: Kept) -> Kept
+    ensures { λ r. ⌜ outcome r (both (now (image .exit)) (now (figures .exit)))
+        ≡ replyOf (now (bytes .entry)) (both (now (image .entry)) (now (figures .entry))) kept ⌝ }
 {
     let length = kept.length;
     let held = kept.held;
     if image.len() < length {
         return unread(kept);
     }
-    let taken = logger::take_reply(&mut image[..length], held, bytes);
+    let taken = logger::take_reply(&mut image[..length], figures, held, bytes);
     let answer = taken.answer;
     say_taken(answer);
     let after = taken.held;
@@ -225,6 +232,7 @@ fn say_taken(answer: TakeAnswer) {
     say::first(number);
     match answer {
         TakeAnswer::Done => {}
+        TakeAnswer::TooShort => {}
         TakeAnswer::NoAskOpen => {}
         TakeAnswer::NotInLog => {}
         TakeAnswer::Malformed(fault) => crate::reads::say_fault(fault),
@@ -291,17 +299,17 @@ fn say_cell(answer: CellAnswer, lapses: u8) {
 }
 
 // DAY
-pub fn report(line: &[u8], image: &[u8]) {
+pub fn report(line: &[u8], image: &[u8], figures: &[u32]) {
     if console::is_form(line, &[BYTE]) {
-        report_of(image, byte(line, 1));
+        report_of(image, figures, byte(line, 1));
     } else {
         say::unread();
     }
 }
 
-fn report_of(image: &[u8], day: u8) {
-    let mut row = [0u32; dayreport::REPORT_NUMBERS];
-    let answer = dayreport::day_report(image, day, &mut row);
+fn report_of(image: &[u8], figures: &[u32], day: u8) {
+    let mut row = [0u32; day_figures::REPORT_NUMBERS];
+    let answer = dayreport::day_report(image, figures, day, &mut row);
     let number = answer.number();
     say::first(number);
     match answer {
@@ -313,7 +321,7 @@ fn report_of(image: &[u8], day: u8) {
     say::end_of(number);
 }
 
-fn say_row(row: [u32; dayreport::REPORT_NUMBERS]) {
+fn say_row(row: [u32; day_figures::REPORT_NUMBERS]) {
     say::number(row[0] as u64);
     say::number(row[1] as u64);
     say::number(row[2] as u64);

@@ -1,4 +1,3 @@
-pub mod TalliesLaws
 pub mod ReportLaws
 pub mod Examples
 pub mod TextLaws

@@ -28,7 +28,7 @@ use Rattle.log.specs.declared.interval.DayAnswer.the-variants as day
 use Rattle.log.specs.declared.header.Header.{Header}
 use Rattle.log.specs.declared.cell.Cell.{Cell}
 use Rattle.log.specs.declared.cell.CellAnswer.{CellAnswer}
-use Rattle.dayreport.specs.Report.{dayCells}
+use Rattle.day_figures.specs.Figures.{dayCells}
 use Rattle.dayreport.specs.Text.{space, lineFeed, dateSize, putText}
 use Rattle.dayreport.specs.Strip.{mark, marksAt, marksFrom, dayMarks, stripOf, stripDated, stripOn, stripText}
 use Rattle.dayreport.specs.declared.answer.TextAnswer.the-variants.{Unsound}

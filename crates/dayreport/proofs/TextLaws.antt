@@ -18,7 +18,7 @@ use Rattle.words.proofs.PlaceLaws.{written-append, part-written}
 use Rattle.calendar.specs.declared.date.Date.{Date}
 use Rattle.text.proofs.DecimalLaws.{decimal-most-u32}
 use Rattle.text.proofs.DateTextLaws.{length-dateText}
-use Rattle.dayreport.specs.Report.{rowNumbers}
+use Rattle.day_figures.specs.Figures.{rowNumbers}
 use Rattle.dayreport.specs.Text.{textNumber, putText, numbersText, lineText, space, lineFeed, dateSize, numberMost, lineMost}
 
 -- ---- the texts

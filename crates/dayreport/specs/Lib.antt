@@ -1,4 +1,3 @@
-pub mod Tallies
 pub mod Report
 pub mod Text
 pub mod Day

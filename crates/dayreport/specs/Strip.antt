@@ -18,7 +18,7 @@ use Rattle.log.specs.declared.cell.CellAnswer.{CellAnswer}
 use Rattle.log.specs.declared.cell.CellAnswer.the-variants.{Good, Bad}
 use Rattle.log.specs.declared.interval.DayAnswer.{DayAnswer}
 use Rattle.log.specs.declared.interval.DayAnswer.the-variants as day
-use Rattle.dayreport.specs.Report.{dayCells}
+use Rattle.day_figures.specs.Figures.{dayCells}
 use Rattle.dayreport.specs.Text.{space, lineFeed, dateSize, putText}
 use Rattle.dayreport.specs.declared.answer.TextAnswer.{TextAnswer}
 use Rattle.dayreport.specs.declared.answer.TextAnswer.the-variants.{Unsound, NotInLog}

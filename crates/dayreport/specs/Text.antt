@@ -10,7 +10,7 @@ use Rattle.calendar.specs.declared.date.Date.{Date}
 use Rattle.text.specs.Ascii.{ascii}
 use Rattle.text.specs.Decimal.{decimal}
 use Rattle.text.specs.DateText.{dateText}
-use Rattle.dayreport.specs.Report.{rowNumbers}
+use Rattle.day_figures.specs.Figures.{rowNumbers}
 use Rattle.dayreport.specs.declared.answer.TextAnswer.{TextAnswer}
 use Rattle.dayreport.specs.declared.answer.TextAnswer.the-variants.{Done, TooShort, Unsound, NotInLog}
 

@@ -5,9 +5,9 @@ ghost use Rattle.dayreport.specs.Text.{textNumber};
 pub enum TextAnswer {
     // The text's length.
     Done(usize),
-    // The buffer is.
+    // The buffer is, or there are fewer figures than the log has.
     TooShort,
-    // The lent log, or a cell of the day.
+    // The lent log, or, where a strip shows it, a cell of the day.
     Unsound,
     // The day.
     NotInLog,

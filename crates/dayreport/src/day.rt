@@ -1,41 +1,34 @@
 // The line of a day of a lent log.
 ghost use mathlib.Core.Path.{_≡_};
 ghost use Rattle.refusal.specs.Outcome.{outcome};
-ghost use Rattle.log.specs.View.{viewOf};
-ghost use Rattle.dayreport.specs.Report.{reportOf};
-ghost use Rattle.dayreport.specs.Day.{zeros, datedText, dayOnText, dayText};
+ghost use Rattle.log.specs.Header.{soundOf};
+ghost use Rattle.day_figures.specs.Rows.{copied};
+ghost use Rattle.dayreport.specs.Day.{zeros, dayOnText, dayText};
 use crate::answer::TextAnswer;
-use crate::report::ReportAnswer;
-use calendar::Date;
 use log::DayAnswer;
 use log::Lent;
 
-pub fn put_day(log: &[u8], day: u8, out: &mut [u8]) -> TextAnswer
-    ensures { λ r. ⌜ outcome r (now (out .exit)) ≡ dayText (viewOf (now (log .entry))) day (now (out .entry)) ⌝ }
+pub fn put_day(log: &[u8], figures: &[u32], day: u8, out: &mut [u8]) -> TextAnswer
+    ensures { λ r. ⌜ outcome r (now (out .exit)) ≡ dayText (soundOf (now (log .entry))) (now (figures .entry)) day (now (out .entry)) ⌝ }
 {
-    match log::sound(log) {
-        Lent::Sound(h) => put_day_on(log, log::date_of(h, day), day, out),
-        Lent::Unsound => TextAnswer::Unsound,
+    let Lent::Sound(h) = log::sound(log) else {
+        return TextAnswer::Unsound;
+    };
+    if figures.len() < day_figures::figures_of(h) {
+        return TextAnswer::TooShort;
     }
+    put_day_on(figures, log::date_of(h, day), day, out)
 }
 
-fn put_day_on(log: &[u8], on: DayAnswer, day: u8, out: &mut [u8]) -> TextAnswer
-    ensures { λ r. ⌜ outcome r (now (out .exit)) ≡ dayOnText on (viewOf (now (log .entry))) day (now (out .entry)) ⌝ }
+fn put_day_on(figures: &[u32], on: DayAnswer, day: u8, out: &mut [u8]) -> TextAnswer
+    ensures { λ r. ⌜ outcome r (now (out .exit)) ≡ dayOnText on (copied (now (figures .entry)) day zeros) (now (out .entry)) ⌝ }
 {
     match on {
-        DayAnswer::On(date) => put_dated(log, date, day, out),
+        DayAnswer::On(date) => {
+            let mut row = [0u32; day_figures::REPORT_NUMBERS];
+            day_figures::copy_day(figures, day, &mut row);
+            crate::line::put_line(date, row, out)
+        }
         DayAnswer::Outside => TextAnswer::NotInLog,
-    }
-}
-
-fn put_dated(log: &[u8], date: Date, day: u8, out: &mut [u8]) -> TextAnswer
-    ensures { λ r. ⌜ outcome r (now (out .exit)) ≡ datedText date (reportOf (viewOf (now (log .entry))) day zeros) (now (out .entry)) ⌝ }
-{
-    let mut row = [0u32; crate::report::REPORT_NUMBERS];
-    match crate::report::day_report(log, day, &mut row) {
-        ReportAnswer::Done => crate::line::put_line(date, row, out),
-        ReportAnswer::TooShort => TextAnswer::TooShort,
-        ReportAnswer::Unsound => TextAnswer::Unsound,
-        ReportAnswer::NotInLog => TextAnswer::NotInLog,
     }
 }

@@ -8,14 +8,13 @@ mod day;
 mod line;
 mod report;
 mod strip;
-mod tallies;
 
 pub use answer::TextAnswer;
 pub use day::put_day;
+pub use day_figures::REPORT_NUMBERS;
 pub use line::LINE_MOST;
 pub use line::put_heading;
 pub use line::put_line;
-pub use report::REPORT_NUMBERS;
 pub use report::ReportAnswer;
 pub use report::day_report;
 pub use strip::STRIP_MOST;

@@ -6,8 +6,8 @@ ghost use Rattle.refusal.specs.Outcome.{outcome};
 ghost use Rattle.words.specs.Place.{written};
 ghost use Rattle.dayreport.specs.Text.{putText, headingText, numbersText, lineText, dateSize, lineMost};
 use crate::answer::TextAnswer;
-use crate::report::REPORT_NUMBERS;
 use calendar::Date;
+use day_figures::REPORT_NUMBERS;
 
 pub const DATE_BYTES: usize = 10;
 

@@ -1,23 +1,17 @@
-// The day report: how many cells of a day are gaps, empty and measured, the sums of what was measured, and how many measured cells come twice.
+// The day report: how many cells of a day are gaps, empty and measured, the sums of what was measured, and how many measured cells come twice,
+// as they are kept beside the log.
 ghost use mathlib.Core.Path.{_≡_};
-ghost use Prim.Native.Nat.{_≤_};
-ghost use mathlib.Core.List.{_++_};
-ghost use lib.ListN.{length, drop};
 ghost use Rattle.refusal.specs.Outcome.{outcome};
-ghost use Rattle.log.specs.Image.{cellAt};
-ghost use Rattle.log.specs.View.{viewOf};
-ghost use Rattle.dayreport.specs.Report.{rowNumbers, reportNumber, reportOf, reportIn};
-ghost use Rattle.dayreport.specs.Tallies.{rowOf};
-use crate::tallies::Tallied;
-use crate::tallies::Tallies;
-use log::Header;
+ghost use Rattle.log.specs.Header.{soundOf};
+ghost use Rattle.dayreport.specs.Report.{reportNumber, reportOf};
+use day_figures::REPORT_NUMBERS;
 use log::Lent;
 
 pub enum ReportAnswer {
     Done,
-    // The row is.
+    // The row is, or there are fewer figures than the log has.
     TooShort,
-    // The lent log, or a cell of the day.
+    // The lent log.
     Unsound,
     // The day.
     NotInLog,
@@ -36,47 +30,22 @@ impl ReportAnswer {
     }
 }
 
-pub const REPORT_NUMBERS: usize = 8;
-
-// Sets the row's first numbers; a refusal leaves it as it was.
-pub fn day_report(log: &[u8], day: u8, row: &mut [u32]) -> ReportAnswer
-    ensures { λ r. ⌜ outcome r (now (row .exit)) ≡ reportOf (viewOf (now (log .entry))) day (now (row .entry)) ⌝ }
+// Copies the day's figures to the row's first numbers; a refusal leaves it as it was. No cell is read.
+pub fn day_report(log: &[u8], figures: &[u32], day: u8, row: &mut [u32]) -> ReportAnswer
+    ensures { λ r. ⌜ outcome r (now (row .exit)) ≡ reportOf (soundOf (now (log .entry))) (now (figures .entry)) day (now (row .entry)) ⌝ }
 {
     if row.len() < REPORT_NUMBERS {
         return ReportAnswer::TooShort;
     }
-    match log::sound(log) {
-        Lent::Sound(h) => report_in(log, h, day, row),
-        Lent::Unsound => ReportAnswer::Unsound,
+    let Lent::Sound(h) = log::sound(log) else {
+        return ReportAnswer::Unsound;
+    };
+    if figures.len() < day_figures::figures_of(h) {
+        return ReportAnswer::TooShort;
     }
-}
-
-fn report_in(log: &[u8], h: Header, day: u8, row: &mut [u32]) -> ReportAnswer
-    requires { ⌜ rowNumbers ≤ length (now row) ⌝ }
-    ensures { λ r. ⌜ outcome r (now (row .exit)) ≡ reportIn h (cellAt (now (log .entry))) day (now (row .entry)) ⌝ }
-{
     if h.days <= day {
         return ReportAnswer::NotInLog;
     }
-    match crate::tallies::tally(log, h, day) {
-        Tallied::All(t, doubled) => {
-            put_row(row, t, doubled);
-            ReportAnswer::Done
-        }
-        Tallied::Bad => ReportAnswer::Unsound,
-    }
-}
-
-fn put_row(row: &mut [u32], t: Tallies, doubled: u32)
-    requires { ⌜ rowNumbers ≤ length (now row) ⌝ }
-    ensures { λ _. ⌜ now (row .exit) ≡ rowOf t doubled ++ drop rowNumbers (now (row .entry)) ⌝ }
-{
-    row[0] = t.gaps;
-    row[1] = t.empties;
-    row[2] = t.measured;
-    row[3] = t.ep;
-    row[4] = t.em;
-    row[5] = t.rp;
-    row[6] = t.rm;
-    row[7] = doubled;
+    day_figures::copy_day(figures, day, row);
+    ReportAnswer::Done
 }

@@ -7,15 +7,15 @@ ghost use Rattle.slots.specs.Day.{slotsOf};
 ghost use Rattle.log.specs.Image.{cellAt};
 ghost use Rattle.log.specs.Interval.{nightOn};
 ghost use Rattle.log.specs.View.{viewOf};
-ghost use Rattle.dayreport.specs.Report.{dayCells};
+ghost use Rattle.day_figures.specs.Figures.{dayCells};
 ghost use Rattle.dayreport.specs.Text.{putText};
 ghost use Rattle.dayreport.specs.Strip.{mark, marksAt, dayMarks, stripOf, stripDated, stripOn, stripText};
 use crate::answer::TextAnswer;
 use crate::line::DATE_BYTES;
 use crate::line::LINE_FEED;
 use crate::line::SPACE;
-use crate::tallies::Tallied;
 use calendar::Date;
+use day_figures::Tallied;
 use log::Cell;
 use log::CellAnswer;
 use log::DayAnswer;
@@ -53,7 +53,7 @@ fn put_dated(log: &[u8], h: Header, date: Date, day: u8, out: &mut [u8]) -> Text
     ensures { λ r. ⌜ outcome r (now (out .exit))
         ≡ stripDated date (dayCells (cellAt (now (log .entry))) h day) (dayMarks (cellAt (now (log .entry))) h day) (now (out .entry)) ⌝ }
 {
-    match crate::tallies::tally(log, h, day) {
+    match day_figures::tally(log, h, day) {
         Tallied::All(_, _) => put_marked(log, h, date, day, out),
         Tallied::Bad => TextAnswer::Unsound,
     }

@@ -12,7 +12,6 @@ use Rattle.frame.specs.Sealing.{crcFits}
 use Rattle.slots.specs.Day.{slotsOf}
 use Rattle.slots.specs.Key.{isLegal}
 use Rattle.slots.specs.declared.key.Key.{Key}
-use Rattle.calendar.specs.declared.date.Date.{Date}
 use Rattle.request.specs.Request as request
 use Rattle.request.specs.Subject.{subjectOf, askable, mostSlots}
 use Rattle.request.specs.declared.request.Request.{Request}
@@ -28,9 +27,9 @@ use Rattle.meter_record.specs.declared.record.RecordAnswer.{RecordAnswer}
 use Rattle.meter_record.specs.declared.record.RecordAnswer.the-variants as given
 use Rattle.meter.specs.Bench as bench
 use Rattle.meter.specs.Reply.{isSound}
-use Rattle.log.specs.Fresh as fresh
+use Rattle.log.specs.Fresh.{freshNumber}
 use Rattle.log.specs.Header.{headerSize, isHeader, lengthOf, markRight, versionAt, ifRight}
-use Rattle.log.specs.Image.{applied, allGood}
+use Rattle.log.specs.Image.{applied}
 use Rattle.log.specs.View.{View, viewOf}
 use Rattle.log.specs.declared.image.Change.the-variants as change
 use Rattle.logger.specs.Lapse as silence
@@ -44,26 +43,29 @@ use Rattle.log.proofs.IntervalLaws.{by-at}
 use Rattle.log.specs.declared.header.Header.{Header}
 use Rattle.log.specs.declared.header.HeaderAnswer.{HeaderAnswer}
 use Rattle.log.specs.declared.header.HeaderAnswer.the-variants.{Right, Wrong}
+use Rattle.log.specs.declared.header.Lent.{Lent}
 use Rattle.log.specs.declared.interval.DayAnswer.{DayAnswer}
 use Rattle.log.specs.declared.interval.DayAnswer.the-variants as on-day
+use Rattle.day_figures.specs.Both.{Both, both, enough}
+use Rattle.day_figures.specs.Figures.{rowNumbers}
+use Rattle.day_figures.specs.Fresh.{freshWith}
+use Rattle.day_figures.specs.Rows.{rowAt}
 use Rattle.dayreport.specs.Report as report
-use Rattle.dayreport.specs.declared.report.ReportAnswer.{ReportAnswer}
-use Rattle.dayreport.specs.declared.report.ReportAnswer.the-variants as reported
 use Rattle.dayreport.specs.Text as text
 use Rattle.dayreport.specs.Day as day
-use Rattle.logfile.specs.Row.{rowAt, lapsesIn}
+use Rattle.logfile.specs.Row as file
+use Rattle.logfile.specs.Row.{lapsesIn}
 use Rattle.logfile.specs.File.{isVersion, fileHeader, fileLengthAs, fileLength, cellsRight}
 use Rattle.logfile.specs.Read as reading
 use Rattle.logfile.specs.Write as writing
 use Rattle.logger.specs.Ask as asking
 use Rattle.logger.specs.Book as book
-use Rattle.logger.specs.Run.{State, step}
+use Rattle.logger.specs.Run.{State, state, step}
 use Rattle.logger.specs.Take as taking
-use Rattle.logger.proofs.TakeLaws.{by-none, isClosing, decided-ways}
+use Rattle.logger.proofs.TakeLaws.{by-none, Step, isClosing, decided-ways}
 use Rattle.logger.specs.declared.held.OpenAsk.{OpenAsk}
 use Rattle.logger.specs.declared.held.OpenAsk.the-variants.{Closed}
 use Rattle.logger.specs.declared.ask.Asked.{Asked}
-use Rattle.logger.specs.declared.take.Decision.{Decision}
 use Rattle.logger.specs.declared.take.Taken.{Taken}
 use Rattle.logger.specs.declared.take.TakeAnswer.{TakeAnswer}
 use Rattle.logger.specs.declared.take.TakeAnswer.the-variants as answer
@@ -135,58 +137,58 @@ put-slice r s k row =
 
 -- ---- a fresh log
 
-pub fresh-log : (h : Header) (out : List ℕ) → EndsBy fresh.freshNumber out (fresh.freshOf h out)
-unfolding fresh.freshOf inTable
-fresh-log h out =
-    let P = EndsBy fresh.freshNumber out in
-    either P (isHeader h) (either P (leb (lengthOf h) (length out)) (done out _) (stays 1 out refl)) (stays 27 out refl)
+pub fresh-log : (h : Header) (out figs : List ℕ) → EndsBy freshNumber (both out figs) (freshWith h out figs)
+unfolding freshWith inTable
+fresh-log h out figs =
+    let b = both out figs in
+    let P = EndsBy freshNumber b in
+    by-check P (isHeader h) (stays 27 b refl) (
+    by-check P (enough h figs) (stays 1 b refl) (
+    by-check P (leb (lengthOf h) (length out)) (stays 1 b refl) (done b _)))
 
 -- ---- day reports and their text
 
-pub day-report : (v : View) (d : ℕ) (row : List ℕ) → EndsBy report.reportNumber row (report.reportOf v d row)
-unfolding report.reportOf report.reportIn inTable
-day-report v d row =
+pub day-report : (lent : Lent) (figs : List ℕ) (d : ℕ) (row : List ℕ) → EndsBy report.reportNumber row (report.reportOf lent figs d row)
+unfolding report.reportOf inTable
+day-report lent figs d row =
     let P = EndsBy report.reportNumber row in
-    by-check P (leb report.rowNumbers (length row)) (stays 1 row refl) (
-    by-sound P (v .lent) (λ e. stays 28 row refl) (λ h e.
-    by-check P (ltb d (h .days)) (stays 22 row refl) (
-    by-check P (allGood (report.dayCells (v .cell) h d)) (stays 28 row refl) (done row _))))
+    by-check P (leb rowNumbers (length row)) (stays 1 row refl) (
+    by-sound P lent (λ e. stays 28 row refl) (λ h e.
+    by-check P (enough h figs) (stays 1 row refl) (
+    by-check P (ltb d (h .days)) (stays 22 row refl) (done row _))))
 
 pub put-text : (line out : List ℕ) → EndsBy text.textNumber out (text.putText line out)
 unfolding text.putText inTable
 put-text line out = either (EndsBy text.textNumber out) (leb (length line) (length out)) (done out _) (stays 1 out refl)
 
-module _ (v : View) (d : ℕ) (out : List ℕ) where
-  reported-put : (a : ReportAnswer) (date : Date) (row : List ℕ) → EndsBy text.textNumber out (day.reportedText a date row out)
-  unfolding day.reportedText inTable
-  reported-put reported.Done date row = put-text (text.lineText date row) out
-  reported-put reported.TooShort date row = stays 1 out refl
-  reported-put reported.Unsound date row = stays 28 out refl
-  reported-put reported.NotInLog date row = stays 22 out refl
-
-  dated-put : (a : DayAnswer) → EndsBy text.textNumber out (day.dayOnText a v d out)
-  unfolding day.dayOnText day.datedText inTable
+module _ (lent : Lent) (figs : List ℕ) (d : ℕ) (out : List ℕ) where
+  dated-put : (a : DayAnswer) → EndsBy text.textNumber out (day.dayOnText a (rowAt figs d) out)
+  unfolding day.dayOnText inTable
   dated-put on-day.Outside = stays 22 out refl
-  dated-put (on-day.On date) = reported-put _ date _
+  dated-put (on-day.On date) = put-text (text.lineText date (rowAt figs d)) out
 
-  pub put-day : EndsBy text.textNumber out (day.dayText v d out)
+  pub put-day : EndsBy text.textNumber out (day.dayText lent figs d out)
   unfolding day.dayText inTable
-  put-day = by-sound (EndsBy text.textNumber out) (v .lent) (λ e. stays 28 out refl) (λ h e. dated-put (dayDate h d))
+  put-day =
+      let P = EndsBy text.textNumber out in
+      by-sound P lent (λ e. stays 28 out refl) (λ h e. by-check P (enough h figs) (stays 1 out refl) (dated-put (dayDate h d)))
 
 -- ---- files
 
-pub read-file : (f out : List ℕ) → EndsBy reading.readNumber out (reading.readFile f out)
+pub read-file : (f out figs : List ℕ) → EndsBy reading.readNumber (both out figs) (reading.readFile f out figs)
 unfolding reading.readFile reading.readFields reading.readCells inTable
-read-file f out =
-    let P = EndsBy reading.readNumber out in
-    by-check P (leb reading.markSize (length f) && markRight f) (stays 30 out refl) (
-    by-check P (isVersion (versionAt f)) (stays 31 out refl) (
-    by-check P (leb headerSize (length f)) (stays 32 out refl) (
-    by-right P (fileHeader f) (stays 32 out refl) (λ h.
-    by-check P (eqb (length f) (fileLengthAs (versionAt f) h)) (stays 33 out refl) (
-    by-check P (crcFits f) (stays 34 out refl) (
-    by-check P (cellsRight h (rowAt (versionAt f) f) (lapsesIn (versionAt f) f)) (stays 35 out refl) (
-    by-check P (leb (lengthOf h) (length out)) (stays 1 out refl) (done out _))))))))
+read-file f out figs =
+    let b = both out figs in
+    let P = EndsBy reading.readNumber b in
+    by-check P (leb reading.markSize (length f) && markRight f) (stays 30 b refl) (
+    by-check P (isVersion (versionAt f)) (stays 31 b refl) (
+    by-check P (leb headerSize (length f)) (stays 32 b refl) (
+    by-right P (fileHeader f) (stays 32 b refl) (λ h.
+    by-check P (eqb (length f) (fileLengthAs (versionAt f) h)) (stays 33 b refl) (
+    by-check P (crcFits f) (stays 34 b refl) (
+    by-check P (cellsRight h (file.rowAt (versionAt f) f) (lapsesIn (versionAt f) f)) (stays 35 b refl) (
+    by-check P (leb (lengthOf h) (length out)) (stays 1 b refl) (
+    by-check P (enough h figs) (stays 1 b refl) (done b _)))))))))
 
 pub write-file : (v : View) (out : List ℕ) → EndsBy writing.writeNumber out (writing.writtenFile v out)
 unfolding writing.writtenFile inTable
@@ -216,7 +218,7 @@ lapse s =
     lapsing-ways
     (λ (d : LapseDecision).
     EndsBy (λ (a : book.Answer). a .number) s
-    (outcome (book.plain (silence.numberOf (d .lapsed .answer))) (record { log = applied (d .change) (s .log); held = d .lapsed .held })))
+    (outcome (book.plain (silence.numberOf (d .lapsed .answer))) (state (both (applied (d .change) (s .log)) (s .figures)) (d .lapsed .held))))
     (viewOf (s .log)) (s .held) (record {
       none = λ e. done s _;
       refused = λ a n. refused-lapse a n;
@@ -224,23 +226,24 @@ lapse s =
     })
   where
     refused-lapse : (a : LapseAnswer) → isRefused a ≡ true
-        → EndsBy (λ (a : book.Answer). a .number) s (outcome (book.plain (silence.numberOf a)) (record { log = applied change.None (s .log); held = s .held }))
+        → EndsBy (λ (a : book.Answer). a .number) s (outcome (book.plain (silence.numberOf a)) (state (both (applied change.None (s .log)) (s .figures)) (s .held)))
     refused-lapse lapse-answer.Done n = absurd (false≢true n)
     refused-lapse lapse-answer.NotInLog n = record { in-table = refl; unchanged = λ k. refl }
     refused-lapse lapse-answer.Unsound n = record { in-table = refl; unchanged = λ k. refl }
 
-pub lapse-none : (s : List ℕ) → step (record { log = s; held = Closed }) book.lapse ≡ outcome (book.plain 0) (record { log = s; held = Closed })
+pub lapse-none : (b : Both) → step (state b Closed) book.lapse ≡ outcome (book.plain 0) (state b Closed)
 unfolding step silence.lapsed silence.lapsing applied
-lapse-none s = refl
+lapse-none b = refl
 
--- a taken reply: the log, and the ask
-record TakenEnds (s : List ℕ) (held : OpenAsk) (o : Outcome Taken (List ℕ)) : Type 0 where
-  log : Ends (taking.numberOf (o .result .answer)) s (o .left)
+-- a taken reply: the log with its figures, and the ask
+record TakenEnds (b : Both) (held : OpenAsk) (o : Outcome Taken Both) : Type 0 where
+  log : Ends (taking.numberOf (o .result .answer)) b (o .left)
   ask : o .result .held ≡ cond (closes (taking.numberOf (o .result .answer))) Closed held
 
 answer-in-table : (a : TakeAnswer) → inTable (taking.numberOf a) ≡ true
 unfolding inTable
 answer-in-table answer.Done = refl
+answer-in-table answer.TooShort = refl
 answer-in-table answer.NoAskOpen = refl
 answer-in-table answer.NotInLog = refl
 answer-in-table (answer.Malformed f) = fault-in-table f
@@ -259,6 +262,7 @@ fault-open fault.Parameter = refl
 -- the numbers tell which answers close it
 pub number-closes : (a : TakeAnswer) → closes (taking.numberOf a) ≡ isClosing a
 number-closes answer.Done = refl
+number-closes answer.TooShort = refl
 number-closes answer.NoAskOpen = refl
 number-closes answer.NotInLog = refl
 number-closes (answer.Malformed f) = fault-open f
@@ -266,18 +270,18 @@ number-closes (answer.MeterRefused result) = refl
 number-closes answer.OtherCounts = refl
 number-closes answer.Unsound = refl
 
-taken-ends : (s : List ℕ) (held : OpenAsk) (y : List ℕ) → TakenEnds s held (taking.taken s held y)
+taken-ends : (b : Both) (held : OpenAsk) (y : List ℕ) → TakenEnds b held (taking.taken b held y)
 unfolding taking.taken applied
-taken-ends s held y =
-    decided-ways (λ (d : Decision). TakenEnds s held (taking.done d s)) (viewOf s) held y (record {
-      kept-open = λ a n. record { log = stays (taking.numberOf a) s (answer-in-table a); ask = rw (number-closes a ∙ n) };
-      closed = λ a n. record { log = stays (taking.numberOf a) s (answer-in-table a); ask = rw (number-closes a ∙ n) };
-      put = λ h i c e o is. record { log = done s _; ask = refl };
+taken-ends b held y =
+    decided-ways (λ (o : Step). TakenEnds b held (taking.done o (b .log))) (viewOf (b .log)) (b .figures) held y (record {
+      kept-open = λ a n. record { log = stays (taking.numberOf a) b (answer-in-table a); ask = rw (number-closes a ∙ n) };
+      closed = λ a n. record { log = stays (taking.numberOf a) b (answer-in-table a); ask = rw (number-closes a ∙ n) };
+      put = λ h i old c e o g is d. record { log = done b _; ask = refl };
     })
 
-pub take-reply : (s : List ℕ) (held : OpenAsk) (y : List ℕ) → let o = taking.taken s held y in Ends (taking.numberOf (o .result .answer)) s (o .left)
-take-reply s held y = taken-ends s held y .log
+pub take-reply : (b : Both) (held : OpenAsk) (y : List ℕ) → let o = taking.taken b held y in Ends (taking.numberOf (o .result .answer)) b (o .left)
+take-reply b held y = taken-ends b held y .log
 
-pub ask-after : (s : List ℕ) (held : OpenAsk) (y : List ℕ) → let o = taking.taken s held y in
+pub ask-after : (b : Both) (held : OpenAsk) (y : List ℕ) → let o = taking.taken b held y in
     o .result .held ≡ cond (closes (taking.numberOf (o .result .answer))) Closed held
-ask-after s held y = taken-ends s held y .ask
+ask-after b held y = taken-ends b held y .ask

@@ -10,7 +10,10 @@ use Rattle.demands.specs.Faults.{ReplyFaults}
 use Rattle.demands.specs.Function4.{Function4}
 use Rattle.demands.specs.Seasons.{Seasons}
 use Rattle.demands.specs.Lapses.{Lapses}
+use Rattle.demands.specs.DayFigures.{DayFigures}
 use Rattle.demands.specs.Examples.{Marked}
+use Rattle.day_figures.proofs.PutLaws as put-laws
+use Rattle.logger.proofs.FigureLaws as figures-of
 use Rattle.logger.proofs.SeasonLaws as seasons-of
 use Rattle.polling.proofs.NextLaws.{next-exists}
 use Rattle.demands.proofs.Again as again
@@ -31,6 +34,7 @@ use Rattle.demands.proofs.Range as range
 use Rattle.demands.proofs.Replies as replies
 use Rattle.demands.proofs.Seasons as seasons-in
 use Rattle.demands.proofs.Lapses as lapses-in
+use Rattle.demands.proofs.DayFigures as figures-in
 
 pub demand-1 : Demand1
 demand-1 = record {
@@ -149,6 +153,17 @@ lapses = record {
   no-lapse = lapses-in.no-lapse;
   early = lapses-in.early;
   early-had = lapses-in.early-had;
+}
+
+pub day-figures : DayFigures
+day-figures = record {
+  kept = figures-in.kept;
+  never-28 = figures-in.never-28;
+  reported = figures-in.reported;
+  other-days = figures-of.row-stays;
+  as-many = figures-of.as-many;
+  same-cell = λ d twice c figs small room. put-laws.same-cell figs small d twice c room;
+  polled = figures-in.polled;
 }
 
 pub reply-faults : ReplyFaults

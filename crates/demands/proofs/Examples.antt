@@ -13,8 +13,12 @@ use Rattle.log.specs.Header as log
 use Rattle.slots.specs.Day.{isMinutes, slotsOf}
 use Rattle.log.specs.Header.{cellsOf, daysRight, isHeader, dateBytes, headerBytesAs, headerAt, markRight, versionRight, fieldsRight, headerOf, fittedTo, soundOf}
 use Rattle.log.specs.Image.{cellAt, putCell, applied, cellsBytes, imageOf}
-use Rattle.season_nights.specs.Night.{missing}
-use Rattle.log.specs.Interval.{nightOn, exists, intervalOf}
+use Rattle.season_nights.specs.Night.{missing, doubled}
+use Rattle.log.specs.Interval.{nightOn, exists, comesTwice, intervalOf}
+use Rattle.day_figures.specs.Tallies as figure-row
+use Rattle.day_figures.specs.Tallies.{talliesIn}
+use Rattle.day_figures.specs.Rows.{figuresOf, rowAt, putRow}
+use Rattle.day_figures.specs.Put.{cellRow, netFits, rowFits, netRow, movedBy, changeOf}
 use Rattle.logger.specs.Ask as Ask
 use Rattle.logger.specs.Reply.{rowOf}
 use Rattle.logger.specs.Take as Take
@@ -36,9 +40,10 @@ use Rattle.demands.specs.Examples.{all, examples}
 
 pub together : all examples ≡ true
 unfolding all examples framed bytesOf requestFrame crcOf crcFrom byteStep eightBits times bitStep lastSunday dateOf dateAt countOff dayNumber starts
-    lengthOf daysInMonth monthLengths leap runOf step Ask.asked Take.taken Take.decided Take.updated Take.updateOf Take.sameCounts rowOf formOf lengthFor functionFor headOf
+    lengthOf daysInMonth monthLengths leap runOf step Ask.asked Take.taken Take.decided Take.updated Take.putWith Take.updateOf Take.sameCounts rowOf formOf lengthFor functionFor headOf
     crcFits numberAt number written isDate isMinutes slotsOf cellsOf log.lengthOf daysRight isHeader dateBytes headerBytesAs headerAt markRight
     versionRight fieldsRight headerOf fittedTo soundOf noCounts kindBytes countsBytes cellBytes kindFits cellBy kindCell cellOf cellAt putCell applied cellsBytes imageOf
     missing nightOn exists intervalOf gaps freshImage verdictOf verdictBy changeVerdict checked passed argumentFits telemetryFits isTelemetry parameterByte functionOf
     parameterOf firstOf dataFits telemetryOf telemetryBytes fresh quietSecond
+    figuresOf rowAt putRow comesTwice doubled changeOf movedBy cellRow rowFits netFits netRow talliesIn figure-row.rowOf
 together = refl

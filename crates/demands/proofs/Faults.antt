@@ -34,14 +34,15 @@ use Rattle.reader.specs.declared.form.Form.the-variants.{WellFormed, Faulty}
 use Rattle.reader.specs.declared.reply.Decoded.{Decoded}
 use Rattle.reader.specs.declared.reply.Decoded.the-variants as decoded
 use Rattle.reader.proofs.FormLaws.{length-told}
+use Rattle.log.specs.Interval.{comesTwice}
 use Rattle.log.specs.View.{viewOf}
+use Rattle.day_figures.specs.Both.{Both}
 use Rattle.logger.specs.Reply.{sliceForm, rowOf}
 use Rattle.logger.specs.Take as Take
 use Rattle.logger.specs.declared.held.OpenAsk.{OpenAsk}
-use Rattle.logger.specs.declared.take.Decision.{Decision}
 use Rattle.logger.specs.declared.take.TakeAnswer.{TakeAnswer}
 use Rattle.logger.specs.declared.take.TakeAnswer.the-variants as answer
-use Rattle.logger.proofs.TakeLaws.{decided-cases, update-cases}
+use Rattle.logger.proofs.TakeLaws.{Step, decided-cases, update-cases}
 use Rattle.demands.specs.Demand1.{inTable}
 
 pub gone : (n : ℕ) → inTable n ≡ true → n ≡ 23 → ⊥
@@ -159,27 +160,30 @@ module _ (q : Request) (y : List ℕ) where
 toldTaken : ℕ → TakeAnswer → ℕ
 toldTaken other (answer.Malformed f) = told other f
 toldTaken other answer.Done = other
+toldTaken other answer.TooShort = other
 toldTaken other answer.NoAskOpen = other
 toldTaken other answer.NotInLog = other
 toldTaken other (answer.MeterRefused result) = other
 toldTaken other answer.OtherCounts = other
 toldTaken other answer.Unsound = other
 
-module _ (s : List ℕ) (held : OpenAsk) (y : List ℕ) where
-  taken-told : toldTaken (length y) ((Take.taken s held y) .result .answer) ≡ length y
+module _ (b : Both) (held : OpenAsk) (y : List ℕ) where
+  taken-told : toldTaken (length y) ((Take.taken b held y) .result .answer) ≡ length y
   unfolding Take.taken toldTaken
   taken-told =
-      let P : Decision → Type 0 = λ d. toldTaken (length y) (d .taken .answer) ≡ length y in
-      decided-cases P (viewOf s) held y (λ u. refl) (λ h u.
+      let P : Step → Type 0 = λ o. toldTaken (length y) (o .result .taken .answer) ≡ length y in
+      decided-cases P (viewOf (b .log)) (b .figures) held y (λ u. refl) (λ h u.
       record {
+        few = λ n. refl;
         no-ask = λ o. refl;
         outside = λ a d t o n. refl;
         malformed = λ i o f e. form-told (o .address) 3 36 14 y f e;
         refused = λ i o r. refl;
         bad-cell = λ i o b. refl;
-        counted = λ i o r c g. update-cases P (Take.updateOf c (rowOf y)) i (λ new q. refl) refl refl;
+        counted = λ i o r c g.
+            update-cases P (comesTwice h (o .ask .day) (o .ask .slot)) held (o .ask .day) i c (b .figures) (Take.updateOf c (rowOf y)) (λ new q d. refl) refl refl refl;
       })
 
-  pub take-length : (n : ℕ) → (Take.taken s held y) .result .answer ≡ answer.Malformed (fault.Length n) → n ≡ length y
+  pub take-length : (n : ℕ) → (Take.taken b held y) .result .answer ≡ answer.Malformed (fault.Length n) → n ≡ length y
   unfolding toldTaken told
   take-length n e = sym (ap (toldTaken (length y)) e) ∙ taken-told

@@ -5,33 +5,37 @@ use mathlib.Core.List.{List, [], _∷_, _++_}
 use Prim.Native.Nat.{ℕ, _+_, _<_, _≤_}
 use native.Mathlib.Nat.{zero-add}
 use native.Mathlib.Omega.{arith}
-use borrow.Author.Tests.{leb-true, ltb-true, ltb-false}
-use lib.Dec.{leb, ltb}
+use borrow.Author.Tests.{ltb-true, ltb-false}
+use lib.Dec.{ltb}
 use lib.ListN.{length, take, drop, getD, List·getD-eq-default}
-use lib.Seq.{ext-getD, take-at}
-use Rattle.case_laws.proofs.Test.{chosen}
+use lib.Seq.{ext-getD}
 use Rattle.refusal.specs.Outcome.{Outcome, outcome}
 use Rattle.words.specs.Number.{Bytes}
 use Rattle.words.specs.Place.{byteAt}
 use Rattle.log.specs.Cell.{isCell, noCounts, IsCell}
 use Rattle.log.proofs.CellLaws.{gap-is-cell}
-use Rattle.log.specs.Fresh.{freshImage, freshNumber, freshOf, gaps, noLapses}
+use Rattle.log.specs.Fresh.{freshImage, gaps, noLapses}
 use Rattle.log.specs.declared.fresh.FreshAnswer.{FreshAnswer}
 use Rattle.log.specs.declared.fresh.FreshAnswer.the-variants as made
-use Rattle.log.proofs.FreshLaws.{length-gaps, length-freshImage, gap-at, fresh-front}
+use Rattle.log.proofs.FreshLaws.{length-gaps, gap-at}
 use Rattle.log.specs.Header.{version, isHeader, cellsOf, lengthOf, soundOf}
-use Rattle.log.specs.Image.{applied, imageOf, AllCells, LapsesFit}
-use Rattle.log.proofs.ImageLaws.{image-alike}
+use Rattle.log.specs.Image.{applied, imageOf, cellAt, AllCells, LapsesFit}
+use Rattle.log.proofs.ImageLaws.{image-alike, sound-image, bytes-image}
 use Rattle.log.specs.declared.image.Change.the-variants as change
-use Rattle.log.specs.View.{viewOf}
+use Rattle.log.specs.View.{View, viewOf}
 use Rattle.log.proofs.ViewLaws as layout
-use Rattle.log.proofs.ViewLaws.{length-applied}
+use Rattle.log.proofs.ViewLaws.{viewBy, view-image, length-applied}
 use Rattle.log.specs.declared.cell.Cell.{Cell}
 use Rattle.log.specs.declared.cell.Cell.the-variants.{Gap, Empty, Measured}
+use Rattle.log.specs.declared.cell.CellAnswer.{CellAnswer}
 use Rattle.log.specs.declared.header.Header.{Header}
 use Rattle.log.specs.declared.header.Lent.the-variants.{Sound}
+use Rattle.day_figures.specs.Both.{Both, both}
+use Rattle.day_figures.specs.Fresh.{freshWith}
+use Rattle.day_figures.specs.Rows.{figuresOf, Right, allFigures, allGaps}
+use Rattle.day_figures.proofs.FreshLaws.{fresh-made, fresh-both}
 use Rattle.logger.specs.Take as Take
-use Rattle.logger.proofs.TakeLaws.{decided-ways}
+use Rattle.logger.proofs.TakeLaws.{Step, decided-ways}
 use Rattle.logger.specs.Lapse as Lapse
 use Rattle.logger.proofs.LapseLaws.{lapsing-ways}
 use Rattle.logger.specs.declared.no_reply.LapseDecision.{LapseDecision}
@@ -39,33 +43,38 @@ use Rattle.logger.specs.Book.{Call, ask, lapse, reply, Answer, Book, isZero, co
 use Rattle.logger.proofs.BookLaws.{Fitting, length-workedOut, workedOut-at}
 use Rattle.logger.specs.Run.{State, step, run}
 use Rattle.logger.proofs.StepLaws.{stateOf, Sane, step-agrees, step-sane}
+use Rattle.logger.proofs.FigureLaws.{Faithful, step-faithful}
 use Rattle.logger.specs.declared.held.OpenAsk.{OpenAsk}
-use Rattle.logger.specs.declared.take.Decision.{Decision}
-use Rattle.logfile.specs.File.{fileBytes}
+use Rattle.logfile.specs.File.{isVersion, seasonsFit, fileBytes, fileBytesAs}
 use Rattle.logfile.specs.Read.{readFile}
 use Rattle.logfile.specs.declared.read.ReadAnswer.{ReadAnswer}
 use Rattle.logfile.specs.declared.read.ReadAnswer.the-variants as read
 use Rattle.logfile.proofs.FileLaws as logs
-use Rattle.logfile.proofs.FileLaws.{IsLog, known-today, seasons-today, lapses-today, accepted}
+use Rattle.logfile.proofs.RowLaws.{NoneBefore}
+use Rattle.logfile.proofs.FileLaws.{IsLog, known-today, seasons-today, lapses-today, accepted, image-front}
 use Rattle.polling.specs.Reached.{Polled}
 use Rattle.demands.specs.Demand3.{Start, begin, ran, booked, logAfresh, Elsewhere}
 
 -- ---- a list of calls
 
-pub record Together (h : Header) (b : Book) (calls : List Call) : Type 0 where
-  pub answers : run (stateOf h b) calls .result ≡ bookRun h b calls .result
-  pub state : run (stateOf h b) calls .left ≡ stateOf h (bookRun h b calls .left)
+pub record Together (h : Header) (b : Book) (figs : List ℕ) (calls : List Call) : Type 0 where
+  pub answers : run (stateOf h b figs) calls .result ≡ bookRun h b calls .result
+  pub state : let s = run (stateOf h b figs) calls .left in s ≡ stateOf h (bookRun h b calls .left) (s .figures)
 
-pub together : (h : Header) (b : Book) (calls : List Call) → isHeader h ≡ true → Sane h b → AllBytes calls → Together h b calls
+pub together : (h : Header) (b : Book) (figs : List ℕ) (calls : List Call) → isHeader h ≡ true → Sane h b → AllBytes calls → Faithful h (stateOf h b figs)
+    → Together h b figs calls
 unfolding runOf
-together h b [] e s k = record { answers = refl; state = refl }
-together h b (c ∷ calls) e s k =
-    let a = step-agrees h b c e s (k .0) in
-    let rest = together h (bookStep h b c .left) calls e (step-sane h b c s (k .0)) (k .1) in
+together h b figs [] e s k f = record { answers = refl; state = refl }
+together h b figs (c ∷ calls) e s k f =
+    let a = step-agrees h b figs c e s (k .0) (f .right) in
+    let after = step (stateOf h b figs) c .left in
+    let faithful = subst (Faithful h) (a .state) (step-faithful h (stateOf h b figs) c (k .0) f) in
+    let rest = together h (bookStep h b c .left) (after .figures) calls e (step-sane h b c s (k .0)) (k .1) faithful in
+    let same : run after calls ≡ run (stateOf h (bookStep h b c .left) (after .figures)) calls = ap (λ (t : State). run t calls) (a .state) in
     record {
       answers = ap₂ (λ (x : Answer) (xs : List Answer). x ∷ xs)
-          (a .answer) (ap (λ (t : State). run t calls .result) (a .state) ∙ rest .answers);
-      state = ap (λ (t : State). run t calls .left) (a .state) ∙ rest .state;
+          (a .answer) (ap (λ (o : Outcome (List Answer) State). o .result) same ∙ rest .answers);
+      state = subst (λ (o : Outcome (List Answer) State). o .left ≡ stateOf h (bookRun h (bookStep h b c .left) calls .left) (o .left .figures)) (sym same) (rest .state);
     }
 
 -- ---- the start
@@ -120,22 +129,22 @@ not-cut n l = go (ltb n 255) refl
     go true p = refl
     go false p = omega (arith, ltb-false n 255 p)
 
-pub start-state : (h : Header) (cells : List Cell) (lapses : ℕ → ℕ) → length cells ≡ cellsOf h → AllCells cells → LapsesFit lapses
-    → stateOf h (startBook cells lapses) ≡ begin (imageOf h cells lapses)
+pub start-state : (h : Header) (cells : List Cell) (lapses : ℕ → ℕ) (figs : List ℕ) → length cells ≡ cellsOf h → AllCells cells → LapsesFit lapses
+    → stateOf h (startBook cells lapses) figs ≡ begin (both (imageOf h cells lapses) figs)
 unfolding startBook
-start-state h cells lapses e k f =
-    ap (λ (l : List Cell). begin (imageOf h l (lapsesOut lapses))) (start-cells cells lapses (cellsOf h) e k)
-    ∙ ap begin (image-alike h cells (lapsesOut lapses) lapses (λ i l. not-cut (lapses i) (f i)))
+start-state h cells lapses figs e k f =
+    ap (λ (l : List Cell). begin (both (imageOf h l (lapsesOut lapses)) figs)) (start-cells cells lapses (cellsOf h) e k)
+    ∙ ap (λ (s : List ℕ). begin (both s figs)) (image-alike h cells (lapsesOut lapses) lapses (λ i l. not-cut (lapses i) (f i)))
 
 -- ---- what a call leaves alone
 
-byte-stays : (s : State) (y : List ℕ) (j : ℕ) → Elsewhere s j → byteAt (Take.taken (s .log) (s .held) y .left) j ≡ byteAt (s .log) j
+byte-stays : (s : State) (y : List ℕ) (j : ℕ) → Elsewhere s j → byteAt (Take.taken (both (s .log) (s .figures)) (s .held) y .left .log) j ≡ byteAt (s .log) j
 unfolding Take.taken applied
 byte-stays s y j k =
-    decided-ways (λ (d : Decision). byteAt (applied (d .change) (s .log)) j ≡ byteAt (s .log) j) (viewOf (s .log)) (s .held) y (record {
+    decided-ways (λ (o : Step). byteAt (applied (o .result .change) (s .log)) j ≡ byteAt (s .log) j) (viewOf (s .log)) (s .figures) (s .held) y (record {
       kept-open = λ a n. refl;
       closed = λ a n. refl;
-      put = λ h i c e o is. layout.elsewhere (s .log) (change.Put i c) i j refl (k h i e o);
+      put = λ h i old c e o g is done. layout.elsewhere (s .log) (change.Put i c) i j refl (k h i e o);
     })
 
 lapse-stays : (s : State) (j : ℕ) → Elsewhere s j → byteAt (Lapse.lapsed (s .log) (s .held) .left) j ≡ byteAt (s .log) j
@@ -157,50 +166,44 @@ pub as-long : (s : State) (c : Call) → length (step s c .left .log) ≡ length
 unfolding step Take.taken Lapse.lapsed
 as-long s (ask address day slot out) = refl
 as-long s lapse = length-applied (Lapse.lapsing (viewOf (s .log)) (s .held) .change) (s .log)
-as-long s (reply y) = length-applied (Take.decided (viewOf (s .log)) (s .held) y .change) (s .log)
+as-long s (reply y) = length-applied (Take.decided (viewOf (s .log)) (s .figures) (s .held) y .result .change) (s .log)
 
 -- ---- from every start
 
-fresh-start : (h : Header) → isHeader h ≡ true → Start (freshImage h)
+-- what is seen of an image's cells
+cells-seen : (h : Header) (cells : List Cell) (lapses : ℕ → ℕ) → isHeader h ≡ true → length cells ≡ cellsOf h
+    → viewOf (imageOf h cells lapses) .cell ≡ cellAt (imageOf h cells lapses)
+cells-seen h cells lapses e n = rw (sound-image lapses h cells e n) refl
+
+-- the fresh log that `fresh_log` says is done, and its figures
+pub fresh : (h : Header) (out figs : List ℕ) (n : ℕ) → let o = freshWith h out figs in o .result ≡ made.Done n
+    → Start (both (take n (o .left .log)) (o .left .figures))
 unfolding freshImage
-fresh-start h e = record {
-  header = h;
-  cells = gaps (cellsOf h);
-  lapses = noLapses;
-  right = e;
-  count = length-gaps (cellsOf h);
-  each = λ i l. rw (gap-at (cellsOf h) i (rw length-gaps at l)) gap-is-cell;
-  fit = λ i. omega arith;
-  gaps = λ i l x. gap-at (cellsOf h) i (rw length-gaps at l);
-  quiet = λ i l x. refl;
-  image = refl;
-}
+fresh h out figs n p =
+    let o = freshWith h out figs in
+    let a = fresh-made h out figs (o .left) n (ap (λ (r : FreshAnswer). outcome r (o .left)) p) in
+    let count = length-gaps (cellsOf h) in
+    subst (λ (s : List ℕ). Start (both s (o .left .figures))) (sym (a .image)) (record {
+      header = h;
+      cells = gaps (cellsOf h);
+      lapses = noLapses;
+      right = a .header;
+      count = count;
+      each = λ i l. rw (gap-at (cellsOf h) i (rw length-gaps at l)) gap-is-cell;
+      fit = λ i. omega arith;
+      gaps = λ i l x. gap-at (cellsOf h) i (rw length-gaps at l);
+      quiet = λ i l x. refl;
+      image = refl;
+      figures = subst (λ (cell : ℕ → CellAnswer). Right h cell (o .left .figures)) (sym (cells-seen h (gaps (cellsOf h)) noLapses (a .header) count)) (a .right);
+    })
 
--- a refusal of a fresh log is not `Done`
-refused : (a : FreshAnswer) (x y : List ℕ) (n : ℕ) → 0 < freshNumber a → outcome a x ≡ outcome (made.Done n) y → ⊥
-refused a x y n l p = omega (arith, ap (λ (o : Outcome FreshAnswer (List ℕ)). freshNumber (o .result)) p)
-
-pub fresh : (h : Header) (out : List ℕ) (n : ℕ) → freshOf h out .result ≡ made.Done n → Start (take n (freshOf h out .left))
-unfolding freshOf
-fresh h out n p =
-    let y = freshOf h out .left in
-    let q : freshOf h out ≡ outcome (made.Done n) y = ap (λ (a : FreshAnswer). outcome a y) p in
-    let r = chosen (isHeader h) _ (outcome made.OutOfRange out) q (refused made.OutOfRange out y n (omega arith)) in
-    let l = chosen (leb (lengthOf h) (length out)) _ (outcome made.TooShort out) (r .1) (refused made.TooShort out y n (omega arith)) in
-    let d : made.Done (lengthOf h) ≡ made.Done n = ap (λ (o : Outcome FreshAnswer (List ℕ)). o .result) (l .1) in
-    let k : lengthOf h ≡ n = cc in
-    let given : y ≡ freshImage h ++ drop (lengthOf h) out = ap (λ (o : Outcome FreshAnswer (List ℕ)). o .left) (fresh-front h out (r .0) (leb-true _ _ (l .0))) in
-    let front : take n y ≡ freshImage h = ap (take n) given ∙ take-at (freshImage h) (drop (lengthOf h) out) n (length-freshImage h ∙ k) in
-    subst Start (sym front) (fresh-start h (r .0))
-
-pub file : (f out : List ℕ) (n : ℕ) → Bytes f → readFile f out .result ≡ read.Done n → Start (take n (readFile f out .left))
-file f out n k p =
-    let y = readFile f out .left in
-    let a = accepted f k out y n (ap (λ (r : ReadAnswer). outcome r y) p) in
-    let s = imageOf (a .header) (a .cells) (a .lapses) in
-    let front : take n y ≡ s = ap (take n) (a .given) ∙ take-at s (drop n out) n (a .size) in
+pub file : (f out figs : List ℕ) (n : ℕ) → Bytes f → let o = readFile f out figs in o .result ≡ read.Done n
+    → Start (both (take n (o .left .log)) (o .left .figures))
+file f out figs n k p =
+    let o = readFile f out figs in
+    let a = accepted f k out figs (o .left .log) (o .left .figures) n (ap (λ (r : ReadAnswer). outcome r (o .left)) p) in
     let w = a .whole in
-    subst Start (sym front) (record {
+    subst (λ (s : List ℕ). Start (both s (o .left .figures))) (sym (image-front f out figs (o .left .log) (o .left .figures) n a)) (record {
       header = a .header;
       cells = a .cells;
       lapses = a .lapses;
@@ -211,46 +214,76 @@ file f out n k p =
       gaps = w .gaps;
       quiet = w .none;
       image = refl;
+      figures = subst (λ (cell : ℕ → CellAnswer). Right (a .header) cell (o .left .figures)) (sym (cells-seen (a .header) (a .cells) (a .lapses) (w .right) (w .count)))
+          (a .right);
     })
 
-pub fresh-had : (h : Header) (out : List ℕ) → isHeader h ≡ true → lengthOf h ≤ length out
-    → freshOf h out ≡ outcome (made.Done (lengthOf h)) (freshImage h ++ drop (lengthOf h) out)
-fresh-had h out e l = fresh-front h out e l
+pub fresh-had : (h : Header) (out figs : List ℕ) → isHeader h ≡ true → lengthOf h ≤ length out → figuresOf h ≤ length figs
+    → freshWith h out figs
+    ≡ outcome (made.Done (lengthOf h)) (both (freshImage h ++ drop (lengthOf h) out) (allFigures h allGaps ++ drop (figuresOf h) figs))
+fresh-had h out figs e l m = fresh-both h out figs e l m
 
 -- what stands in a start's file
-pub start-is : {s : List ℕ} (start : Start s) → IsLog (start .header) (start .cells) (start .lapses)
+pub start-is : {b : Both} (start : Start b) → IsLog (start .header) (start .cells) (start .lapses)
 start-is start =
     record { right = start .right; count = start .count; each = start .each; fit = start .fit; gaps = start .gaps; none = start .quiet }
 
-pub file-had : (s out : List ℕ) (start : Start s) → length s ≤ length out
-    → readFile (fileBytes (start .header) (start .cells) (start .lapses)) out ≡ outcome (read.Done (length s)) (s ++ drop (length s) out)
-file-had s out start l =
-    logs.file-had version (start .header) (start .cells) (start .lapses) known-today (seasons-today (start .header)) (lapses-today (start .lapses)) (start-is start)
-    s out (start .image) l
+-- what is seen of its cells
+pub start-seen : {b : Both} (start : Start b) → viewOf (b .log) ≡ viewBy (start .header) (start .cells) (start .lapses)
+start-seen start = ap viewOf (start .image) ∙ view-image (start .header) (start .cells) (start .lapses) (start .right) (start .count) (start .each)
 
-module _ (s : List ℕ) (start : Start s) (calls : List Call) (k : AllBytes calls) where
-  b : Book
-  b = startBook (start .cells) (start .lapses)
+-- a start's file of a known version is read
+pub version-had : (v : ℕ) (b : Both) (out figs : List ℕ) (start : Start b) → let h = start .header in let n = length (b .log) in
+    isVersion v ≡ true → seasonsFit v h ≡ true → NoneBefore v (start .lapses) → n ≤ length out → figuresOf h ≤ length figs
+    → readFile (fileBytesAs v h (start .cells) (start .lapses)) out figs
+    ≡ outcome (read.Done n) (both (b .log ++ drop n out) (allFigures h (viewOf (b .log) .cell) ++ drop (figuresOf h) figs))
+version-had v b out figs start known seasons none l m =
+    let h = start .header in
+    let n = length (b .log) in
+    logs.file-had v h (start .cells) (start .lapses) known seasons none (start-is start) (b .log) out figs (start .image) l m
+    ∙ ap (λ (w : View). outcome (read.Done n) (both (b .log ++ drop n out) (allFigures h (w .cell) ++ drop (figuresOf h) figs))) (sym (start-seen start))
 
-  all : Together (start .header) b calls
-  unfolding b
-  all = together (start .header) b calls (start .right) (start-sane (start .header) (start .cells) (start .lapses) (start .each)) k
+pub file-had : (b : Both) (out figs : List ℕ) (start : Start b) → let h = start .header in let n = length (b .log) in
+    n ≤ length out → figuresOf h ≤ length figs
+    → readFile (fileBytes h (start .cells) (start .lapses)) out figs
+    ≡ outcome (read.Done n) (both (b .log ++ drop n out) (allFigures h (viewOf (b .log) .cell) ++ drop (figuresOf h) figs))
+file-had b out figs start l m = version-had version b out figs start known-today (seasons-today (start .header)) (lapses-today (start .lapses)) l m
 
-  begins : begin s ≡ stateOf (start .header) b
-  unfolding b
-  begins = ap begin (start .image) ∙ sym (start-state (start .header) (start .cells) (start .lapses) (start .count) (start .each) (start .fit))
+-- a start is faithful
+pub start-faithful : {b : Both} (start : Start b) → Faithful (start .header) (begin b)
+start-faithful {b} start = record {
+  bytes = subst Bytes (sym (start .image)) (bytes-image (start .lapses) (start .header) (start .cells) (start .fit) (start .right));
+  sound = ap (λ (v : View). v .lent) (start-seen start);
+  right = start .figures;
+}
 
-  pub log : ran s calls .left .log ≡ logAfresh start calls
-  unfolding b
+module _ (b : Both) (start : Start b) (calls : List Call) (k : AllBytes calls) where
+  book : Book
+  book = startBook (start .cells) (start .lapses)
+
+  begins : begin b ≡ stateOf (start .header) book (b .figures)
+  unfolding book
+  begins =
+      ap (λ (s : List ℕ). begin (both s (b .figures))) (start .image)
+      ∙ sym (start-state (start .header) (start .cells) (start .lapses) (b .figures) (start .count) (start .each) (start .fit))
+
+  all : Together (start .header) book (b .figures) calls
+  unfolding book
+  all =
+      together (start .header) book (b .figures) calls (start .right) (start-sane (start .header) (start .cells) (start .lapses) (start .each)) k
+      (subst (Faithful (start .header)) begins (start-faithful start))
+
+  pub log : ran b calls .left .log ≡ logAfresh start calls
+  unfolding book
   log = ap (λ (t : State). run t calls .left .log) begins ∙ ap (λ (t : State). t .log) (all .state)
 
-  pub answers : ran s calls .result ≡ booked start calls .result
-  unfolding b
+  pub answers : ran b calls .result ≡ booked start calls .result
+  unfolding book
   answers = ap (λ (t : State). run t calls .result) begins ∙ all .answers
 
-  pub ask-left : ran s calls .left .held ≡ booked start calls .left .held
-  unfolding b
+  pub ask-left : ran b calls .left .held ≡ booked start calls .left .held
+  unfolding book
   ask-left = ap (λ (t : State). run t calls .left .held) begins ∙ ap (λ (t : State). t .held) (all .state)
 
-pub polled : (s : List ℕ) (start : Start s) (t : List ℕ) (p : Polled s t) → t ≡ logAfresh start (p .reached .calls)
-polled s start t p = let r = p .reached in ap (λ (w : State). w .log) (sym (r .leads)) ∙ log s start (r .calls) (r .bytes)
+pub polled : (b : Both) (start : Start b) (c : Both) (p : Polled b c) → c .log ≡ logAfresh start (p .reached .calls)
+polled b start c p = let r = p .reached in ap (λ (w : State). w .log) (sym (r .leads)) ∙ log b start (r .calls) (r .bytes)

@@ -16,6 +16,8 @@ use Rattle.log.specs.declared.cell.CellAnswer.the-variants.{Good}
 use Rattle.log.specs.declared.header.Header.{Header}
 use Rattle.log.specs.declared.header.Lent.the-variants.{Sound}
 use Rattle.log.specs.declared.image.Change.{Change}
+use Rattle.day_figures.specs.Both.{Both, both}
+use Rattle.day_figures.specs.Rows.{figuresOf, allFigures}
 use Rattle.logfile.specs.File.{isVersion, seasonsFit, fileBytesAs}
 use Rattle.logfile.specs.Read.{readFile}
 use Rattle.logfile.specs.declared.read.ReadAnswer.{ReadAnswer}
@@ -25,15 +27,14 @@ use Rattle.logger.specs.Held.{OpenFor}
 use Rattle.logger.specs.Lapse.{closes, lapsing, lapsed, oneMore}
 use Rattle.logger.proofs.LapseLaws.{lapsed-seen}
 use Rattle.logger.specs.Take as Take
-use Rattle.logger.proofs.TakeLaws.{decided-ways, taken-seen}
-use Rattle.logger.specs.declared.take.Decision.{Decision}
+use Rattle.logger.proofs.TakeLaws.{Step, decided-ways, taken-seen}
 use Rattle.logger.specs.declared.no_reply.LapseAnswer.the-variants.{Done}
 use Rattle.logger.specs.declared.no_reply.LapseDecision.{LapseDecision}
 use Rattle.log.specs.declared.image.Change.the-variants as change
 use Rattle.logger.specs.declared.held.OpenAsk.{OpenAsk}
 use Rattle.logger.specs.declared.held.OpenAsk.the-variants.{Closed}
 use Rattle.demands.specs.Demand3.{Start}
-use Rattle.demands.proofs.History.{start-is}
+use Rattle.demands.proofs.History.{version-had}
 
 -- what a lapse comes to where its ask is for a good cell of the log
 lapsing-counted : (v : View) (h : Header) (held : OpenAsk) (i : ℕ) (c : Cell) → v .lent ≡ Sound h → OpenFor h held i → v .cell i ≡ Good c
@@ -63,35 +64,35 @@ pub stays : oneMore 255 ≡ 255
 unfolding oneMore
 stays = refl
 
-pub no-lapse : (s : List ℕ) (held : OpenAsk) (y : List ℕ) → Bytes y → (i : ℕ) → viewOf (Take.taken s held y .left) .lapses i ≡ viewOf s .lapses i
+pub no-lapse : (b : Both) (held : OpenAsk) (y : List ℕ) → Bytes y → (i : ℕ) → viewOf (Take.taken b held y .left .log) .lapses i ≡ viewOf (b .log) .lapses i
 unfolding changed
-no-lapse s held y bytes i =
-    ap (λ (w : View). w .lapses i) (taken-seen s held y bytes)
-    ∙ decided-ways (λ (d : Decision). changed (d .change) (viewOf s) .lapses i ≡ viewOf s .lapses i) (viewOf s) held y (record {
+no-lapse b held y bytes i =
+    let v = viewOf (b .log) in
+    ap (λ (w : View). w .lapses i) (taken-seen (b .log) (b .figures) held y bytes)
+    ∙ decided-ways (λ (o : Step). changed (o .result .change) v .lapses i ≡ v .lapses i) v (b .figures) held y (record {
       kept-open = λ a n. refl;
       closed = λ a n. refl;
-      put = λ h j c e o is. refl;
+      put = λ h j old c e o g is done. refl;
     })
 
 -- ---- files of versions 1 and 2
 
-pub early : (f out : List ℕ) (n : ℕ) → Bytes f → versionAt f < 3 → readFile f out .result ≡ read.Done n
-    → (i : ℕ) → viewOf (take n (readFile f out .left)) .lapses i ≡ 0
-early f out n bytes e p i =
-    let y = readFile f out .left in
-    let a = file.accepted f bytes out y n (ap (λ (r : ReadAnswer). outcome r y) p) in
+pub early : (f out figs : List ℕ) (n : ℕ) → Bytes f → versionAt f < 3 → let o = readFile f out figs in o .result ≡ read.Done n
+    → (i : ℕ) → viewOf (take n (o .left .log)) .lapses i ≡ 0
+early f out figs n bytes e p i =
+    let b = readFile f out figs .left in
+    let a = file.accepted f bytes out figs (b .log) (b .figures) n (ap (λ (r : ReadAnswer). outcome r b) p) in
     let w = a .whole in
-    let front = file.image-front f out y n a in
-    ap (λ (s : List ℕ). viewOf s .lapses i) front
+    ap (λ (s : List ℕ). viewOf s .lapses i) (file.image-front f out figs (b .log) (b .figures) n a)
     ∙ ap (λ (v : View). v .lapses i) (view-image (a .header) (a .cells) (a .lapses) (w .right) (w .count) (w .each))
-    ∙ none (ltb i (length (a .cells))) (a .lapses i) (file.early-read f out y n a e i)
+    ∙ none (ltb i (length (a .cells))) (a .lapses i) (file.early-read f out figs (b .log) (b .figures) n a e i)
   where
     none : (b : Bool) (n : ℕ) → n ≡ 0 → cond b n 0 ≡ 0
     none true n p = p
     none false n p = refl
 
-pub early-had : (v : ℕ) (s out : List ℕ) (start : Start s) → isVersion v ≡ true → seasonsFit v (start .header) ≡ true → ((i : ℕ) → start .lapses i ≡ 0)
-    → length s ≤ length out
-    → readFile (fileBytesAs v (start .header) (start .cells) (start .lapses)) out ≡ outcome (read.Done (length s)) (s ++ drop (length s) out)
-early-had v s out start known seasons none l =
-    file.file-had v (start .header) (start .cells) (start .lapses) known seasons (λ n. none) (start-is start) s out (start .image) l
+pub early-had : (v : ℕ) (b : Both) (out figs : List ℕ) (start : Start b) → let h = start .header in let n = length (b .log) in
+    isVersion v ≡ true → seasonsFit v h ≡ true → ((i : ℕ) → start .lapses i ≡ 0) → n ≤ length out → figuresOf h ≤ length figs
+    → readFile (fileBytesAs v h (start .cells) (start .lapses)) out figs
+    ≡ outcome (read.Done n) (both (b .log ++ drop n out) (allFigures h (viewOf (b .log) .cell) ++ drop (figuresOf h) figs))
+early-had v b out figs start known seasons none l m = version-had v b out figs start known seasons (λ n. none) l m

@@ -19,6 +19,7 @@ pub mod Function4
 pub mod History
 pub mod Seasons
 pub mod Lapses
+pub mod DayFigures
 pub mod Faults
 pub mod Examples
 pub mod Claims

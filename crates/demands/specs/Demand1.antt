@@ -26,8 +26,11 @@ use Rattle.meter_command.specs.declared.verdict.Verdict.{Verdict}
 use Rattle.meter.specs.Bench as bench
 use Rattle.meter.specs.Reply as meter
 use Rattle.meter_inquiry.specs.Inquiry as inquiry
-use Rattle.log.specs.Fresh as fresh
+use Rattle.log.specs.Fresh.{freshNumber}
 use Rattle.log.specs.View.{View}
+use Rattle.log.specs.declared.header.Lent.{Lent}
+use Rattle.day_figures.specs.Both.{Both, both}
+use Rattle.day_figures.specs.Fresh.{freshWith}
 use Rattle.log.specs.declared.header.Header.{Header}
 use Rattle.dayreport.specs.Report as report
 use Rattle.dayreport.specs.Text as text
@@ -37,7 +40,7 @@ use Rattle.logfile.specs.Write as writing
 use Rattle.logger.specs.Ask as asking
 use Rattle.logger.specs.Take as taking
 use Rattle.logger.specs.Book as book
-use Rattle.logger.specs.Run.{State, step}
+use Rattle.logger.specs.Run.{State, state, step}
 use Rattle.logger.specs.declared.held.OpenAsk.{OpenAsk}
 use Rattle.logger.specs.declared.held.OpenAsk.the-variants.{Closed}
 
@@ -74,25 +77,26 @@ pub record Demand1 : Type 0 where
   pub decode : (d : Decoded) → inTable (reader.numberOf d) ≡ true
   pub record-given : (a : RecordAnswer) → inTable (record-of.numberOf a) ≡ true
   pub inquire : (r : Record) (s : List ℕ) (q : Request) (out : List ℕ) → inTable (inquiry.numberOf ((inquiry.inquired r s q out) .answer)) ≡ true
-  -- "A refused call leaves the log and the meter's record as they stood": the record with its store, the log with the ask that is open
+  -- "A refused call leaves the log and the meter's record as they stood": the record with its store, the log with its figures (document 02, CR 8) and the
+  -- ask that is open
   pub answer : (r : Record) (s f out : List ℕ) → let o = meter.answerOf r s f out in
       Ends {A = Record × List ℕ} (answerNumber o) (r, s) (o .answer .after, o .store)
   pub put-slice : (r : Record) (s : List ℕ) (k : Key) (row : List ℕ) → EndsBy record-of.numberOf s (bench.slicePut r s k row)
-  pub take-reply : (s : List ℕ) (held : OpenAsk) (y : List ℕ) → let o = taking.taken s held y in Ends (taking.numberOf (o .result .answer)) s (o .left)
-  pub ask-after : (s : List ℕ) (held : OpenAsk) (y : List ℕ) → let o = taking.taken s held y in
+  pub take-reply : (b : Both) (held : OpenAsk) (y : List ℕ) → let o = taking.taken b held y in Ends (taking.numberOf (o .result .answer)) b (o .left)
+  pub ask-after : (b : Both) (held : OpenAsk) (y : List ℕ) → let o = taking.taken b held y in
       o .result .held ≡ cond (closes (taking.numberOf (o .result .answer))) Closed held
   pub lapse : (s : State) → EndsBy (λ (a : book.Answer). a .number) s (step s book.lapse)
   -- "with none open it still answers 0" (document 02, CR 7), whatever the log is
-  pub lapse-none : (s : List ℕ) → step (record { log = s; held = Closed }) book.lapse ≡ outcome (book.plain 0) (record { log = s; held = Closed })
+  pub lapse-none : (b : Both) → step (state b Closed) book.lapse ≡ outcome (book.plain 0) (state b Closed)
   -- "and writes nothing into a lent buffer": an ask, which is lent the log only to be read; requests, fresh logs, reports, texts and files
   pub put-ask : (v : View) (held : OpenAsk) (address day slot : ℕ) (out : List ℕ) → let o = asking.asked v held address day slot out in
       Ends {A = OpenAsk × List ℕ} (asking.numberOf (o .result .answer)) (held, out) (o .result .held, o .left)
   pub put-request : (q : Request) (out : List ℕ) → EndsBy request.numberOf out (request.requested q out)
-  pub fresh-log : (h : Header) (out : List ℕ) → EndsBy fresh.freshNumber out (fresh.freshOf h out)
-  pub day-report : (v : View) (d : ℕ) (row : List ℕ) → EndsBy report.reportNumber row (report.reportOf v d row)
+  pub fresh-log : (h : Header) (out figs : List ℕ) → EndsBy freshNumber (both out figs) (freshWith h out figs)
+  pub day-report : (lent : Lent) (figs : List ℕ) (d : ℕ) (row : List ℕ) → EndsBy report.reportNumber row (report.reportOf lent figs d row)
   pub put-text : (line out : List ℕ) → EndsBy text.textNumber out (text.putText line out)
-  pub put-day : (v : View) (d : ℕ) (out : List ℕ) → EndsBy text.textNumber out (day.dayText v d out)
-  pub read-file : (f out : List ℕ) → EndsBy reading.readNumber out (reading.readFile f out)
+  pub put-day : (lent : Lent) (figs : List ℕ) (d : ℕ) (out : List ℕ) → EndsBy text.textNumber out (day.dayText lent figs d out)
+  pub read-file : (f out figs : List ℕ) → EndsBy reading.readNumber (both out figs) (reading.readFile f out figs)
   pub write-file : (v : View) (out : List ℕ) → EndsBy writing.writeNumber out (writing.writtenFile v out)
   -- "but the short refusal frame where the table gives one": what a refused command leaves in the output, how many bytes of it are the reply
   pub answer-output : (r : Record) (s f out : List ℕ) → let o = meter.answerOf r s f out in (answerNumber o ≡ 0 → ⊥)

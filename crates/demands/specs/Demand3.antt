@@ -1,7 +1,8 @@
 -- Demand 3. "Take a fresh log, or one read from a file, with no ask open. Then come asks, lapses and replies, refused ones included, in
 -- any list and whatever bytes the replies hold. Each call that takes the log or the open ask gets it as the calls before left it." Document 02, CR 5:
 -- "Demand 3 reads the same over slots that exist": the cells of the others are gaps at the start, and stay so. CR 7: "Demand 3 then fixes it from the
--- history: lapses of asks for that interval, added to what the file held and cut at 255."
+-- history: lapses of asks for that interval, added to what the file held and cut at 255." CR 8: "Demand 3's premise then covers them as it does the log": the
+-- figures of each day, which every call that is lent them gets as the calls before left them.
 --
 -- The calls run by the definitions that the contracts of `put_ask`, `lapse` and `take_reply` cite (`logger/specs/Run.antt`). The history
 -- is the plain book's (`logger/specs/Book.antt`), which never sees an image. Proofs: `demand-3`, proofs/Claims.antt.
@@ -13,7 +14,7 @@ use lib.ListN.{length, take, drop, getD}
 use Rattle.refusal.specs.Outcome.{Outcome, outcome}
 use Rattle.words.specs.Number.{Bytes}
 use Rattle.words.specs.Place.{byteAt}
-use Rattle.log.specs.Fresh.{freshImage, freshOf}
+use Rattle.log.specs.Fresh.{freshImage}
 use Rattle.log.specs.declared.fresh.FreshAnswer.the-variants as made
 use Rattle.log.specs.Header.{isHeader, cellsOf, lengthOf, soundOf}
 use Rattle.log.specs.Image.{OutsideCell, imageOf, AllCells, LapsesFit}
@@ -22,17 +23,21 @@ use Rattle.log.specs.declared.cell.Cell.{Cell}
 use Rattle.log.specs.declared.cell.Cell.the-variants.{Gap}
 use Rattle.log.specs.declared.header.Header.{Header}
 use Rattle.log.specs.declared.header.Lent.the-variants.{Sound}
+use Rattle.log.specs.View.{viewOf}
+use Rattle.day_figures.specs.Both.{Both, both}
+use Rattle.day_figures.specs.Fresh.{freshWith}
+use Rattle.day_figures.specs.Rows.{figuresOf, Right, allFigures, allGaps}
 use Rattle.logfile.specs.File.{fileBytes}
 use Rattle.logfile.specs.Read.{readFile}
 use Rattle.logfile.specs.declared.read.ReadAnswer.the-variants as read
 use Rattle.logger.specs.Book.{Call, Answer, Book, startBook, bookRun, workedOut, lapsesOut, AllBytes}
 use Rattle.logger.specs.Held.{OpenFor}
-use Rattle.logger.specs.Run.{State, step, run}
+use Rattle.logger.specs.Run.{State, state, step, run}
 use Rattle.logger.specs.declared.held.OpenAsk.the-variants.{Closed}
 use Rattle.polling.specs.Reached.{Polled}
 
--- a log with its header right, its cells cells, and the lapses of each index
-pub record Start (s : List ℕ) : Type 0 where
+-- a log with its header right, its cells cells, and the lapses of each index, and its figures
+pub record Start (b : Both) : Type 0 where
   pub header : Header
   pub cells : List Cell
   pub lapses : ℕ → ℕ
@@ -44,44 +49,51 @@ pub record Start (s : List ℕ) : Type 0 where
   pub gaps : (i : ℕ) → i < length cells → existsAt header i ≡ false → getD cells i Gap ≡ Gap
   -- "also for lapses in a slot that doesn't exist" (CR 7)
   pub quiet : (i : ℕ) → i < length cells → existsAt header i ≡ false → lapses i ≡ 0
-  pub image : s ≡ imageOf header cells lapses
+  pub image : b .log ≡ imageOf header cells lapses
+  -- "those that a walk over the cells gives" (CR 8)
+  pub figures : Right header (viewOf (b .log) .cell) (b .figures)
 
--- the log with no ask open, and the calls run over it
-abbrev pub begin : List ℕ → State
-begin s = record { log = s; held = Closed }
+-- log and figures with no ask open, and the calls run over them
+abbrev pub begin : Both → State
+begin b = state b Closed
 
-abbrev pub ran : List ℕ → List Call → Outcome (List Answer) State
-ran s calls = run (begin s) calls
+abbrev pub ran : Both → List Call → Outcome (List Answer) State
+ran b calls = run (begin b) calls
 
 -- the calls in the plain book of the start's header and cells, and the log that is worked out afresh from its replies
-abbrev pub booked : {s : List ℕ} → Start s → List Call → Outcome (List Answer) Book
+abbrev pub booked : {b : Both} → Start b → List Call → Outcome (List Answer) Book
 booked start calls = bookRun (start .header) (startBook (start .cells) (start .lapses)) calls
 
-abbrev pub logAfresh : {s : List ℕ} → Start s → List Call → List ℕ
+abbrev pub logAfresh : {b : Both} → Start b → List Call → List ℕ
 logAfresh start calls =
-    let b = booked start calls .left in
-    imageOf (start .header) (workedOut (b .kept) 0 (cellsOf (start .header))) (lapsesOut (b .lapses))
+    let book = booked start calls .left in
+    imageOf (start .header) (workedOut (book .kept) 0 (cellsOf (start .header))) (lapsesOut (book .lapses))
 
 -- byte j lies outside the cell whose ask is open, if one is
 abbrev pub Elsewhere : State → ℕ → Type 0
 Elsewhere s j = (h : Header) (i : ℕ) → soundOf (s .log) ≡ Sound h → OpenFor h (s .held) i → OutsideCell i j
 
 pub record Demand3 : Type 0 where
-  -- "Take a fresh log, or one read from a file": what `fresh_log` and `read_file` say is done stands at the front of the lent bytes and is a
-  -- start; and with the room for it, every right header's fresh log and every start's file are done, and stand there
-  pub fresh : (h : Header) (out : List ℕ) (n : ℕ) → freshOf h out .result ≡ made.Done n → Start (take n (freshOf h out .left))
-  pub file : (f out : List ℕ) (n : ℕ) → Bytes f → readFile f out .result ≡ read.Done n → Start (take n (readFile f out .left))
-  pub fresh-had : (h : Header) (out : List ℕ) → isHeader h ≡ true → lengthOf h ≤ length out
-      → freshOf h out ≡ outcome (made.Done (lengthOf h)) (freshImage h ++ drop (lengthOf h) out)
-  pub file-had : (s out : List ℕ) (start : Start s) → length s ≤ length out
-      → readFile (fileBytes (start .header) (start .cells) (start .lapses)) out ≡ outcome (read.Done (length s)) (s ++ drop (length s) out)
+  -- "Take a fresh log, or one read from a file": what `fresh_log` and `read_file` say is done stands at the front of the lent bytes and, with the lent
+  -- figures, is a start; and with the room for it, every right header's fresh log and every start's file are done, and stand there
+  pub fresh : (h : Header) (out figs : List ℕ) (n : ℕ) → let o = freshWith h out figs in o .result ≡ made.Done n
+      → Start (both (take n (o .left .log)) (o .left .figures))
+  pub file : (f out figs : List ℕ) (n : ℕ) → Bytes f → let o = readFile f out figs in o .result ≡ read.Done n
+      → Start (both (take n (o .left .log)) (o .left .figures))
+  pub fresh-had : (h : Header) (out figs : List ℕ) → isHeader h ≡ true → lengthOf h ≤ length out → figuresOf h ≤ length figs
+      → freshWith h out figs
+      ≡ outcome (made.Done (lengthOf h)) (both (freshImage h ++ drop (lengthOf h) out) (allFigures h allGaps ++ drop (figuresOf h) figs))
+  pub file-had : (b : Both) (out figs : List ℕ) (start : Start b) → let h = start .header in let n = length (b .log) in
+      n ≤ length out → figuresOf h ≤ length figs
+      → readFile (fileBytes h (start .cells) (start .lapses)) out figs
+      ≡ outcome (read.Done n) (both (b .log ++ drop n out) (allFigures h (viewOf (b .log) .cell) ++ drop (figuresOf h) figs))
   -- "After every such list the log is byte for byte the one worked out afresh from that history."
-  pub log : (s : List ℕ) (start : Start s) (calls : List Call) → AllBytes calls → ran s calls .left .log ≡ logAfresh start calls
+  pub log : (b : Both) (start : Start b) (calls : List Call) → AllBytes calls → ran b calls .left .log ≡ logAfresh start calls
   -- "Every answer, and the ask left open, are those of document 01's plain book."
-  pub answers : (s : List ℕ) (start : Start s) (calls : List Call) → AllBytes calls → ran s calls .result ≡ booked start calls .result
-  pub ask-left : (s : List ℕ) (start : Start s) (calls : List Call) → AllBytes calls → ran s calls .left .held ≡ booked start calls .left .held
+  pub answers : (b : Both) (start : Start b) (calls : List Call) → AllBytes calls → ran b calls .result ≡ booked start calls .result
+  pub ask-left : (b : Both) (start : Start b) (calls : List Call) → AllBytes calls → ran b calls .left .held ≡ booked start calls .left .held
   -- "None of these calls alters a byte of the log outside the cell whose ask was open before the call."
   pub elsewhere : (s : State) (c : Call) (j : ℕ) → Elsewhere s j → byteAt (step s c .left .log) j ≡ byteAt (s .log) j
   pub as-long : (s : State) (c : Call) → length (step s c .left .log) ≡ length (s .log)
   -- what the program `poll` promises (`polling/specs/Reached.antt`), whatever the line carried
-  pub polled : (s : List ℕ) (start : Start s) (t : List ℕ) (p : Polled s t) → t ≡ logAfresh start (p .reached .calls)
+  pub polled : (b : Both) (start : Start b) (c : Both) (p : Polled b c) → c .log ≡ logAfresh start (p .reached .calls)

@@ -13,9 +13,10 @@ use Rattle.log.specs.View.{viewOf}
 use Rattle.log.specs.declared.cell.Cell.the-variants.{Gap, Empty, Measured}
 use Rattle.log.specs.declared.cell.CellAnswer.{CellAnswer}
 use Rattle.log.specs.declared.cell.CellAnswer.the-variants.{Good, Bad}
+use Rattle.day_figures.specs.Both.{both}
 use Rattle.logger.specs.Ask.{asked}
 use Rattle.logger.specs.Book.{Call, ask, reply, Answer}
-use Rattle.logger.specs.Run.{State, run}
+use Rattle.logger.specs.Run.{State, state, run}
 use Rattle.logger.specs.declared.held.OpenAsk.the-variants.{Closed}
 use Rattle.figures.specs.Telemetry.{telemetryBytes}
 use Rattle.meter_clock.specs.Protection.{opened, quietSecond}
@@ -47,6 +48,10 @@ all (b ∷ bs) = b && all bs
 abbrev fresh-log : List ℕ
 fresh-log = freshImage (record { start = record { year = 24; month = 5; day = 17 }; days = 1; minutes = 30; ke = 100; seasons = 0 })
 
+-- and its figures: 48 gaps
+abbrev fresh-figures : List ℕ
+fresh-figures = 48 ∷ 0 ∷ 0 ∷ 0 ∷ 0 ∷ 0 ∷ 0 ∷ 0 ∷ []
+
 -- P9: three replies on one cell of a fresh log
 abbrev slice-reply : ℕ → ℕ → List ℕ
 slice-reply e+ r+ = framed (1 ∷ 3 ∷ 36 ∷ 0 ∷ (bytesOf 2 e+ ++ (bytesOf 2 0 ++ (bytesOf 2 r+ ++ bytesOf 2 0))))
@@ -56,7 +61,7 @@ first-slot = ask 1 0 0 (replicate 8 0)
 
 three-replies : Outcome (List Answer) State
 three-replies =
-    run (record { log = fresh-log; held = Closed }) (first-slot ∷ reply (slice-reply 0 0) ∷ first-slot ∷ reply (slice-reply 12 3) ∷ first-slot ∷ reply (slice-reply 13 3) ∷ [])
+    run (state (both fresh-log fresh-figures) Closed) (first-slot ∷ reply (slice-reply 0 0) ∷ first-slot ∷ reply (slice-reply 12 3) ∷ first-slot ∷ reply (slice-reply 13 3) ∷ [])
 
 -- the counts of a measured cell
 countsOf : CellAnswer → List ℕ
@@ -100,6 +105,8 @@ examples =
     -- P9: answers 0, 0, 25, each after its ask, and the cell 12 0 3 0
     ∷ same (map (λ (a : Answer). a .number) (three-replies .result)) (0 ∷ 0 ∷ 0 ∷ 0 ∷ 0 ∷ 25 ∷ [])
     ∷ same (countsOf (viewOf (three-replies .left .log) .cell 0)) (12 ∷ 0 ∷ 3 ∷ 0 ∷ [])
+    -- and the day's figures: 47 gaps, one measured cell with its counts (document 02, CR 8)
+    ∷ same (three-replies .left .figures) (47 ∷ 0 ∷ 1 ∷ 12 ∷ 0 ∷ 3 ∷ 0 ∷ 0 ∷ [])
     -- P10: 239 quiet seconds keep the level, the 240th ends it
     ∷ isMain ((quiet 239 (opened Main)) .level)
     ∷ not (isOpen ((quiet 240 (opened Main)) .level))

@@ -12,6 +12,7 @@ use Rattle.request.specs.declared.request.Request.{Request}
 use Rattle.reader.specs.Reply.{decodedOf}
 use Rattle.reader.specs.declared.form.Fault.the-variants.{Length}
 use Rattle.reader.specs.declared.reply.Decoded.the-variants as decoded
+use Rattle.day_figures.specs.Both.{Both}
 use Rattle.logger.specs.Take.{taken}
 use Rattle.logger.specs.declared.held.OpenAsk.{OpenAsk}
 use Rattle.logger.specs.declared.take.TakeAnswer.the-variants as answer
@@ -22,4 +23,4 @@ pub record ReplyFaults : Type 0 where
   pub gone : (n : ℕ) → inTable n ≡ true → n ≡ 23 → ⊥
   -- "also return the length received": the length in a decoded reply's answer, which `inquire` hands on, and in a taken one's is the reply's
   pub decode-length : (q : Request) (y : List ℕ) (n : ℕ) → decodedOf q y ≡ decoded.Malformed (Length n) → n ≡ length y
-  pub take-length : (s : List ℕ) (held : OpenAsk) (y : List ℕ) (n : ℕ) → (taken s held y) .result .answer ≡ answer.Malformed (Length n) → n ≡ length y
+  pub take-length : (b : Both) (held : OpenAsk) (y : List ℕ) (n : ℕ) → (taken b held y) .result .answer ≡ answer.Malformed (Length n) → n ≡ length y

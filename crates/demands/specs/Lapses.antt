@@ -14,6 +14,8 @@ use Rattle.log.specs.declared.cell.Cell.{Cell}
 use Rattle.log.specs.declared.cell.CellAnswer.the-variants.{Good}
 use Rattle.log.specs.declared.header.Header.{Header}
 use Rattle.log.specs.declared.header.Lent.the-variants.{Sound}
+use Rattle.day_figures.specs.Both.{Both, both}
+use Rattle.day_figures.specs.Rows.{figuresOf, allFigures}
 use Rattle.logfile.specs.File.{isVersion, seasonsFit, fileBytesAs}
 use Rattle.logfile.specs.Read.{readFile}
 use Rattle.logfile.specs.declared.read.ReadAnswer.the-variants as read
@@ -33,10 +35,11 @@ pub record Lapses : Type 0 where
   pub below : (n : ℕ) → n < 255 → oneMore n ≡ n + 1
   pub stays : oneMore 255 ≡ 255
   -- a reply is no lapse, whatever it is: well formed or not, refused by the meter, with other counts
-  pub no-lapse : (s : List ℕ) (held : OpenAsk) (y : List ℕ) → Bytes y → (i : ℕ) → viewOf (taken s held y .left) .lapses i ≡ viewOf s .lapses i
+  pub no-lapse : (b : Both) (held : OpenAsk) (y : List ℕ) → Bytes y → (i : ℕ) → viewOf (taken b held y .left .log) .lapses i ≡ viewOf (b .log) .lapses i
   -- "Versions 1 and 2 are read with zero lapses", and every start's file of such a version, where it has none, is read
-  pub early : (f out : List ℕ) (n : ℕ) → Bytes f → versionAt f < 3 → readFile f out .result ≡ read.Done n
-      → (i : ℕ) → viewOf (take n (readFile f out .left)) .lapses i ≡ 0
-  pub early-had : (v : ℕ) (s out : List ℕ) (start : Start s) → isVersion v ≡ true → seasonsFit v (start .header) ≡ true → ((i : ℕ) → start .lapses i ≡ 0)
-      → length s ≤ length out
-      → readFile (fileBytesAs v (start .header) (start .cells) (start .lapses)) out ≡ outcome (read.Done (length s)) (s ++ drop (length s) out)
+  pub early : (f out figs : List ℕ) (n : ℕ) → Bytes f → versionAt f < 3 → let o = readFile f out figs in o .result ≡ read.Done n
+      → (i : ℕ) → viewOf (take n (o .left .log)) .lapses i ≡ 0
+  pub early-had : (v : ℕ) (b : Both) (out figs : List ℕ) (start : Start b) → let h = start .header in let n = length (b .log) in
+      isVersion v ≡ true → seasonsFit v h ≡ true → ((i : ℕ) → start .lapses i ≡ 0) → n ≤ length out → figuresOf h ≤ length figs
+      → readFile (fileBytesAs v h (start .cells) (start .lapses)) out figs
+      ≡ outcome (read.Done n) (both (b .log ++ drop n out) (allFigures h (viewOf (b .log) .cell) ++ drop (figuresOf h) figs))

@@ -10,5 +10,6 @@ pub mod Function4
 pub mod Demand3
 pub mod Seasons
 pub mod Lapses
+pub mod DayFigures
 pub mod Faults
 pub mod Examples

@@ -15,12 +15,14 @@ use Rattle.season_nights.specs.Run.{hourOf}
 use Rattle.log.specs.Header.{cellsOf, versionAt, soundOf}
 use Rattle.log.specs.Interval.{nightOn, exists, existsAt}
 use Rattle.log.specs.View.{View, viewOf}
+use Rattle.log.specs.declared.cell.Cell.{Cell}
 use Rattle.log.specs.declared.cell.Cell.the-variants.{Gap}
+use Rattle.log.specs.declared.cell.CellAnswer.{CellAnswer}
 use Rattle.log.specs.declared.cell.CellAnswer.the-variants.{Good}
 use Rattle.log.specs.declared.header.Header.{Header}
 use Rattle.log.specs.declared.header.Lent.the-variants.{Sound}
-use Rattle.dayreport.specs.Report.{reportOf}
-use Rattle.dayreport.specs.declared.report.ReportAnswer.the-variants as report
+use Rattle.day_figures.specs.Both.{Both, both}
+use Rattle.day_figures.specs.Rows.{figuresOf, walked, allFigures}
 use Rattle.logfile.specs.File.{fileBytesAs}
 use Rattle.logfile.specs.Read.{readFile}
 use Rattle.logfile.specs.declared.read.ReadAnswer.the-variants as read
@@ -39,26 +41,29 @@ use Rattle.demands.specs.Demand3.{Start, ran}
 
 pub record Seasons : Type 0 where
   -- "their cells stay gap in the image", whatever calls come, and count no lapse (CR 7)
-  pub stay-gaps : (s : List ℕ) (start : Start s) (calls : List Call) → AllBytes calls → (i : ℕ) → i < cellsOf (start .header)
-      → existsAt (start .header) i ≡ false → let v = viewOf (ran s calls .left .log) in (v .cell i ≡ Good Gap) × (v .lapses i ≡ 0)
+  pub stay-gaps : (b : Both) (start : Start b) (calls : List Call) → AllBytes calls → (i : ℕ) → i < cellsOf (start .header)
+      → existsAt (start .header) i ≡ false → let v = viewOf (ran b calls .left .log) in (v .cell i ≡ Good Gap) × (v .lapses i ≡ 0)
   -- "can't be asked for": "22 also for a slot that doesn't exist", of an ask, of a reply to one and of its lapse; and a poller asks for none
   pub ask-refused : (v : View) (h : Header) (address day slot : ℕ) (out : List ℕ) → v .lent ≡ Sound h → exists h day slot ≡ false → readSize ≤ length out
       → asked v Closed address day slot out ≡ answered ask.NotInLog Closed out
-  pub reply-refused : (s : List ℕ) (h : Header) (address day slot : ℕ) (y : List ℕ) → soundOf s ≡ Sound h → exists h day slot ≡ false
-      → taken s (Open address day slot) y ≡ outcome (record { answer = take-answer.NotInLog; held = Open address day slot }) s
+  pub reply-refused : (s figs : List ℕ) (h : Header) (address day slot : ℕ) (y : List ℕ) → soundOf s ≡ Sound h → figuresOf h ≤ length figs
+      → exists h day slot ≡ false
+      → taken (both s figs) (Open address day slot) y ≡ outcome (record { answer = take-answer.NotInLog; held = Open address day slot }) (both s figs)
   pub lapse-refused : (s : List ℕ) (h : Header) (address day slot : ℕ) → soundOf s ≡ Sound h → exists h day slot ≡ false
       → lapsed s (Open address day slot) ≡ outcome (record { answer = lapse-answer.NotInLog; held = Open address day slot }) s
   pub never-polled : (w : Wanted) (v : View) (h : Header) (day from slot : ℕ) → v .lent ≡ Sound h → nextWanted w v day from ≡ Slot slot
       → exists h day slot ≡ true
   -- "and aren't counted": a day's three tallies make up the slots that it has, an hour less on the March day; and `doubled`, "the lent row's eighth
-  -- number", is 0 "on all other days" than the October one, "and without 1"
-  pub adds-up : (v : View) (h : Header) (d : ℕ) (row after : List ℕ) → v .lent ≡ Sound h → reportOf v d row ≡ outcome report.Done after
-      → getD after 0 0 + getD after 1 0 + getD after 2 0 ≡ slotsOf (h .minutes) - cond (isSpring (nightOn h d)) (hourOf (h .minutes)) 0
-  pub none-doubled : (v : View) (h : Header) (d : ℕ) (row after : List ℕ) → v .lent ≡ Sound h → reportOf v d row ≡ outcome report.Done after
-      → isAutumn (nightOn h d) ≡ false → getD after 7 0 ≡ 0
+  -- number", is 0 "on all other days" than the October one, "and without 1". That a report's row is the walk's is CR 8's `reported`
+  pub adds-up : (h : Header) (cell : ℕ → CellAnswer) (d : ℕ) → ((i : ℕ) → i < cellsOf h → (c : Cell) × (cell i ≡ Good c)) → d < h .days
+      → let row = walked h cell d in
+      getD row 0 0 + getD row 1 0 + getD row 2 0 ≡ slotsOf (h .minutes) - cond (isSpring (nightOn h d)) (hourOf (h .minutes)) 0
+  pub none-doubled : (h : Header) (cell : ℕ → CellAnswer) (d : ℕ) → isAutumn (nightOn h d) ≡ false → getD (walked h cell d) 7 0 ≡ 0
   -- "version 1 is read as 0": what a file of version 1 gives does not follow the seasons, and every start's that does not, and has no lapses, is
   -- read
-  pub first-version : (f out : List ℕ) (n : ℕ) (h : Header) → Bytes f → versionAt f ≡ 1 → readFile f out .result ≡ read.Done n
-      → soundOf (take n (readFile f out .left)) ≡ Sound h → h .seasons ≡ 0
-  pub first-version-had : (s out : List ℕ) (start : Start s) → start .header .seasons ≡ 0 → ((i : ℕ) → start .lapses i ≡ 0) → length s ≤ length out
-      → readFile (fileBytesAs 1 (start .header) (start .cells) (start .lapses)) out ≡ outcome (read.Done (length s)) (s ++ drop (length s) out)
+  pub first-version : (f out figs : List ℕ) (n : ℕ) (h : Header) → Bytes f → versionAt f ≡ 1 → let o = readFile f out figs in o .result ≡ read.Done n
+      → soundOf (take n (o .left .log)) ≡ Sound h → h .seasons ≡ 0
+  pub first-version-had : (b : Both) (out figs : List ℕ) (start : Start b) → let h = start .header in let n = length (b .log) in
+      h .seasons ≡ 0 → ((i : ℕ) → start .lapses i ≡ 0) → n ≤ length out → figuresOf h ≤ length figs
+      → readFile (fileBytesAs 1 h (start .cells) (start .lapses)) out figs
+      ≡ outcome (read.Done n) (both (b .log ++ drop n out) (allFigures h (viewOf (b .log) .cell) ++ drop (figuresOf h) figs))

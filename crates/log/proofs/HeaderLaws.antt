@@ -3,19 +3,22 @@ use Prim.Native.Nat.{ℕ, _+_, _*_, _-_, _/_, _%_, _≤_, _<_}
 use native.Mathlib.Nat.{mul-le-mul}
 use native.Mathlib.Omega.{arith}
 use mathlib.Core.Path.{_≡_, refl, sym, ap, _∙_}
-use mathlib.Core.Bool.{Bool, true, false, cond, _&&_, _||_, false≢true}
+use mathlib.Core.Bool.{Bool, true, false, cond, _&&_, _||_, false≢true, and-false}
 use mathlib.Core.List.{List, [], _∷_, _++_}
 use lib.Dec.{ltb, eqb}
 use lib.ListN.{length, take}
-use borrow.Author.Tests.{ltb-true, leb-true, eqb-true, eq-eqb}
+use borrow.Author.Tests.{ltb-true, lt-ltb, leb-true, eqb-true, eq-eqb, ne-eqb}
 use Rattle.slots.proofs.DayLaws.{slotsMost, slots-at-most}
 use Rattle.words.specs.Number.{number, bytesOf, Bytes}
 use Rattle.words.specs.Place.{byteAt, numberAt}
 use Rattle.words.proofs.NumberLaws.{bytes-bytesOf}
 use Rattle.case_laws.proofs.Test.{both, chosen}
 use Rattle.slots.specs.Day.{isMinutes}
-use Rattle.calendar.specs.Date.{isDate, dayNumber, dateOn, daysLater, dateOf, centuryDays}
-use Rattle.calendar.proofs.DateLaws.{ranges, month-length}
+use Rattle.calendar.specs.Count.{starts}
+use Rattle.calendar.specs.Date as date
+use Rattle.calendar.specs.Date.{leap, monthLengths, daysInMonth, daysBefore, monthNumber, isDate, dayNumber, dateOn, daysLater, dateOf, centuryDays}
+use Rattle.calendar.proofs.CountLaws.{ends-before}
+use Rattle.calendar.proofs.DateLaws.{ranges, month-length, date-lies}
 use Rattle.calendar.specs.declared.date.Date.{Date}
 use Rattle.calendar.specs.declared.date.DateAnswer.{DateAnswer}
 use Rattle.calendar.specs.declared.date.DateAnswer.the-variants.{On, NotADate, OutOfRange}
@@ -82,6 +85,23 @@ has-date d n = go (isDate d) (ltb (dayNumber d + n) centuryDays) (dateOf (dayNum
     go true true x = refl
     go true false x = refl
     go false b x = refl
+
+-- the days before the last of the hundred years
+before-last-year : daysBefore 1188 ≡ 36160
+unfolding starts date.lengthOf daysInMonth monthLengths leap
+before-last-year = refl
+
+-- from a day of an earlier year, 255 days later the century has not ended
+pub before-last : (d : Date) (n : ℕ) → d .year < 99 → n < 256 → isDate d ≡ (isDate d && ltb (dayNumber d + n) centuryDays)
+unfolding dayNumber
+before-last d n y h = go (isDate d) refl
+  where
+    go : (b : Bool) → isDate d ≡ b → b ≡ (b && ltb (dayNumber d + n) centuryDays)
+    go true e =
+        let l = date-lies d e in
+        let k : monthNumber d < 1188 = omega (arith, ranges d e .month-to) in
+        sym (lt-ltb (dayNumber d + n) centuryDays (omega (arith, l .rest-below, ends-before date.lengthOf (monthNumber d) 1188 k, before-last-year)))
+    go false e = refl
 
 -- ---- a header and its bytes
 
@@ -155,6 +175,25 @@ bytes-header v h e =
     three a b c xs x y z k = bytes-cons a (b ∷ c ∷ xs) x (bytes-cons b (c ∷ xs) y (bytes-cons c xs z k))
 
 -- ---- what a sound log has
+
+-- one test of mark, version, fields and length
+pub sound-where : (s : List ℕ)
+    → soundOf s ≡ cond ((markRight s && versionRight s) && (fieldsRight s && eqb (length s) (lengthOf (headerAt s)))) (Sound (headerAt s)) Unsound
+unfolding soundOf headerOf fittedTo
+sound-where s = go (markRight s && versionRight s) (fieldsRight s)
+  where
+    go : (a b : Bool) → cond a (fittedTo (length s) (cond b (Right (headerAt s)) Wrong)) Unsound
+        ≡ cond (a && (b && eqb (length s) (lengthOf (headerAt s)))) (Sound (headerAt s)) Unsound
+    go true true = refl
+    go true false = refl
+    go false b = refl
+
+-- a log is no shorter than its header
+pub short-unsound : (s : List ℕ) → length s < headerSize → soundOf s ≡ Unsound
+unfolding lengthOf
+short-unsound s k =
+    let e : eqb (length s) (lengthOf (headerAt s)) ≡ false = ne-eqb (length s) (lengthOf (headerAt s)) (λ p. omega (arith, k, p)) in
+    sound-where s ∙ rw (e, and-false (fieldsRight s), and-false (markRight s && versionRight s))
 
 pub record SoundLog (s : List ℕ) (h : Header) : Type 0 where
   pub mark : markRight s ≡ true

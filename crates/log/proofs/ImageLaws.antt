@@ -9,7 +9,7 @@ use mathlib.Core.List.{List, [], _∷_, _++_, map, append-assoc}
 use mathlib.Core.Logic.{inl, inr}
 use lib.Dec.{ltb, eqb}
 use lib.ListN.{length, getD, take, drop, length-append, length-take, length-drop, take-append-drop, drop-of-length-le, List·getD-eq-default}
-use lib.Seq.{take-at, drop-nil, drop-cons, drop-drop, drop-append-add, getD-drop, getD-append-seam}
+use lib.Seq.{take-at, take-append-le, drop-nil, drop-cons, drop-drop, drop-append-le, drop-append-add, getD-drop, getD-append-seam}
 use borrow.Author.Tests.{ltb-true, ltb-false, ne-eqb}
 use Rattle.words.specs.Number.{Bytes}
 use Rattle.words.specs.Place.{byteAt, numberAt, written}
@@ -226,6 +226,16 @@ module _ (lapses : ℕ → ℕ) where
       ap (λ (x : List ℕ). cellOf (take countsSize x)) (from-cell h cs i l)
       ∙ ap cellOf (take-at (countsBytes c) (lapses i ∷ cellsBytes (suc i) (drop (suc i) cs) lapses) countsSize (length-countsBytes c))
       ∙ cellOf-bytes c k
+
+  -- what stands behind it is no part of its cells
+  pub cellAt-front : (h : Header) (cs : List Cell) (rest : List ℕ) (i : ℕ) → i < length cs → cellAt (imageOf h cs lapses ++ rest) i ≡ cellAt (imageOf h cs lapses) i
+  unfolding cellAt
+  cellAt-front h cs rest i l =
+      let s = imageOf h cs lapses in
+      let size : length s ≡ headerSize + cellSize * length cs = length-imageOf h cs in
+      let left : length (drop (cellStart i) s) ≡ length s - cellStart i = length-drop (cellStart i) s in
+      ap (λ (x : List ℕ). cellOf (take countsSize x)) (drop-append-le (cellStart i) s rest (omega (arith, size, l)))
+      ∙ ap cellOf (take-append-le countsSize (drop (cellStart i) s) rest (omega (arith, size, l, left)))
 
   pub lapsesAt-image : (h : Header) (cs : List Cell) (i : ℕ) → i < length cs → lapsesAt (imageOf h cs lapses) i ≡ lapses i
   lapsesAt-image h cs i l =

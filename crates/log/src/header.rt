@@ -2,11 +2,12 @@
 ghost use mathlib.Core.Path.{_≡_};
 ghost use mathlib.Core.Bool.{_&&_};
 ghost use Prim.Native.Nat.{_+_};
-ghost use lib.Dec.{ltb};
+ghost use lib.Dec.{ltb, eqb};
+ghost use lib.ListN.{length};
 ghost use Rattle.words.specs.Place.{written};
 ghost use Rattle.calendar.specs.Date.{isDate, dayNumber, centuryDays};
 ghost use Rattle.log.specs.Header.{cellsOf, lengthOf, isHeader, headerBytes, headerAt, dateBytes};
-ghost use Rattle.log.specs.Header.{markRight, versionAt, versionRight, headerOf, fittedTo, soundOf};
+ghost use Rattle.log.specs.Header.{markRight, versionAt, versionRight, fieldsRight, headerOf, soundOf};
 use crate::cell::CELL_BYTES;
 
 pub struct Header {
@@ -45,6 +46,9 @@ pub const IMAGE_MOST: usize = HEADER_BYTES + CELL_BYTES * CELLS_MOST;
 pub const VERSION: u16 = 3;
 
 const SEASONS_MOST: u8 = 1;
+
+// 2099, the calendar's last.
+const LAST_YEAR: u8 = 99;
 
 pub fn cells_of(h: Header) -> usize
     ensures { λ r. ⌜ r ≡ cellsOf h ⌝ }
@@ -86,6 +90,10 @@ pub fn is_header(h: Header) -> bool
 fn has_day(start: calendar::Date, n: u8) -> bool
     ensures { λ r. ⌜ r ≡ (isDate start && ltb (dayNumber start + n) centuryDays) ⌝ }
 {
+    // In a year that is not the last, so few days later the calendar never ends.
+    if start.year < LAST_YEAR {
+        return calendar::is_date(start);
+    }
     match calendar::days_later(start, n as u16) {
         calendar::DateAnswer::On(_) => true,
         calendar::DateAnswer::NotADate => false,
@@ -153,28 +161,34 @@ pub fn header_of(log: &[u8]) -> HeaderAnswer
 pub fn sound(log: &[u8]) -> Lent
     ensures { λ r. ⌜ r ≡ soundOf (now (log .entry)) ⌝ }
 {
-    if mark_right(log) {
-        if version_right(log) {
-            return fitted(header_of(log), log.len());
-        }
+    // No log is shorter than its header, and the compiler need not look at the length again for each field.
+    if log.len() < HEADER_BYTES {
+        return Lent::Unsound;
+    }
+    if is_sound(log) {
+        return Lent::Sound(header_at(log));
     }
     Lent::Unsound
 }
 
-// Bytes with this header are a log where they are as many as it says.
-fn fitted(answer: HeaderAnswer, length: usize) -> Lent
-    ensures { λ r. ⌜ r ≡ fittedTo length answer ⌝ }
+// Whether bytes are a log: their mark, version and fields are right, and they are as many as the fields say. The answer is a bool and the
+// caller reads the fields for itself, since a header handed back would go through memory, piece by piece.
+fn is_sound(log: &[u8]) -> bool
+    ensures { λ r. ⌜ r ≡ ((markRight (now (log .entry)) && versionRight (now (log .entry)))
+        && (fieldsRight (now (log .entry)) && eqb (length (now (log .entry))) (lengthOf (headerAt (now (log .entry)))))) ⌝ }
 {
-    match answer {
-        HeaderAnswer::Right(h) => {
-            if length == length_of(h) {
-                Lent::Sound(h)
-            } else {
-                Lent::Unsound
+    if mark_right(log) {
+        if version_right(log) {
+            let h = header_at(log);
+            if words::byte_at(log, 13) != 0 {
+                return false;
+            }
+            if is_header(h) {
+                return log.len() == length_of(h);
             }
         }
-        HeaderAnswer::Wrong => Lent::Unsound,
     }
+    false
 }
 
 pub fn write_header(out: &mut [u8], h: Header)

@@ -1,7 +1,7 @@
 // Damaged copies of a log's file, read one after the other. Each line has what was done to the good file, document 01's number, the
 // image's length where there is one, and the output's first byte, which was 255 before. The file is document 01's example, of version 1: a log
 // from 2024-05-17, 1 day, 30 minutes, Ke 100, slot 0 measured 12 0 3 0, slot 1 empty, all others gaps. Then files of versions 1, 2 and 3 over the days
-// on which the clock is moved. stdout was written by hand from the tables of documents 01 and 02, and not by this code.
+// on which the clock is moved, and the figures that come with a log. stdout was written by hand from the tables of documents 01 and 02, and not by this code.
 use libc::STDOUT_FILENO;
 use logfile::ReadAnswer;
 use logfile::WriteAnswer;
@@ -89,6 +89,7 @@ fn main() {
     crcs();
     cells();
     outputs();
+    figures();
     first_of_two();
     first_version();
     second_version();
@@ -180,6 +181,19 @@ fn cells() {
 fn outputs() {
     into_less(b"good", good());
     into_one(b"good", good());
+}
+
+// The eight figures of the day, into numbers that were 9 before: with room for more, for them alone, and for one too few. Those of a slot that
+// does not exist are not counted, one that comes twice is counted once more.
+fn figures() {
+    let mut file = example();
+    into_nine(b"good", &file);
+    into_eight(b"good", &file);
+    into_seven(b"good", &file);
+    words::put_bytes(&mut file, CRC, b"\x00\x00");
+    into_seven(b"CRC 0", &file);
+    into_nine(b"27 October 2024", &in_october());
+    into_nine(b"version 3, spring", &late_spring(SLOT_0, b"\x00"));
 }
 
 // Of two faults the one that comes first in the table answers.
@@ -358,7 +372,8 @@ fn lapses() {
 // What a log is written as that no file gives: cells and lapses in the hour that is none, and images of other versions.
 fn written_out() {
     let mut image = [0u8; IMAGE];
-    logfile::read_file(&in_october(), &mut image);
+    let mut figures = [0u32; day_figures::FIGURES_MOST];
+    logfile::read_file(&in_october(), &mut image, &mut figures);
     write(b"27 October", &image);
     words::put_bytes(&mut image, 6, b"\x03\x1F");
     write(b"31 March", &image);
@@ -373,7 +388,8 @@ fn written_out() {
 
 fn write_lapses() {
     let mut image = [0u8; IMAGE];
-    logfile::read_file(&late_spring(SLOT_0, b"\x00"), &mut image);
+    let mut figures = [0u32; day_figures::FIGURES_MOST];
+    logfile::read_file(&late_spring(SLOT_0, b"\x00"), &mut image, &mut figures);
     write(b"spring, all gaps", &image);
     log::put_lapses(&mut image, 4, 1);
     write(b"spring, slot 4 one lapse", &image);
@@ -395,6 +411,23 @@ fn good() -> [u8; LONGER] {
         b"\x02\x0C\x00\x00\x00\x03\x00\x00\x00\x01",
     );
     sealed(file)
+}
+
+// The same without the byte behind it.
+fn example() -> [u8; FILE] {
+    let mut file = [0u8; FILE];
+    words::put_bytes(
+        &mut file,
+        0,
+        b"GEL\x01\x00\x18\x05\x11\x01\x1E\x64\x00\x00\x00",
+    );
+    words::put_bytes(
+        &mut file,
+        SLOT_0,
+        b"\x02\x0C\x00\x00\x00\x03\x00\x00\x00\x01",
+    );
+    frame::seal(&mut file, CRC);
+    file
 }
 
 // All gaps over a March day, the seasons followed.
@@ -636,9 +669,56 @@ fn read_first(file: [u8; LONGER], n: usize, out: &mut [u8]) {
     }
 }
 
+fn into_nine(what: &[u8], file: &[u8]) {
+    let mut figures = [9u32; 9];
+    say(what);
+    say(b", 9 figures lent: ");
+    read_beside(file, &mut figures);
+}
+
+fn into_eight(what: &[u8], file: &[u8]) {
+    let mut figures = [9u32; 8];
+    say(what);
+    say(b", 8 figures lent: ");
+    read_beside(file, &mut figures);
+}
+
+fn into_seven(what: &[u8], file: &[u8]) {
+    let mut figures = [9u32; 7];
+    say(what);
+    say(b", 7 figures lent: ");
+    read_beside(file, &mut figures);
+}
+
+// The number, the output's first byte and the figures.
+fn read_beside(file: &[u8], figures: &mut [u32]) {
+    let mut out = [255u8; IMAGE];
+    let answer = logfile::read_file(file, &mut out, figures);
+    io::print_decimal(STDOUT_FILENO, answer.number() as u64);
+    number(words::byte_at(&out, 0) as u64);
+    say(b",");
+    figure(figures, 0);
+    figure(figures, 1);
+    figure(figures, 2);
+    figure(figures, 3);
+    figure(figures, 4);
+    figure(figures, 5);
+    figure(figures, 6);
+    figure(figures, 7);
+    figure(figures, 8);
+    say(b"\n");
+}
+
+fn figure(figures: &[u32], i: usize) {
+    if i < figures.len() {
+        number(figures[i] as u64);
+    }
+}
+
 fn read(file: &[u8], out: &mut [u8]) {
+    let mut figures = [0u32; day_figures::FIGURES_MOST];
     say(b": ");
-    let answer = logfile::read_file(file, out);
+    let answer = logfile::read_file(file, out, &mut figures);
     io::print_decimal(STDOUT_FILENO, answer.number() as u64);
     if let ReadAnswer::Done(n) = answer {
         number(n as u64);

@@ -4,3 +4,4 @@ pub mod LapseLaws
 pub mod BookLaws
 pub mod StepLaws
 pub mod SeasonLaws
+pub mod FigureLaws

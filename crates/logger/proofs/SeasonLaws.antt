@@ -4,7 +4,7 @@ use mathlib.Core.Bool.{false, and-false, false≢true}
 use mathlib.Core.List.{List, [], _∷_}
 use Prim.Native.Nat.{ℕ, _≤_}
 use lib.ListN.{length}
-use borrow.Author.Tests.{ne-eqb, le-ltb}
+use borrow.Author.Tests.{ne-eqb, le-ltb, le-leb}
 use Rattle.refusal.specs.Outcome.{outcome}
 use Rattle.frame.specs.Layout.{readSize}
 use Rattle.log.specs.Header.{soundOf}
@@ -16,6 +16,8 @@ use Rattle.log.proofs.ViewLaws.{changed}
 use Rattle.log.specs.declared.header.Header.{Header}
 use Rattle.log.specs.declared.header.Lent.the-variants.{Sound}
 use Rattle.log.specs.declared.interval.Interval.the-variants.{Outside}
+use Rattle.day_figures.specs.Both.{both}
+use Rattle.day_figures.specs.Rows.{figuresOf}
 use Rattle.logger.specs.Ask as Ask
 use Rattle.logger.specs.Take as Take
 use Rattle.logger.specs.Lapse as Lapse
@@ -25,9 +27,8 @@ use Rattle.logger.proofs.LapseLaws.{lapsing-ways, lapsed-seen}
 use Rattle.logger.specs.Held.{OpenFor}
 use Rattle.logger.specs.Book.{Call, ask, lapse, reply, runOf, CallBytes, AllBytes}
 use Rattle.logger.specs.Run.{State, step, run}
-use Rattle.logger.proofs.TakeLaws.{decided-ways, taken-seen}
+use Rattle.logger.proofs.TakeLaws.{Step, decided-ways, taken-seen}
 use Rattle.logger.specs.declared.ask.AskAnswer.the-variants as asked
-use Rattle.logger.specs.declared.take.Decision.{Decision}
 use Rattle.logger.specs.declared.take.TakeAnswer.the-variants as taken
 use Rattle.logger.specs.declared.held.OpenAsk.{OpenAsk}
 use Rattle.logger.specs.declared.held.OpenAsk.the-variants.{Closed, Open}
@@ -43,10 +44,11 @@ pub ask-refused : (v : View) (h : Header) (address day slot : ℕ) (out : List �
 unfolding Ask.asked
 ask-refused v h address day slot out p e l = simp (le-ltb _ _ l, p, not-there h day slot e)
 
-pub reply-refused : (s : List ℕ) (h : Header) (address day slot : ℕ) (y : List ℕ) → soundOf s ≡ Sound h → exists h day slot ≡ false
-    → Take.taken s (Open address day slot) y ≡ outcome (record { answer = taken.NotInLog; held = Open address day slot }) s
+pub reply-refused : (s figs : List ℕ) (h : Header) (address day slot : ℕ) (y : List ℕ) → soundOf s ≡ Sound h → figuresOf h ≤ length figs
+    → exists h day slot ≡ false
+    → Take.taken (both s figs) (Open address day slot) y ≡ outcome (record { answer = taken.NotInLog; held = Open address day slot }) (both s figs)
 unfolding Take.taken Take.decided applied
-reply-refused s h address day slot y p e = simp (p, not-there h day slot e)
+reply-refused s figs h address day slot y p l e = simp (p, le-leb _ _ l, not-there h day slot e)
 
 pub lapse-refused : (s : List ℕ) (h : Header) (address day slot : ℕ) → soundOf s ≡ Sound h → exists h day slot ≡ false
     → Lapse.lapsed s (Open address day slot) ≡ outcome (record { answer = silent.NotInLog; held = Open address day slot }) s
@@ -68,13 +70,13 @@ module _ (h : Header) (j : ℕ) (gone : existsAt h j ≡ false) where
       let same : h ≡ k = cc in
       false≢true (sym gone ∙ ap (existsAt h) q ∙ ap (λ (x : Header). existsAt x i) same ∙ interval-exists k (o .day) (o .slot) i (o .interval))
 
-  decided-kept : (v : View) (held : OpenAsk) (y : List ℕ) → v .lent ≡ Sound h → Kept j v (changed (Take.decided v held y .change) v)
+  decided-kept : (v : View) (figs : List ℕ) (held : OpenAsk) (y : List ℕ) → v .lent ≡ Sound h → Kept j v (changed (Take.decided v figs held y .result .change) v)
   unfolding changed
-  decided-kept v held y p =
-      decided-ways (λ (d : Decision). Kept j v (changed (d .change) v)) v held y (record {
+  decided-kept v figs held y p =
+      decided-ways (λ (d : Step). Kept j v (changed (d .result .change) v)) v figs held y (record {
         kept-open = λ a n. record { lent = refl; cell = refl; lapses = refl };
         closed = λ a n. record { lent = refl; cell = refl; lapses = refl };
-        put = λ k i c e o is. record { lent = refl; cell = simp (ne-eqb j i (another k held i (sym p ∙ e) o)); lapses = refl };
+        put = λ k i old c e o g is done. record { lent = refl; cell = simp (ne-eqb j i (another k held i (sym p ∙ e) o)); lapses = refl };
       })
 
   lapsing-kept : (v : View) (held : OpenAsk) → v .lent ≡ Sound h → Kept j v (changed (Lapse.lapsing v held .change) v)
@@ -92,7 +94,8 @@ module _ (h : Header) (j : ℕ) (gone : existsAt h j ≡ false) where
   step-kept s lapse p b =
       subst (Kept j (viewOf (s .log))) (sym (lapsed-seen (s .log) (s .held))) (lapsing-kept (viewOf (s .log)) (s .held) p)
   step-kept s (reply y) p b =
-      subst (Kept j (viewOf (s .log))) (sym (taken-seen (s .log) (s .held) y b)) (decided-kept (viewOf (s .log)) (s .held) y p)
+      subst (Kept j (viewOf (s .log))) (sym (taken-seen (s .log) (s .figures) (s .held) y b))
+      (decided-kept (viewOf (s .log)) (s .figures) (s .held) y p)
 
   pub run-kept : (calls : List Call) (s : State) → soundOf (s .log) ≡ Sound h → AllBytes calls
       → (viewOf (run s calls .left .log) .cell j ≡ viewOf (s .log) .cell j) × (viewOf (run s calls .left .log) .lapses j ≡ viewOf (s .log) .lapses j)

@@ -16,7 +16,7 @@ use Rattle.log.specs.Cell.{noCounts, isCell, CountsFit, IsCell}
 use Rattle.log.proofs.CellLaws.{empty-is-cell, by-good}
 use Rattle.log.specs.View.{View, viewOf}
 use Rattle.log.proofs.ViewLaws.{changed, Within, Holds, view-applied}
-use Rattle.log.specs.Interval.{intervalOf}
+use Rattle.log.specs.Interval.{intervalOf, comesTwice}
 use Rattle.log.proofs.IntervalLaws.{interval-below, by-at}
 use Rattle.log.specs.declared.cell.Cell.{Cell}
 use Rattle.log.specs.declared.cell.Cell.the-variants as cell
@@ -26,12 +26,18 @@ use Rattle.log.specs.declared.interval.Interval.the-variants.{Outside}
 use Rattle.log.specs.declared.header.Lent.{Lent}
 use Rattle.log.specs.declared.header.Lent.the-variants as lent
 use Rattle.log.specs.declared.image.Change.the-variants as change
+use Rattle.refusal.specs.Outcome.{Outcome, outcome, check}
+use Rattle.day_figures.specs.Both.{both, enough}
+use Rattle.day_figures.specs.Put.{changeOf}
+use Rattle.day_figures.proofs.PutLaws.{unfit-leaves}
+use Rattle.day_figures.specs.declared.put.FigureAnswer.{FigureAnswer}
+use Rattle.day_figures.specs.declared.put.FigureAnswer.the-variants as figure
 use Rattle.logger.specs.Held.{ifNone, ifOpen, OpenFor}
 use Rattle.logger.specs.Reply.{sliceForm, ifFormed, resultOf, ifOk, Row, rowOf}
-use Rattle.logger.specs.Take.{sameCounts, updateOf, stays, closes, updated, decided, taken}
+use Rattle.logger.specs.Take.{sameCounts, updateOf, stays, closes, putWith, updated, decided, taken}
 use Rattle.logger.specs.declared.take.Decision.{Decision}
 use Rattle.logger.specs.declared.take.TakeAnswer.{TakeAnswer}
-use Rattle.logger.specs.declared.take.TakeAnswer.the-variants.{Done, NoAskOpen, NotInLog, Malformed, MeterRefused, OtherCounts, Unsound}
+use Rattle.logger.specs.declared.take.TakeAnswer.the-variants.{Done, TooShort, NoAskOpen, NotInLog, Malformed, MeterRefused, OtherCounts, Unsound}
 use Rattle.logger.specs.declared.take.Update.{Update}
 use Rattle.logger.specs.declared.take.Update.the-variants.{Put, Keep, Conflict}
 use Rattle.logger.specs.declared.held.OpenAsk.{OpenAsk}
@@ -62,6 +68,10 @@ by-ok P result {x} {y} refused ok = go (eqb result 0) refl
     go true e = ok e
     go false e = refused e
 
+pub by-test : {A : Type 0} (P : A → Type 0) (b : Bool) {x y : A} → (b ≡ false → P x) → (b ≡ true → P y) → P (check b x y)
+by-test P true refused next = next refl
+by-test P false refused next = refused refl
+
 -- ---- the cases
 
 -- a well-formed reply for the open ask, which is for cell i
@@ -69,42 +79,56 @@ pub record Heard (h : Header) (held : OpenAsk) (y : List ℕ) (i : ℕ) : Type 0
   pub ask : OpenFor h held i
   pub formed : sliceForm (ask .address) y ≡ WellFormed
 
--- what is to be shown of a reply to a log with this header
-pub record Cases (P : Decision → Type 0) (h : Header) (v : View) (held : OpenAsk) (y : List ℕ) : Type 0 where
-  pub no-ask : held ≡ Closed → P (stays NoAskOpen held)
-  pub outside : (a d t : ℕ) → held ≡ Open a d t → intervalOf h d t ≡ Outside → P (stays NotInLog held)
-  pub malformed : (i : ℕ) (o : OpenFor h held i) (fault : Fault) → sliceForm (o .address) y ≡ Faulty fault
-      → P (stays (Malformed fault) held)
-  pub refused : (i : ℕ) → Heard h held y i → eqb (resultOf y) 0 ≡ false
-      → P (closes (MeterRefused (resultOf y)) change.None)
-  pub bad-cell : (i : ℕ) → Heard h held y i → v .cell i ≡ Bad → P (stays Unsound held)
-  pub counted : (i : ℕ) → Heard h held y i → eqb (resultOf y) 0 ≡ true → (c : Cell) → v .cell i ≡ Good c
-      → P (updated (updateOf c (rowOf y)) i)
+-- what a reply comes to, and the figures after it
+abbrev pub Step : Type 0
+Step = Outcome Decision (List ℕ)
 
-module _ (P : Decision → Type 0) (v : View) (held : OpenAsk) (y : List ℕ) where
-  pub decided-cases : (v .lent ≡ lent.Unsound → P (stays Unsound held))
-      → ((h : Header) → v .lent ≡ lent.Sound h → Cases P h v held y) → P (decided v held y)
+-- what is to be shown of a reply to a log with this header
+pub record Cases (P : Step → Type 0) (h : Header) (v : View) (figs : List ℕ) (held : OpenAsk) (y : List ℕ) : Type 0 where
+  pub few : enough h figs ≡ false → P (outcome (stays TooShort held) figs)
+  pub no-ask : held ≡ Closed → P (outcome (stays NoAskOpen held) figs)
+  pub outside : (a d t : ℕ) → held ≡ Open a d t → intervalOf h d t ≡ Outside → P (outcome (stays NotInLog held) figs)
+  pub malformed : (i : ℕ) (o : OpenFor h held i) (fault : Fault) → sliceForm (o .address) y ≡ Faulty fault
+      → P (outcome (stays (Malformed fault) held) figs)
+  pub refused : (i : ℕ) → Heard h held y i → eqb (resultOf y) 0 ≡ false
+      → P (outcome (closes (MeterRefused (resultOf y)) change.None) figs)
+  pub bad-cell : (i : ℕ) → Heard h held y i → v .cell i ≡ Bad → P (outcome (stays Unsound held) figs)
+  pub counted : (i : ℕ) (o : Heard h held y i) → eqb (resultOf y) 0 ≡ true → (c : Cell) → v .cell i ≡ Good c
+      → P (updated (updateOf c (rowOf y)) (comesTwice h (o .ask .day) (o .ask .slot)) held (o .ask .day) i c figs)
+
+module _ (P : Step → Type 0) (v : View) (figs : List ℕ) (held : OpenAsk) (y : List ℕ) where
+  pub decided-cases : (v .lent ≡ lent.Unsound → P (outcome (stays Unsound held) figs))
+      → ((h : Header) → v .lent ≡ lent.Sound h → Cases P h v figs held y) → P (decided v figs held y)
   unfolding decided
   decided-cases unsound cases =
       by-sound P (v .lent) unsound (λ h e.
       let k = cases h e in
+      by-test P (enough h figs) (k .few) (λ n.
       by-open P held (k .no-ask) (λ a d t o.
       by-at P (intervalOf h d t) (k .outside a d t o) (λ i n.
       let ask : OpenFor h held i = record { address = a; day = d; slot = t; open-ask = o; interval = n } in
       by-form P (sliceForm a y) (k .malformed i ask) (λ formed.
       let heard : Heard h held y i = record { ask = ask; formed = formed } in
       by-ok P (resultOf y) (k .refused i heard) (λ ok.
-      by-good P (v .cell i) (k .bad-cell i heard) (k .counted i heard ok))))))
+      by-good P (v .cell i) (k .bad-cell i heard) (k .counted i heard ok)))))))
 
 -- ---- a cell's update
 
--- what holds of a put, and of both answers that keep the cell
-pub update-cases : (P : Decision → Type 0) (u : Update) (i : ℕ) → ((c : Cell) → u ≡ Put c → P (closes Done (change.Put i c))) → P (closes Done change.None)
-    → P (closes OtherCounts change.None) → P (updated u i)
-unfolding updated
-update-cases P (Put c) i put kept other = put c refl
-update-cases P Keep i put kept other = kept
-update-cases P Conflict i put kept other = other
+-- what holds of a put, of a figure that cannot follow it, and of both answers that keep the cell
+module _ (P : Step → Type 0) (twice : Bool) (held : OpenAsk) (day i : ℕ) (old : Cell) (figs : List ℕ) where
+  pub update-cases : (u : Update)
+      → ((c : Cell) → u ≡ Put c → changeOf day twice old c figs .result ≡ figure.Done
+      → P (outcome (closes Done (change.Put i c)) (changeOf day twice old c figs .left)))
+      → P (outcome (stays Unsound held) figs) → P (outcome (closes Done change.None) figs) → P (outcome (closes OtherCounts change.None) figs)
+      → P (updated u twice held day i old figs)
+  unfolding updated putWith
+  update-cases (Put c) put unfit kept other = go (changeOf day twice old c figs .result) refl
+    where
+      go : (a : FigureAnswer) → changeOf day twice old c figs .result ≡ a → P (outcome (putWith a held i c) (changeOf day twice old c figs .left))
+      go figure.Done e = put c refl e
+      go figure.Unfit e = subst (λ (l : List ℕ). P (outcome (stays Unsound held) l)) (sym (unfit-leaves day twice old c figs e)) unfit
+  update-cases Keep put unfit kept other = kept
+  update-cases Conflict put unfit kept other = other
 
 -- counts that fit two bytes, as those of a reply's bytes do
 abbrev pub RowFits : Row → Type 0
@@ -149,6 +173,7 @@ module _ (r : Row) (f : RowFits r) where
 -- whether an answer closes the ask: 0, 24, 25
 abbrev pub isClosing : TakeAnswer → Bool
 isClosing Done = true
+isClosing TooShort = false
 isClosing NoAskOpen = false
 isClosing NotInLog = false
 isClosing (Malformed fault) = false
@@ -156,38 +181,41 @@ isClosing (MeterRefused result) = true
 isClosing OtherCounts = true
 isClosing Unsound = false
 
--- refused, and all stays; or closed, and the log is kept; or the cell whose ask was open is put
-pub record Ways (P : Decision → Type 0) (v : View) (held : OpenAsk) (y : List ℕ) : Type 0 where
-  pub kept-open : (a : TakeAnswer) → isClosing a ≡ false → P (stays a held)
-  pub closed : (a : TakeAnswer) → isClosing a ≡ true → P (closes a change.None)
-  pub put : (h : Header) (i : ℕ) (c : Cell) → v .lent ≡ lent.Sound h → OpenFor h held i → (Bytes y → IsCell c) → P (closes Done (change.Put i c))
+-- refused, and all stays; or closed, and log and figures are kept; or the cell whose ask was open is put, and its day's figures follow
+pub record Ways (P : Step → Type 0) (v : View) (figs : List ℕ) (held : OpenAsk) (y : List ℕ) : Type 0 where
+  pub kept-open : (a : TakeAnswer) → isClosing a ≡ false → P (outcome (stays a held) figs)
+  pub closed : (a : TakeAnswer) → isClosing a ≡ true → P (outcome (closes a change.None) figs)
+  pub put : (h : Header) (i : ℕ) (old c : Cell) → v .lent ≡ lent.Sound h → (o : OpenFor h held i) → v .cell i ≡ Good old → (Bytes y → IsCell c)
+      → changeOf (o .day) (comesTwice h (o .day) (o .slot)) old c figs .result ≡ figure.Done
+      → P (outcome (closes Done (change.Put i c)) (changeOf (o .day) (comesTwice h (o .day) (o .slot)) old c figs .left))
 
-pub decided-ways : (P : Decision → Type 0) (v : View) (held : OpenAsk) (y : List ℕ) → Ways P v held y → P (decided v held y)
-decided-ways P v held y w =
-    decided-cases P v held y (λ e. w .kept-open Unsound refl) (λ h e.
+pub decided-ways : (P : Step → Type 0) (v : View) (figs : List ℕ) (held : OpenAsk) (y : List ℕ) → Ways P v figs held y → P (decided v figs held y)
+decided-ways P v figs held y w =
+    decided-cases P v figs held y (λ e. w .kept-open Unsound refl) (λ h e.
     record {
+      few = λ n. w .kept-open TooShort refl;
       no-ask = λ o. w .kept-open NoAskOpen refl;
       outside = λ a d t o n. w .kept-open NotInLog refl;
       malformed = λ i o fault n. w .kept-open (Malformed fault) refl;
       refused = λ i o r. w .closed (MeterRefused (resultOf y)) refl;
       bad-cell = λ i o b. w .kept-open Unsound refl;
       counted = λ i o r c g.
-          update-cases P (updateOf c (rowOf y)) i
-          (λ new q. w .put h i new e (o .ask) (λ k. subst PutsCell q (update-cell (rowOf y) (row-fits y k) c)))
-          (w .closed Done refl) (w .closed OtherCounts refl);
+          update-cases P (comesTwice h (o .ask .day) (o .ask .slot)) held (o .ask .day) i c figs (updateOf c (rowOf y))
+          (λ new q done. w .put h i c new e (o .ask) g (λ k. subst PutsCell q (update-cell (rowOf y) (row-fits y k) c)) done)
+          (w .kept-open Unsound refl) (w .closed Done refl) (w .closed OtherCounts refl);
     })
 
 -- what it does to a log, a log can hold
-pub decided-holds : (v : View) (held : OpenAsk) (y : List ℕ) → Bytes y → Holds v (decided v held y .change)
-decided-holds v held y k =
-    decided-ways (λ (d : Decision). Holds v (d .change)) v held y (record {
+pub decided-holds : (v : View) (figs : List ℕ) (held : OpenAsk) (y : List ℕ) → Bytes y → Holds v (decided v figs held y .result .change)
+decided-holds v figs held y k =
+    decided-ways (λ (d : Step). Holds v (d .result .change)) v figs held y (record {
       kept-open = λ a n. tt;
       closed = λ a n. tt;
-      put = λ h i c e o is. (subst (λ (a : Lent). Within a i) (sym e) (interval-below h (o .day) (o .slot) i (o .interval)), is k);
+      put = λ h i old c e o g is done. (subst (λ (a : Lent). Within a i) (sym e) (interval-below h (o .day) (o .slot) i (o .interval)), is k);
     })
 
 -- what is seen of the log after it
-pub taken-seen : (s : List ℕ) (held : OpenAsk) (y : List ℕ) → Bytes y
-    → viewOf (taken s held y .left) ≡ changed (decided (viewOf s) held y .change) (viewOf s)
+pub taken-seen : (s figs : List ℕ) (held : OpenAsk) (y : List ℕ) → Bytes y
+    → viewOf (taken (both s figs) held y .left .log) ≡ changed (decided (viewOf s) figs held y .result .change) (viewOf s)
 unfolding taken
-taken-seen s held y k = view-applied s (decided (viewOf s) held y .change) (decided-holds (viewOf s) held y k)
+taken-seen s figs held y k = view-applied s (decided (viewOf s) figs held y .result .change) (decided-holds (viewOf s) figs held y k)

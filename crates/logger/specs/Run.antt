@@ -1,26 +1,29 @@
--- A list of calls, run: each call gets log and open ask as the one before left them (demand 3). The steps are the very definitions that
+-- A list of calls, run: each call gets log, figures and open ask as the one before left them (demand 3; document 02, CR 8). The steps are the very definitions that
 -- the contracts of `put_ask`, `lapse` and `take_reply` cite.
 use mathlib.Core.List.{List}
 use Prim.Native.Nat.{ℕ}
 use Rattle.refusal.specs.Outcome.{Outcome, outcome}
 use Rattle.reader.specs.Form.{faultLength}
 use Rattle.log.specs.View.{viewOf}
+use Rattle.day_figures.specs.Both.{Both, both}
 use Rattle.logger.specs.Ask as Ask
 use Rattle.logger.specs.Lapse as Lapse
 use Rattle.logger.specs.Take as Take
 use Rattle.logger.specs.Book.{Call, ask, lapse, reply, Answer, plain, runOf}
 use Rattle.logger.specs.declared.held.OpenAsk.{OpenAsk}
 use Rattle.logger.specs.declared.take.TakeAnswer.{TakeAnswer}
-use Rattle.logger.specs.declared.take.TakeAnswer.the-variants.{Done, NoAskOpen, NotInLog, Malformed, MeterRefused, OtherCounts, Unsound}
+use Rattle.logger.specs.declared.take.TakeAnswer.the-variants.{Done, TooShort, NoAskOpen, NotInLog, Malformed, MeterRefused, OtherCounts, Unsound}
 
 -- what the calls hand on to each other
 pub record State : Type 0 where
   pub log : List ℕ
+  pub figures : List ℕ
   pub held : OpenAsk
 
 -- the number of a taken reply's answer, with the result that 24 returns and the length that 50 does
 abbrev pub takeAnswer : TakeAnswer → Answer
 takeAnswer Done = plain (Take.numberOf Done)
+takeAnswer TooShort = plain (Take.numberOf TooShort)
 takeAnswer NoAskOpen = plain (Take.numberOf NoAskOpen)
 takeAnswer NotInLog = plain (Take.numberOf NotInLog)
 takeAnswer (Malformed fault) = record { number = Take.numberOf (Malformed fault); result = 0; length = faultLength fault }
@@ -28,17 +31,21 @@ takeAnswer (MeterRefused result) = record { number = Take.numberOf (MeterRefused
 takeAnswer OtherCounts = plain (Take.numberOf OtherCounts)
 takeAnswer Unsound = plain (Take.numberOf Unsound)
 
--- one call, by the definition that its contract cites: its answer and the state after it
+-- a log and its figures with an ask that is held
+abbrev pub state : Both → OpenAsk → State
+state b held = record { log = b .log; figures = b .figures; held = held }
+
+-- one call, by the definition that its contract cites: its answer and the state after it; an ask and a lapse are lent no figures
 unfoldable pub step : State → Call → Outcome Answer State
 step s (ask address day slot out) =
     let o = Ask.asked (viewOf (s .log)) (s .held) address day slot out in
-    outcome (plain (Ask.numberOf (o .result .answer))) (record { log = s .log; held = o .result .held })
+    outcome (plain (Ask.numberOf (o .result .answer))) (state (both (s .log) (s .figures)) (o .result .held))
 step s lapse =
     let o = Lapse.lapsed (s .log) (s .held) in
-    outcome (plain (Lapse.numberOf (o .result .answer))) (record { log = o .left; held = o .result .held })
+    outcome (plain (Lapse.numberOf (o .result .answer))) (state (both (o .left) (s .figures)) (o .result .held))
 step s (reply y) =
-    let o = Take.taken (s .log) (s .held) y in
-    outcome (takeAnswer (o .result .answer)) (record { log = o .left; held = o .result .held })
+    let o = Take.taken (both (s .log) (s .figures)) (s .held) y in
+    outcome (takeAnswer (o .result .answer)) (state (o .left) (o .result .held))
 
 -- a list of calls
 abbrev pub run : State → List Call → Outcome (List Answer) State

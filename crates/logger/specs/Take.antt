@@ -1,27 +1,32 @@
 -- Taking a reply. Source: document 01, "The reader and the log": "One with result 0 turns a gap or empty cell into empty (all zeros) or
 -- measured. On a measured cell, zeros or equal counts leave it, answer 0; other nonzero counts answer 25"; "a taken reply is tested 20,
 -- 22, 23, 24, 25", 28 right at the start for header and length and "for a cell: just before it is used". Document 02, request 2: "23 goes
--- ..; in its place and this order 50 length, 51 CRC, 52 address, 53 function, or a top bit that belies the result, 54 parameter".
+-- ..; in its place and this order 50 length, 51 CRC, 52 address, 53 function, or a top bit that belies the result, 54 parameter". CR 8: "1, right after
+-- a lent log's header and length, if fewer are lent; 28, last, where a figure would fall below 0 or pass 32 bits".
 use mathlib.Core.Bool.{Bool, cond, _&&_}
 use mathlib.Core.List.{List}
 use Prim.Native.Nat.{ℕ}
 use lib.Dec.{eqb}
-use Rattle.refusal.specs.Outcome.{Outcome, outcome}
+use Rattle.refusal.specs.Outcome.{Outcome, outcome, check}
 use Rattle.reader.specs.Form.{faultNumber}
 use Rattle.log.specs.Header.{ifSound}
 use Rattle.log.specs.Cell.{noCounts, ifGood}
 use Rattle.log.specs.Image.{applied}
 use Rattle.log.specs.View.{View, viewOf}
-use Rattle.log.specs.Interval.{intervalOf, ifAt}
+use Rattle.log.specs.Interval.{intervalOf, comesTwice, ifAt}
 use Rattle.log.specs.declared.cell.Cell.{Cell}
 use Rattle.log.specs.declared.cell.Cell.the-variants as cell
 use Rattle.log.specs.declared.image.Change.{Change}
 use Rattle.log.specs.declared.image.Change.the-variants as change
+use Rattle.day_figures.specs.Both.{Both, both, enough}
+use Rattle.day_figures.specs.Put.{changeOf}
+use Rattle.day_figures.specs.declared.put.FigureAnswer.{FigureAnswer}
+use Rattle.day_figures.specs.declared.put.FigureAnswer.the-variants as figure
 use Rattle.logger.specs.Held.{ifOpen}
 use Rattle.logger.specs.Reply.{sliceForm, ifFormed, resultOf, ifOk, Row, rowOf}
 use Rattle.logger.specs.declared.take.Decision.{Decision}
 use Rattle.logger.specs.declared.take.TakeAnswer.{TakeAnswer}
-use Rattle.logger.specs.declared.take.TakeAnswer.the-variants.{Done, NoAskOpen, NotInLog, Malformed, MeterRefused, OtherCounts, Unsound}
+use Rattle.logger.specs.declared.take.TakeAnswer.the-variants.{Done, TooShort, NoAskOpen, NotInLog, Malformed, MeterRefused, OtherCounts, Unsound}
 use Rattle.logger.specs.declared.take.Taken.{Taken}
 use Rattle.logger.specs.declared.take.Update.{Update}
 use Rattle.logger.specs.declared.take.Update.the-variants.{Put, Keep, Conflict}
@@ -57,35 +62,46 @@ stays a held = record { taken = record { answer = a; held = held }; change = cha
 abbrev pub closes : TakeAnswer → Change → Decision
 closes a done = record { taken = record { answer = a; held = Closed }; change = done }
 
-unfoldable pub updated : Update → ℕ → Decision
-updated (Put c) i = closes Done (change.Put i c)
-updated Keep i = closes Done change.None
-updated Conflict i = closes OtherCounts change.None
+-- a cell is put where its day's figures can follow; where they cannot, all stays
+unfoldable pub putWith : FigureAnswer → OpenAsk → ℕ → Cell → Decision
+putWith figure.Done held i new = closes Done (change.Put i new)
+putWith figure.Unfit held i new = stays Unsound held
 
--- the checks, one below the other: 28 (header, length), 20, 22, 50 to 54, 24, 28 (the cell), and then 25 or 0
-unfoldable pub decided : View → OpenAsk → List ℕ → Decision
+-- the cell of the ask, of a slot that comes twice or does not, is an old one: what its update comes to, and the figures after it
+unfoldable pub updated : Update → Bool → OpenAsk → ℕ → ℕ → Cell → List ℕ → Outcome Decision (List ℕ)
+unfolding putWith
+updated (Put new) twice held day i old figs =
+    let o = changeOf day twice old new figs in
+    outcome (putWith (o .result) held i new) (o .left)
+updated Keep twice held day i old figs = outcome (closes Done change.None) figs
+updated Conflict twice held day i old figs = outcome (closes OtherCounts change.None) figs
+
+-- the checks, one below the other: 28 (header, length), 1 (figures), 20, 22, 50 to 54, 24, 28 (the cell), 25, 28 (a figure), and then 0
+unfoldable pub decided : View → List ℕ → OpenAsk → List ℕ → Outcome Decision (List ℕ)
 unfolding updateOf updated rowOf
-decided v held y =
-    ifSound (v .lent) (stays Unsound held) (λ h.
-    ifOpen held (stays NoAskOpen held) (λ address day slot.
-    ifAt (intervalOf h day slot) (stays NotInLog held) (λ i.
-    ifFormed (sliceForm address y) (λ fault. stays (Malformed fault) held) (
-    ifOk (resultOf y) (closes (MeterRefused (resultOf y)) change.None) (
-    ifGood (v .cell i) (stays Unsound held) (λ c.
-    updated (updateOf c (rowOf y)) i))))))
+decided v figs held y =
+    ifSound (v .lent) (outcome (stays Unsound held) figs) (λ h.
+    check (enough h figs) (outcome (stays TooShort held) figs) (
+    ifOpen held (outcome (stays NoAskOpen held) figs) (λ address day slot.
+    ifAt (intervalOf h day slot) (outcome (stays NotInLog held) figs) (λ i.
+    ifFormed (sliceForm address y) (λ fault. outcome (stays (Malformed fault) held) figs) (
+    ifOk (resultOf y) (outcome (closes (MeterRefused (resultOf y)) change.None) figs) (
+    ifGood (v .cell i) (outcome (stays Unsound held) figs) (λ c.
+    updated (updateOf c (rowOf y)) (comesTwice h day slot) held day i c figs)))))))
 
--- what was decided, done to the log
-abbrev pub done : Decision → List ℕ → Outcome Taken (List ℕ)
-done d s = outcome (d .taken) (applied (d .change) s)
+-- what was decided, done to the log, with the figures after it
+abbrev pub done : Outcome Decision (List ℕ) → List ℕ → Outcome Taken Both
+done o s = outcome (o .result .taken) (both (applied (o .result .change) s) (o .left))
 
 -- taking a reply
-unfoldable pub taken : List ℕ → OpenAsk → List ℕ → Outcome Taken (List ℕ)
+unfoldable pub taken : Both → OpenAsk → List ℕ → Outcome Taken Both
 unfolding decided
-taken s held y = done (decided (viewOf s) held y) s
+taken b held y = done (decided (viewOf (b .log)) (b .figures) held y) (b .log)
 
 -- document 01's numbers, and document 02's of a reply that is not well formed
 abbrev pub numberOf : TakeAnswer → ℕ
 numberOf Done = 0
+numberOf TooShort = 1
 numberOf NoAskOpen = 20
 numberOf NotInLog = 22
 numberOf (Malformed fault) = faultNumber fault

@@ -1,5 +1,6 @@
 // Taking a reply for the open ask.
 use crate::held::OpenAsk;
+use day_figures::FigureAnswer;
 use frame::code;
 use frame::layout;
 use log::Cell;
@@ -12,11 +13,17 @@ use reader::Form;
 ghost use mathlib.Core.Path.{_≡_};
 ghost use Rattle.refusal.specs.Outcome.{outcome};
 ghost use Rattle.log.specs.View.{viewOf};
-ghost use Rattle.logger.specs.Reply.{row};
-ghost use Rattle.logger.specs.Take.{taken, decided, stays, closes, updated, updateOf, filled, compared, sameCounts, numberOf};
+ghost use Rattle.log.specs.Cell.{ifGood};
+ghost use Rattle.log.specs.Image.{cellAt};
+ghost use Rattle.day_figures.specs.Both.{both};
+ghost use Rattle.logger.specs.Reply.{row, rowOf};
+ghost use Rattle.logger.specs.declared.take.TakeAnswer.the-variants.{Unsound};
+ghost use Rattle.logger.specs.Take.{taken, decided, stays, closes, putWith, updated, updateOf, filled, compared, sameCounts, numberOf};
 
 pub enum TakeAnswer {
     Done,
+    // There are fewer figures than the log has.
+    TooShort,
     NoAskOpen,
     NotInLog,
     Malformed(Fault),
@@ -24,6 +31,7 @@ pub enum TakeAnswer {
     MeterRefused(u8),
     // Other counts than those measured.
     OtherCounts,
+    // The log, its cell, or a figure that cannot follow it.
     Unsound,
 }
 
@@ -53,6 +61,7 @@ impl TakeAnswer {
     {
         match self {
             TakeAnswer::Done => refusal::DONE,
+            TakeAnswer::TooShort => refusal::TOO_SHORT,
             TakeAnswer::NoAskOpen => refusal::NO_ASK_OPEN,
             TakeAnswer::NotInLog => refusal::NOT_IN_LOG,
             TakeAnswer::Malformed(fault) => fault.number(),
@@ -63,29 +72,36 @@ impl TakeAnswer {
     }
 }
 
-// Takes a reply for the open ask into the log.
-pub fn take_reply(log: &mut [u8], held: OpenAsk, reply: &[u8]) -> Taken
-    ensures { λ r. ⌜ outcome r (now (log .exit)) ≡ taken (now (log .entry)) held (now (reply .entry)) ⌝ }
+// Takes a reply for the open ask into the log, and keeps its day's figures right.
+pub fn take_reply(log: &mut [u8], figures: &mut [u32], held: OpenAsk, reply: &[u8]) -> Taken
+    ensures { λ r. ⌜ outcome r (both (now (log .exit)) (now (figures .exit)))
+        ≡ taken (both (now (log .entry)) (now (figures .entry))) held (now (reply .entry)) ⌝ }
 {
-    let decided = decided(log, held, reply);
+    let decided = decided(log, figures, held, reply);
     let change = decided.change;
     log::apply(log, change);
     decided.taken
 }
 
 // What the reply comes to, check after check. The log is only read.
-fn decided(log: &[u8], held: OpenAsk, reply: &[u8]) -> Decision
-    ensures { λ r. ⌜ r ≡ decided (viewOf (now (log .entry))) held (now (reply .entry)) ⌝ }
+fn decided(log: &[u8], figures: &mut [u32], held: OpenAsk, reply: &[u8]) -> Decision
+    ensures { λ r. ⌜ outcome r (now (figures .exit))
+        ≡ decided (viewOf (now (log .entry))) (now (figures .entry)) held (now (reply .entry)) ⌝ }
 {
     let Lent::Sound(h) = log::sound(log) else {
         return stays(TakeAnswer::Unsound, held);
     };
+    if figures.len() < day_figures::figures_of(h) {
+        return stays(TakeAnswer::TooShort, held);
+    }
     let OpenAsk::Open(address, day, slot) = held else {
         return stays(TakeAnswer::NoAskOpen, held);
     };
     let Interval::At(i) = log::interval_of(h, day, slot) else {
         return stays(TakeAnswer::NotInLog, held);
     };
+    // Early, where the header still lies in registers.
+    let twice = day_figures::comes_twice(h, day, slot);
     if let Form::Faulty(fault) = reader::form_of(
         address,
         code::READ,
@@ -99,6 +115,22 @@ fn decided(log: &[u8], held: OpenAsk, reply: &[u8]) -> Decision
     if result != code::OK {
         return closes(TakeAnswer::MeterRefused(result), Change::None);
     }
+    into_cell(log, figures, twice, held, day, i, reply)
+}
+
+// What a well-formed reply with result 0 comes to: the cell, its update and its day's figures.
+fn into_cell(
+    log: &[u8],
+    figures: &mut [u32],
+    twice: bool,
+    held: OpenAsk,
+    day: u8,
+    i: usize,
+    reply: &[u8],
+) -> Decision
+    ensures { λ r. ⌜ outcome r (now (figures .exit)) ≡ ifGood (cellAt (now (log .entry)) i) (outcome (stays Unsound held) (now (figures .entry)))
+        (λ c. updated (updateOf c (rowOf (now (reply .entry)))) twice held day i c (now (figures .entry))) ⌝ }
+{
     let CellAnswer::Good(cell) = log::cell_at(log, i) else {
         return stays(TakeAnswer::Unsound, held);
     };
@@ -106,7 +138,15 @@ fn decided(log: &[u8], held: OpenAsk, reply: &[u8]) -> Decision
     let em = words::u16_at(reply, layout::DATA + 2);
     let rp = words::u16_at(reply, layout::DATA + 4);
     let rm = words::u16_at(reply, layout::DATA + 6);
-    updated(update_of(cell, ep, em, rp, rm), i)
+    updated(
+        update_of(cell, ep, em, rp, rm),
+        figures,
+        twice,
+        held,
+        day,
+        i,
+        cell,
+    )
 }
 
 // Refused, and all stays as it was.
@@ -135,13 +175,34 @@ fn closes(answer: TakeAnswer, change: Change) -> Decision
     }
 }
 
-fn updated(update: Update, i: usize) -> Decision
-    ensures { λ r. ⌜ r ≡ updated update i ⌝ }
+// A cell is put where its day's figures can follow.
+fn updated(
+    update: Update,
+    figures: &mut [u32],
+    twice: bool,
+    held: OpenAsk,
+    day: u8,
+    i: usize,
+    old: Cell,
+) -> Decision
+    ensures { λ r. ⌜ outcome r (now (figures .exit)) ≡ updated update twice held day i old (now (figures .entry)) ⌝ }
 {
     match update {
-        Update::Put(new) => closes(TakeAnswer::Done, Change::Put(i, new)),
+        Update::Put(new) => {
+            let answer = day_figures::change(figures, day, twice, old, new);
+            put_with(answer, held, i, new)
+        }
         Update::Keep => closes(TakeAnswer::Done, Change::None),
         Update::Conflict => closes(TakeAnswer::OtherCounts, Change::None),
+    }
+}
+
+fn put_with(answer: FigureAnswer, held: OpenAsk, i: usize, new: Cell) -> Decision
+    ensures { λ r. ⌜ r ≡ putWith answer held i new ⌝ }
+{
+    match answer {
+        FigureAnswer::Done => closes(TakeAnswer::Done, Change::Put(i, new)),
+        FigureAnswer::Unfit => stays(TakeAnswer::Unsound, held),
     }
 }
 

@@ -40,7 +40,10 @@ demand-3 = record {
   log = history.log;
   answers = history.answers;
   ask-left = history.ask-left;
+  figures = history.figures;
   elsewhere = history.elsewhere;
+  other-days = history.other-days;
   as-long = history.as-long;
+  as-many = history.as-many;
   unread = history.unread;
 }

@@ -1,7 +1,7 @@
 -- Demand 1 at the boundary: what the proved calls below leave, and the lent words and bytes that C adds to it.
 use mathlib.Core.Path.{_≡_, refl, ap}
 use mathlib.Core.Bool.{Bool, true, false, cond}
-use mathlib.Core.List.{List}
+use mathlib.Core.List.{List, []}
 use Prim.Native.Nat.{ℕ, _+_}
 use native.Mathlib.Omega.{arith}
 use borrow.Author.Tests.{ne-eqb}
@@ -36,9 +36,12 @@ use Rattle.log.specs.Interval.{intervalOf}
 use Rattle.log.proofs.HeaderLaws.{by-sound}
 use Rattle.log.proofs.IntervalLaws.{by-at}
 use Rattle.log.proofs.CellLaws.{by-good}
-use Rattle.log.specs.Fresh.{freshOf, freshNumber}
+use Rattle.log.specs.Fresh.{freshNumber}
 use Rattle.log.specs.declared.fresh.FreshAnswer.{FreshAnswer}
 use Rattle.log.specs.declared.fresh.FreshAnswer.the-variants as made
+use Rattle.log.specs.declared.header.Lent.{Lent}
+use Rattle.day_figures.specs.Both.{Both, both}
+use Rattle.day_figures.specs.Fresh.{freshWith}
 use Rattle.dayreport.specs.Report.{reportOf, reportNumber}
 use Rattle.logfile.specs.Read.{readFile, readNumber}
 use Rattle.logfile.specs.Write.{writtenFile, writeNumber}
@@ -73,8 +76,8 @@ unread room least x = either (λ (n : ℕ). Ends n x x) (ltb room least) (stays 
 
 -- ---- the log: a length that a refusal leaves, beside what the call below leaves
 
-sized-ends : {A : Type 0} (number : A → ℕ) (size : A → ℕ → ℕ) → ((a : A) (n : ℕ) → (number a ≡ 0 → ⊥) → size a n ≡ n)
-    → (o : Outcome A (List ℕ)) (out : List ℕ) (n : ℕ) → EndsBy number out o → EndsForC (n, out) (sized number size o n)
+sized-ends : {A L : Type 0} (number : A → ℕ) (size : A → ℕ → ℕ) → ((a : A) (n : ℕ) → (number a ≡ 0 → ⊥) → size a n ≡ n)
+    → (o : Outcome A L) (out : L) (n : ℕ) → EndsBy number out o → EndsForC (n, out) (sized number size o n)
 sized-ends number size left o out n e =
     record { in-table = e .in-table; unchanged = λ r. rw (left (o .result) n r, e .unchanged r) }
 
@@ -101,20 +104,21 @@ length-kept file.WrongCrc n r = refl
 length-kept file.WrongCell n r = refl
 length-kept file.TooShort n r = refl
 
-pub log-fresh : (year month day days minutes ke seasons : ℕ) (log : List ℕ) (n : ℕ)
-    → EndsForC (n, log) (sized freshNumber imageLength (freshOf (headerFrom year month day days minutes ke seasons) log) n)
-log-fresh year month day days minutes ke seasons log n =
+pub log-fresh : (year month day days minutes ke seasons : ℕ) (log figs : List ℕ) (n : ℕ)
+    → EndsForC (n, both log figs) (sized freshNumber imageLength (freshWith (headerFrom year month day days minutes ke seasons) log figs) n)
+log-fresh year month day days minutes ke seasons log figs n =
     let h = headerFrom year month day days minutes ke seasons in
-    sized-ends freshNumber imageLength image-kept (freshOf h log) log n (claims.demand-1 .fresh-log h log)
+    sized-ends freshNumber imageLength image-kept (freshWith h log figs) (both log figs) n (claims.demand-1 .fresh-log h log figs)
 
-pub day-report : (v : View) (day : ℕ) (row : List ℕ) → EndsForC row (numbered reportNumber (reportOf v day row))
-day-report v day row = claims.demand-1 .day-report v day row
+pub day-report : (lent : Lent) (figs : List ℕ) (day : ℕ) (row : List ℕ) → EndsForC row (numbered reportNumber (reportOf lent figs day row))
+day-report lent figs day row = claims.demand-1 .day-report lent figs day row
 
 pub write-file : (v : View) (out : List ℕ) (n : ℕ) → EndsForC (n, out) (sized writeNumber fileLength (writtenFile v out) n)
 write-file v out n = sized-ends writeNumber fileLength file-kept (writtenFile v out) out n (claims.demand-1 .write-file v out)
 
-pub read-file : (f out : List ℕ) (n : ℕ) → EndsForC (n, out) (sized readNumber lengthAfter (readFile f out) n)
-read-file f out n = sized-ends readNumber lengthAfter length-kept (readFile f out) out n (claims.demand-1 .read-file f out)
+pub read-file : (f out figs : List ℕ) (n : ℕ) → EndsForC (n, both out figs) (sized readNumber lengthAfter (readFile f out figs) n)
+read-file f out figs n =
+    sized-ends readNumber lengthAfter length-kept (readFile f out figs) (both out figs) n (claims.demand-1 .read-file f out figs)
 
 -- ---- single cells
 
@@ -153,7 +157,7 @@ none-closed (Open address day slot) n r = ne-eqb _ _ r
 lapse-read : (a : AskRead) (log bs : List ℕ) → EndsForC (log, bs) (lapseForC a log bs)
 unfolding lapseForC step askLeft inTable
 lapse-read (Read held) log bs =
-    let e = claims.demand-1 .lapse (record { log = log; held = held }) in
+    let e = claims.demand-1 .lapse (record { log = log; figures = []; held = held }) in
     record { in-table = e .in-table; unchanged = λ n. rw (none-closed held _ n, ap (λ (s : State). s .log) (e .unchanged n)) }
 lapse-read Unreadable log bs = stays 28 (log, bs) refl
 
@@ -169,32 +173,32 @@ unfolding askLeft
 closed-bytes true held left bs e = rw e
 closed-bytes false held left bs e = refl
 
-take-read : (a : AskRead) (log bs reply : List ℕ) (result size : ℕ) → let o = takeForC a log bs reply result size in let n = o .result in
-    Ends {A = ℕ × ℕ × List ℕ × List ℕ} n
-    (resultAfter n reply result, receivedAfter n reply size, log, cond (closes n) (written bs 0 (askBytes Closed)) bs) (o .left)
+take-read : (a : AskRead) (b : Both) (bs reply : List ℕ) (result size : ℕ) → let o = takeForC a b bs reply result size in let n = o .result in
+    Ends {A = ℕ × ℕ × Both × List ℕ} n
+    (resultAfter n reply result, receivedAfter n reply size, b, cond (closes n) (written bs 0 (askBytes Closed)) bs) (o .left)
 unfolding takeForC closes resultAfter receivedAfter inTable
-take-read (Read held) log bs reply result size =
-    let e = claims.demand-1 .take-reply log held reply in
+take-read (Read held) b bs reply result size =
+    let e = claims.demand-1 .take-reply b held reply in
     record {
       in-table = e .in-table;
-      unchanged = λ n. rw (e .unchanged n, closed-bytes _ held _ bs (claims.demand-1 .ask-after log held reply));
+      unchanged = λ n. rw (e .unchanged n, closed-bytes _ held _ bs (claims.demand-1 .ask-after b held reply));
     }
-take-read Unreadable log bs reply result size = record { in-table = refl; unchanged = λ n. refl }
+take-read Unreadable b bs reply result size = record { in-table = refl; unchanged = λ n. refl }
 
-pub take : (log bs reply : List ℕ) (result size : ℕ) → let o = takeForC (askOf bs) log bs reply result size in let n = o .result in
-    Ends {A = ℕ × ℕ × List ℕ × List ℕ} n
-    (resultAfter n reply result, receivedAfter n reply size, log, cond (closes n) (written bs 0 (askBytes Closed)) bs) (o .left)
-take log bs reply result size = take-read (askOf bs) log bs reply result size
+pub take : (b : Both) (bs reply : List ℕ) (result size : ℕ) → let o = takeForC (askOf bs) b bs reply result size in let n = o .result in
+    Ends {A = ℕ × ℕ × Both × List ℕ} n
+    (resultAfter n reply result, receivedAfter n reply size, b, cond (closes n) (written bs 0 (askBytes Closed)) bs) (o .left)
+take b bs reply result size = take-read (askOf bs) b bs reply result size
 
-read-length : (a : AskRead) (log bs reply : List ℕ) (result size : ℕ) → let o = takeForC a log bs reply result size in
+read-length : (a : AskRead) (b : Both) (bs reply : List ℕ) (result size : ℕ) → let o = takeForC a b bs reply result size in
     o .left .1 ≡ receivedAfter (o .result) reply size
 unfolding takeForC receivedAfter
-read-length (Read held) log bs reply result size = refl
-read-length Unreadable log bs reply result size = refl
+read-length (Read held) b bs reply result size = refl
+read-length Unreadable b bs reply result size = refl
 
-pub take-length : (log bs reply : List ℕ) (result size : ℕ) → let o = takeForC (askOf bs) log bs reply result size in
+pub take-length : (b : Both) (bs reply : List ℕ) (result size : ℕ) → let o = takeForC (askOf bs) b bs reply result size in
     o .left .1 ≡ receivedAfter (o .result) reply size
-take-length log bs reply result size = read-length (askOf bs) log bs reply result size
+take-length b bs reply result size = read-length (askOf bs) b bs reply result size
 
 -- ---- requests, and replies decoded
 

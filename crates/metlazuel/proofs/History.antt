@@ -1,11 +1,15 @@
--- Demand 3 at the boundary: a list of C's calls is a list of the proved calls below them, on the log and on the ask that the bytes are read as.
-use mathlib.Core.Path.{_≡_, refl, sym, ap, ap₂, _∙_}
+-- Demand 3 at the boundary: a list of C's calls is a list of the proved calls below them, on the log, on its figures and on the ask that the bytes are
+-- read as.
+use mathlib.Core.Path.{_≡_, refl, sym, ap, ap₂, subst, _∙_}
 use mathlib.Core.List.{List, [], _∷_}
 use Prim.Native.Nat.{ℕ}
 use lib.ListN.{length}
-use Rattle.refusal.specs.Outcome.{Outcome}
+use Rattle.refusal.specs.Outcome.{Outcome, outcome}
 use Rattle.words.specs.Place.{byteAt}
+use Rattle.log.specs.Interval.{comesTwice}
 use Rattle.log.specs.View.{View, viewOf}
+use Rattle.day_figures.specs.Both.{Both, both}
+use Rattle.day_figures.specs.Rows.{rowAt, Right}
 use Rattle.logger.specs.Ask as ask-of
 use Rattle.logger.specs.Take as take
 use Rattle.reader.specs.declared.form.Fault.{Fault}
@@ -15,23 +19,23 @@ use Rattle.reader.proofs.FormLaws.{length-told}
 use Rattle.logger.specs.Reply.{sliceForm, rowOf}
 use Rattle.logger.specs.Book.{Call, ask, lapse, reply, Answer, plain, runOf, AllBytes}
 use Rattle.logger.specs.Run.{State, takeAnswer, step, run}
-use Rattle.logger.proofs.TakeLaws.{decided-cases, update-cases}
+use Rattle.logger.proofs.TakeLaws.{Step, decided-cases, update-cases}
 use Rattle.logger.specs.Lapse as lapse-of
 use Rattle.logger.specs.declared.ask.AskAnswer.{AskAnswer}
 use Rattle.logger.specs.declared.ask.AskAnswer.the-variants as asked
 use Rattle.logger.specs.declared.no_reply.LapseAnswer.{LapseAnswer}
 use Rattle.logger.specs.declared.no_reply.LapseAnswer.the-variants as lapsed
-use Rattle.logger.specs.declared.take.Decision.{Decision}
 use Rattle.logger.specs.declared.take.TakeAnswer.the-variants.{Malformed}
 use Rattle.logger.specs.declared.held.OpenAsk.{OpenAsk}
 use Rattle.c_values.specs.Ask.{askOf}
 use Rattle.c_values.specs.declared.ask.AskRead.{AskRead}
 use Rattle.c_values.specs.declared.ask.AskRead.the-variants.{Read, Unreadable}
 use Rattle.demands.specs.Demand3.{Elsewhere, begin, booked, logAfresh}
+use Rattle.demands.specs.DayFigures.{OtherDay}
 use Rattle.demands.proofs.Claims as claims
 use Rattle.metlazuel.specs.Calls.{resultAfter, receivedAfter}
 use Rattle.metlazuel.specs.LogCalls.{askForC, lapseForC, takeForC}
-use Rattle.metlazuel.specs.Demand3.{Lent, told, stepForC, ranForC, Begins}
+use Rattle.metlazuel.specs.Demand3.{Lent, stateOf, told, stepForC, ranForC, Begins}
 use Rattle.metlazuel.proofs.LogLaws as left
 
 -- ---- what C is told is the call's answer
@@ -51,39 +55,43 @@ lapsed-told lapsed.NotInLog word size = refl
 lapsed-told lapsed.Unsound word size = refl
 
 module _ (y : List ℕ) (word size : ℕ) where
-  abbrev Told : Decision → Type 0
-  Told d =
-      let n = take.numberOf (d .taken .answer) in
-      told n (resultAfter n y word) (receivedAfter n y size) ≡ takeAnswer (d .taken .answer)
+  abbrev Told : Step → Type 0
+  Told o =
+      let n = take.numberOf (o .result .taken .answer) in
+      told n (resultAfter n y word) (receivedAfter n y size) ≡ takeAnswer (o .result .taken .answer)
 
   -- the length that comes with 50 is the reply's
-  fault-told : (address : ℕ) (held : OpenAsk) (f : Fault) → sliceForm address y ≡ Faulty f → Told (take.stays (Malformed f) held)
+  fault-told : (address : ℕ) (held : OpenAsk) (figs : List ℕ) (f : Fault) → sliceForm address y ≡ Faulty f
+      → Told (outcome (take.stays (Malformed f) held) figs)
   unfolding told resultAfter receivedAfter
-  fault-told address held (fault.Length n) e =
+  fault-told address held figs (fault.Length n) e =
       ap (λ (k : ℕ). record { number = 50; result = 0; length = k }) (sym (length-told address 3 36 14 y n e))
-  fault-told address held fault.Crc e = refl
-  fault-told address held fault.Address e = refl
-  fault-told address held fault.Function e = refl
-  fault-told address held fault.Parameter e = refl
+  fault-told address held figs fault.Crc e = refl
+  fault-told address held figs fault.Address e = refl
+  fault-told address held figs fault.Function e = refl
+  fault-told address held figs fault.Parameter e = refl
 
-  taken-told : (v : View) (held : OpenAsk) → Told (take.decided v held y)
+  taken-told : (v : View) (figs : List ℕ) (held : OpenAsk) → Told (take.decided v figs held y)
   unfolding told resultAfter receivedAfter
-  taken-told v held =
-      decided-cases Told v held y (λ u. refl) (λ h u.
+  taken-told v figs held =
+      decided-cases Told v figs held y (λ u. refl) (λ h u.
       record {
+        few = λ n. refl;
         no-ask = λ o. refl;
         outside = λ a d t o n. refl;
-        malformed = λ i o f e. fault-told (o .address) held f e;
+        malformed = λ i o f e. fault-told (o .address) held figs f e;
         refused = λ i o r. refl;
         bad-cell = λ i o b. refl;
-        counted = λ i o r c g. update-cases Told (take.updateOf c (rowOf y)) i (λ new q. refl) refl refl;
+        counted = λ i o r c g.
+            update-cases Told (comesTwice h (o .ask .day) (o .ask .slot)) held (o .ask .day) i c figs (take.updateOf c (rowOf y)) (λ new q done. refl) refl refl refl;
       })
 
 -- ---- one call
 
--- C's memory is the log and the ask of a state
+-- C's memory is the log, the figures and the ask of a state
 pub record Holds (m : Lent) (s : State) : Type 0 where
   pub log : m .log ≡ s .log
+  pub figures : m .figures ≡ s .figures
   pub ask : askOf (m .ask) ≡ Read (s .held)
 
 -- an outcome for C is that of the call below
@@ -91,22 +99,23 @@ pub record Alike (o : Outcome Answer Lent) (p : Outcome Answer State) : Type 0 w
   pub answer : o .result ≡ p .result
   pub holds : Holds (o .left) (p .left)
 
-abbrev stateOf : Lent → OpenAsk → State
-stateOf m held = record { log = m .log; held = held }
-
 step-alike : (m : Lent) (held : OpenAsk) (c : Call) → askOf (m .ask) ≡ Read held → Alike (stepForC m c) (step (stateOf m held) c)
 unfolding stepForC step askForC lapseForC takeForC take.taken
 step-alike m held (ask address day slot out) e = record {
   answer = rw e (asked-told (ask-of.asked (viewOf (m .log)) held address day slot out .result .answer) (m .result) (m .size));
-  holds = record { log = refl; ask = left.ask-left (m .ask) (viewOf (m .log)) held address day slot out e };
+  holds = record { log = refl; figures = refl; ask = left.ask-left (m .ask) (viewOf (m .log)) held address day slot out e };
 }
 step-alike m held lapse e = record {
   answer = rw e (lapsed-told (lapse-of.lapsed (m .log) held .result .answer) (m .result) (m .size));
-  holds = record { log = rw e refl; ask = left.lapse-left (m .ask) (m .log) held e };
+  holds = record { log = rw e refl; figures = refl; ask = left.lapse-left (m .ask) (m .log) held e };
 }
 step-alike m held (reply y) e = record {
-  answer = rw e (taken-told y (m .result) (m .size) (viewOf (m .log)) held);
-  holds = record { log = rw e refl; ask = left.take-left (m .ask) (m .log) held y (m .result) (m .size) e };
+  answer = rw e (taken-told y (m .result) (m .size) (viewOf (m .log)) (m .figures) held);
+  holds = record {
+    log = rw e refl;
+    figures = rw e refl;
+    ask = left.take-left (m .ask) (both (m .log) (m .figures)) held y (m .result) (m .size) e;
+  };
 }
 
 -- ---- a list of calls
@@ -116,23 +125,29 @@ unfolding runOf
 run-alike m s [] h = (h, refl)
 run-alike m s (c ∷ calls) h =
     let a = step-alike m (s .held) c (h .ask) in
-    let same : stateOf m (s .held) ≡ s = ap (λ (l : List ℕ). record { log = l; held = s .held }) (h .log) in
+    let same : stateOf m (s .held) ≡ s = ap₂ (λ (l f : List ℕ). record { log = l; figures = f; held = s .held }) (h .log) (h .figures) in
     let next : Alike (stepForC m c) (step s c) = rw same at a in
     let rest = run-alike (stepForC m c .left) (step s c .left) calls (next .holds) in
     (rest .0, ap₂ (λ (x : Answer) (xs : List Answer). x ∷ xs) (next .answer) (rest .1))
 
 module _ (m : Lent) (b : Begins m) (calls : List Call) (k : AllBytes calls) where
-  whole : Holds (ranForC m calls .left) (run (begin (m .log)) calls .left) × (ranForC m calls .result ≡ run (begin (m .log)) calls .result)
-  whole = run-alike m (begin (m .log)) calls (record { log = refl; ask = b .closed })
+  abbrev first : Both
+  first = both (m .log) (m .figures)
+
+  whole : Holds (ranForC m calls .left) (run (begin first) calls .left) × (ranForC m calls .result ≡ run (begin first) calls .result)
+  whole = run-alike m (begin first) calls (record { log = refl; figures = refl; ask = b .closed })
 
   pub log : ranForC m calls .left .log ≡ logAfresh (b .start) calls
-  log = whole .0 .log ∙ claims.demand-3 .log (m .log) (b .start) calls k
+  log = whole .0 .log ∙ claims.demand-3 .log first (b .start) calls k
 
   pub answers : ranForC m calls .result ≡ booked (b .start) calls .result
-  answers = whole .1 ∙ claims.demand-3 .answers (m .log) (b .start) calls k
+  answers = whole .1 ∙ claims.demand-3 .answers first (b .start) calls k
 
   pub ask-left : askOf (ranForC m calls .left .ask) ≡ Read (booked (b .start) calls .left .held)
-  ask-left = whole .0 .ask ∙ ap Read (claims.demand-3 .ask-left (m .log) (b .start) calls k)
+  ask-left = whole .0 .ask ∙ ap Read (claims.demand-3 .ask-left first (b .start) calls k)
+
+  pub figures : let after = ranForC m calls .left in Right (b .start .header) (viewOf (after .log) .cell) (after .figures)
+  figures = rw (whole .0 .log, whole .0 .figures) (claims.day-figures .kept first (b .start) calls k)
 
 -- ---- what a call leaves alone
 
@@ -141,15 +156,31 @@ pub elsewhere : (m : Lent) (held : OpenAsk) (c : Call) (j : ℕ) → askOf (m .a
 elsewhere m held c j e k =
     ap (λ (l : List ℕ). byteAt l j) (step-alike m held c e .holds .log) ∙ claims.demand-3 .elsewhere (stateOf m held) c j k
 
+pub other-days : (m : Lent) (held : OpenAsk) (c : Call) (d : ℕ) → askOf (m .ask) ≡ Read held → OtherDay (stateOf m held) d
+    → rowAt (stepForC m c .left .figures) d ≡ rowAt (m .figures) d
+other-days m held c d e k =
+    ap (λ (l : List ℕ). rowAt l d) (step-alike m held c e .holds .figures) ∙ claims.day-figures .other-days (stateOf m held) c d k
+
 pub unread : (m : Lent) (c : Call) → askOf (m .ask) ≡ Unreadable → stepForC m c .left ≡ m
 unfolding stepForC askForC lapseForC takeForC
 unread m (ask address day slot out) e = rw e refl
 unread m lapse e = rw e refl
 unread m (reply y) e = rw e refl
 
-pub as-long : (m : Lent) (c : Call) → length (stepForC m c .left .log) ≡ length (m .log)
-as-long m c = go (askOf (m .ask)) refl
+-- what holds of the memory before a call, and after one over bytes that are read as an ask, holds after every call
+by-read : (P : Lent → Type 0) (m : Lent) (c : Call) → P m → ((held : OpenAsk) → askOf (m .ask) ≡ Read held → P (stepForC m c .left)) → P (stepForC m c .left)
+by-read P m c before after = go (askOf (m .ask)) refl
   where
-    go : (a : AskRead) → askOf (m .ask) ≡ a → length (stepForC m c .left .log) ≡ length (m .log)
-    go (Read held) e = ap length (step-alike m held c e .holds .log) ∙ claims.demand-3 .as-long (stateOf m held) c
-    go Unreadable e = ap (λ (x : Lent). length (x .log)) (unread m c e)
+    go : (a : AskRead) → askOf (m .ask) ≡ a → P (stepForC m c .left)
+    go (Read held) e = after held e
+    go Unreadable e = subst P (sym (unread m c e)) before
+
+pub as-long : (m : Lent) (c : Call) → length (stepForC m c .left .log) ≡ length (m .log)
+as-long m c =
+    by-read (λ (x : Lent). length (x .log) ≡ length (m .log)) m c refl (λ held e.
+    ap length (step-alike m held c e .holds .log) ∙ claims.demand-3 .as-long (stateOf m held) c)
+
+pub as-many : (m : Lent) (c : Call) → length (stepForC m c .left .figures) ≡ length (m .figures)
+as-many m c =
+    by-read (λ (x : Lent). length (x .figures) ≡ length (m .figures)) m c refl (λ held e.
+    ap length (step-alike m held c e .holds .figures) ∙ claims.day-figures .as-many (stateOf m held) c)

@@ -13,15 +13,15 @@ use Rattle.case_laws.proofs.Test.{either}
 use Rattle.frame.specs.Layout.{readSize}
 use Rattle.log.proofs.HeaderLaws.{by-sound}
 use Rattle.log.specs.View.{View, viewOf}
+use Rattle.day_figures.specs.Both.{Both}
 use Rattle.log.specs.Interval.{intervalOf}
 use Rattle.log.proofs.IntervalLaws.{by-at}
 use Rattle.logger.proofs.LapseLaws.{isRefused, lapsing-ways}
-use Rattle.logger.proofs.TakeLaws.{by-none, decided-ways}
+use Rattle.logger.proofs.TakeLaws.{Step, by-none, decided-ways}
 use Rattle.logger.specs.declared.no_reply.LapseAnswer.{LapseAnswer}
 use Rattle.logger.specs.declared.no_reply.Lapsed.{Lapsed}
 use Rattle.logger.specs.declared.no_reply.LapseAnswer.the-variants as lapse-answer
 use Rattle.logger.specs.declared.no_reply.LapseDecision.{LapseDecision}
-use Rattle.logger.specs.declared.take.Decision.{Decision}
 use Rattle.log.specs.declared.image.Change.{Change}
 use Rattle.log.specs.declared.image.Change.the-variants as change
 use Rattle.logger.specs.declared.held.OpenAsk.{OpenAsk}
@@ -83,23 +83,23 @@ module _ (bs : List ℕ) where
       }))
 
   -- the bytes after a reply's outcome are its ask
-  abbrev Left : Outcome Taken (List ℕ) → Type 0
+  abbrev Left : Outcome Taken Both → Type 0
   Left o = askOf (askLeft (closes (take.numberOf (o .result .answer))) (o .result .held) bs) ≡ Read (o .result .held)
 
-  log-left : (log : List ℕ) (held : OpenAsk) (y : List ℕ) → askOf bs ≡ Read held → Left (take.taken log held y)
+  log-left : (b : Both) (held : OpenAsk) (y : List ℕ) → askOf bs ≡ Read held → Left (take.taken b held y)
   unfolding take.taken askLeft closes
-  log-left log held y e =
+  log-left b held y e =
       let closed = ask-again bs Closed (ask-size bs held e) in
-      decided-ways (λ (d : Decision). Left (take.done d log)) (viewOf log) held y (record {
+      decided-ways (λ (d : Step). Left (take.done d (b .log))) (viewOf (b .log)) (b .figures) held y (record {
         kept-open = λ a n. rw (number-closes a ∙ n) e;
         closed = λ a n. rw (number-closes a ∙ n) closed;
-        put = λ h i c s o is. closed;
+        put = λ h i old c s o g is done. closed;
       })
 
-  pub take-left : (log : List ℕ) (held : OpenAsk) (y : List ℕ) (result size : ℕ) → askOf bs ≡ Read held
-      → askOf (takeForC (askOf bs) log bs y result size .left .3) ≡ Read (take.taken log held y .result .held)
+  pub take-left : (b : Both) (held : OpenAsk) (y : List ℕ) (result size : ℕ) → askOf bs ≡ Read held
+      → askOf (takeForC (askOf bs) b bs y result size .left .3) ≡ Read (take.taken b held y .result .held)
   unfolding takeForC
-  take-left log held y result size e = rw e (log-left log held y e)
+  take-left b held y result size e = rw e (log-left b held y e)
 
 -- a lapse for C by its parts
 pub lapse-read : (held : OpenAsk) (log bs : List ℕ) (l : Lapsed) (t : List ℕ) (n : ℕ) (moved : Bool) (after : List ℕ)

@@ -12,8 +12,8 @@ use Rattle.frame.specs.Layout.{resultPlace}
 abbrev pub numbered : {A L : Type 0} → (A → ℕ) → Outcome A L → Outcome ℕ L
 numbered number o = outcome (number (o .result)) (o .left)
 
--- the same, and a lent length before the output: the one that the answer has, or as it was
-abbrev pub sized : {A : Type 0} → (A → ℕ) → (A → ℕ → ℕ) → Outcome A (List ℕ) → ℕ → Outcome ℕ (ℕ × List ℕ)
+-- the same, and a lent length before what is left: the one that the answer has, or as it was
+abbrev pub sized : {A L : Type 0} → (A → ℕ) → (A → ℕ → ℕ) → Outcome A L → ℕ → Outcome ℕ (ℕ × L)
 sized number size o before = outcome (number (o .result)) (size (o .result) before, o .left)
 
 -- bytes that are no ask or no record, with an output of so much room: "28 stands right after 1"

@@ -22,7 +22,10 @@ use Rattle.meter_command.specs.Verdict.{numberOf}
 use Rattle.meter_command.specs.declared.verdict.Verdict.{Verdict}
 use Rattle.meter.specs.Reply.{headOf, answerOf}
 use Rattle.log.specs.View.{View}
-use Rattle.log.specs.Fresh.{freshOf, freshNumber}
+use Rattle.log.specs.Fresh.{freshNumber}
+use Rattle.log.specs.declared.header.Lent.{Lent}
+use Rattle.day_figures.specs.Both.{Both, both}
+use Rattle.day_figures.specs.Fresh.{freshWith}
 use Rattle.dayreport.specs.Report.{reportOf, reportNumber}
 use Rattle.logfile.specs.Read.{readFile, readNumber}
 use Rattle.logfile.specs.Write.{writtenFile, writeNumber}
@@ -48,12 +51,14 @@ pub record RefusedOutput (number : ℕ) (f before after : List ℕ) : Type 0 whe
   pub output : after ≡ cond (givesFrame number) (written before 0 (framed (headOf verdict f))) before
 
 pub record Demand1C : Type 0 where
-  -- the log: length and image, length and file, the row
-  pub log-fresh : (year month day days minutes ke seasons : ℕ) (log : List ℕ) (length : ℕ)
-      → EndsForC (length, log) (sized freshNumber imageLength (freshOf (headerFrom year month day days minutes ke seasons) log) length)
-  pub day-report : (v : View) (day : ℕ) (row : List ℕ) → EndsForC row (numbered reportNumber (reportOf v day row))
+  -- the log: length, image and figures; the row; length and file
+  pub log-fresh : (year month day days minutes ke seasons : ℕ) (log figures : List ℕ) (length : ℕ)
+      → EndsForC (length, both log figures)
+      (sized freshNumber imageLength (freshWith (headerFrom year month day days minutes ke seasons) log figures) length)
+  pub day-report : (lent : Lent) (figures : List ℕ) (day : ℕ) (row : List ℕ) → EndsForC row (numbered reportNumber (reportOf lent figures day row))
   pub write-file : (v : View) (out : List ℕ) (length : ℕ) → EndsForC (length, out) (sized writeNumber fileLength (writtenFile v out) length)
-  pub read-file : (file out : List ℕ) (length : ℕ) → EndsForC (length, out) (sized readNumber lengthAfter (readFile file out) length)
+  pub read-file : (file out figures : List ℕ) (length : ℕ)
+      → EndsForC (length, both out figures) (sized readNumber lengthAfter (readFile file out figures) length)
   -- single cells: kind, counts and lapses, and the slot
   pub cell : (v : View) (day slot kind : ℕ) (counts : List ℕ) (lapses : ℕ) → EndsForC (kind, counts, lapses) (cellForC v day slot kind counts lapses)
   pub next-gap : (v : View) (day from slot : ℕ) → EndsForC slot (nextGapForC v day from slot)
@@ -63,12 +68,13 @@ pub record Demand1C : Type 0 where
   -- document 02, CR 7)
   pub lapse : (log bs : List ℕ) → EndsForC (log, bs) (lapseForC (askOf bs) log bs)
   pub lapse-none : (log bs : List ℕ) → askOf bs ≡ Read Closed → lapseForC (askOf bs) log bs ≡ outcome 0 (log, bs)
-  -- result, length, log and ask: 24 "meter's result not 0; returned; ask closed, log kept", 25 "ask closed, log kept"
-  pub take : (log bs reply : List ℕ) (result length : ℕ) → let o = takeForC (askOf bs) log bs reply result length in let n = o .result in
-      Ends {A = ℕ × ℕ × List ℕ × List ℕ} n
-      (resultAfter n reply result, receivedAfter n reply length, log, cond (closes n) (written bs 0 (askBytes Closed)) bs) (o .left)
+  -- result, length, log with its figures, and ask: 24 "meter's result not 0; returned; ask closed, log kept", 25 "ask closed, log kept"; and the last 28,
+  -- for a figure that cannot follow, as any 28
+  pub take : (b : Both) (bs reply : List ℕ) (result length : ℕ) → let o = takeForC (askOf bs) b bs reply result length in let n = o .result in
+      Ends {A = ℕ × ℕ × Both × List ℕ} n
+      (resultAfter n reply result, receivedAfter n reply length, b, cond (closes n) (written bs 0 (askBytes Closed)) bs) (o .left)
   -- 50 alone gives the length received, and every other answer, 0 too, leaves the lent one
-  pub take-length : (log bs reply : List ℕ) (result length : ℕ) → let o = takeForC (askOf bs) log bs reply result length in
+  pub take-length : (b : Both) (bs reply : List ℕ) (result length : ℕ) → let o = takeForC (askOf bs) b bs reply result length in
       o .left .1 ≡ receivedAfter (o .result) reply length
   -- requests, and replies decoded: count, result, length and row; with function 3, and with function 4 `metlazuel_request4` and `metlazuel_decode4`
   pub request : (reading : Reading) (address parameter offset tariff detail : ℕ) (out : List ℕ)

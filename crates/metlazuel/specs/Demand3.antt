@@ -1,5 +1,6 @@
 -- Demand 3 of the functions that firmware links, over the memory that it lends them. "Then come asks, lapses and replies, refused ones
 -- included, in any list and whatever bytes the replies hold. Each call that takes the log or the open ask gets it as the calls before left it."
+-- Document 02, CR 8: "Demand 3's premise then covers them as it does the log", the figures beside it.
 --
 -- The calls run by the definitions that the contracts of `metlazuel_ask`, `metlazuel_lapse` and `metlazuel_take` cite. The history is that of
 -- demands/specs/Demand3.antt, which never sees an image or an ask's bytes. Proofs: `demand-3`, proofs/Claims.antt.
@@ -12,20 +13,29 @@ use lib.ListN.{length}
 use Rattle.refusal.specs.Outcome.{Outcome, outcome}
 use Rattle.words.specs.Place.{byteAt}
 use Rattle.log.specs.View.{viewOf}
+use Rattle.day_figures.specs.Both.{both}
+use Rattle.day_figures.specs.Rows.{rowAt, Right}
 use Rattle.logger.specs.Book.{Call, ask, lapse, reply, Answer, runOf, AllBytes}
+use Rattle.logger.specs.Run.{State, state}
 use Rattle.logger.specs.declared.held.OpenAsk.{OpenAsk}
 use Rattle.logger.specs.declared.held.OpenAsk.the-variants.{Closed}
 use Rattle.c_values.specs.Ask.{askOf}
 use Rattle.c_values.specs.declared.ask.AskRead.the-variants.{Read, Unreadable}
 use Rattle.demands.specs.Demand3.{Start, booked, logAfresh, Elsewhere}
+use Rattle.demands.specs.DayFigures.{OtherDay}
 use Rattle.metlazuel.specs.LogCalls.{askForC, lapseForC, takeForC}
 
--- what C lends to one call after the other: the log, the ask's bytes, and the words behind `result` and `length`
+-- what C lends to one call after the other: the log, its figures, the ask's bytes, and the words behind `result` and `length`
 pub record Lent : Type 0 where
   pub log : List ℕ
+  pub figures : List ℕ
   pub ask : List ℕ
   pub result : ℕ
   pub size : ℕ
+
+-- the log and the figures with the ask that the bytes are read as
+abbrev pub stateOf : Lent → OpenAsk → State
+stateOf m held = state (both (m .log) (m .figures)) held
 
 -- what C is told: the number, with 24 ("meter's result not 0; returned") the word behind `result`, and with 50 the one behind `length`
 unfoldable pub told : ℕ → ℕ → ℕ → Answer
@@ -35,21 +45,22 @@ told n word size = record { number = n; result = cond (eqb n 24) word 0; length 
 unfoldable pub stepForC : Lent → Call → Outcome Answer Lent
 stepForC m (ask address day slot out) =
     let o = askForC (askOf (m .ask)) (viewOf (m .log)) (m .ask) address day slot out in
-    outcome (told (o .result) (m .result) (m .size)) (record { log = m .log; ask = o .left .0; result = m .result; size = m .size })
+    outcome (told (o .result) (m .result) (m .size)) (record { log = m .log; figures = m .figures; ask = o .left .0; result = m .result; size = m .size })
 stepForC m lapse =
     let o = lapseForC (askOf (m .ask)) (m .log) (m .ask) in
-    outcome (told (o .result) (m .result) (m .size)) (record { log = o .left .0; ask = o .left .1; result = m .result; size = m .size })
+    outcome (told (o .result) (m .result) (m .size)) (record { log = o .left .0; figures = m .figures; ask = o .left .1; result = m .result; size = m .size })
 stepForC m (reply y) =
-    let o = takeForC (askOf (m .ask)) (m .log) (m .ask) y (m .result) (m .size) in
-    outcome (told (o .result) (o .left .0) (o .left .1)) (record { log = o .left .2; ask = o .left .3; result = o .left .0; size = o .left .1 })
+    let o = takeForC (askOf (m .ask)) (both (m .log) (m .figures)) (m .ask) y (m .result) (m .size) in
+    outcome (told (o .result) (o .left .0) (o .left .1))
+    (record { log = o .left .2 .log; figures = o .left .2 .figures; ask = o .left .3; result = o .left .0; size = o .left .1 })
 
 -- a list of calls, each lent the memory as the one before left it
 abbrev pub ranForC : Lent → List Call → Outcome (List Answer) Lent
 ranForC m calls = runOf stepForC m calls
 
--- memory to begin with: a log, bytes that are read as no ask open, and any words
+-- memory to begin with: a log with its figures, bytes that are read as no ask open, and any words
 pub record Begins (m : Lent) : Type 0 where
-  pub start : Start (m .log)
+  pub start : Start (both (m .log) (m .figures))
   pub closed : askOf (m .ask) ≡ Read Closed
 
 pub record Demand3C : Type 0 where
@@ -59,9 +70,15 @@ pub record Demand3C : Type 0 where
   pub answers : (m : Lent) (b : Begins m) (calls : List Call) → AllBytes calls → ranForC m calls .result ≡ booked (b .start) calls .result
   pub ask-left : (m : Lent) (b : Begins m) (calls : List Call) → AllBytes calls
       → askOf (ranForC m calls .left .ask) ≡ Read (booked (b .start) calls .left .held)
-  -- "None of these calls alters a byte of the log outside the cell whose ask was open before the call", whatever log is lent; bytes that are
-  -- read as no ask leave all that is lent
-  pub elsewhere : (m : Lent) (held : OpenAsk) (c : Call) (j : ℕ) → askOf (m .ask) ≡ Read held → Elsewhere (record { log = m .log; held = held }) j
+  -- "the figures must be those that a walk over the cells gives" (CR 8)
+  pub figures : (m : Lent) (b : Begins m) (calls : List Call) → AllBytes calls → let after = ranForC m calls .left in
+      Right (b .start .header) (viewOf (after .log) .cell) (after .figures)
+  -- "None of these calls alters a byte of the log outside the cell whose ask was open before the call", whatever log is lent, or a figure of another day;
+  -- bytes that are read as no ask leave all that is lent
+  pub elsewhere : (m : Lent) (held : OpenAsk) (c : Call) (j : ℕ) → askOf (m .ask) ≡ Read held → Elsewhere (stateOf m held) j
       → byteAt (stepForC m c .left .log) j ≡ byteAt (m .log) j
+  pub other-days : (m : Lent) (held : OpenAsk) (c : Call) (d : ℕ) → askOf (m .ask) ≡ Read held → OtherDay (stateOf m held) d
+      → rowAt (stepForC m c .left .figures) d ≡ rowAt (m .figures) d
   pub as-long : (m : Lent) (c : Call) → length (stepForC m c .left .log) ≡ length (m .log)
+  pub as-many : (m : Lent) (c : Call) → length (stepForC m c .left .figures) ≡ length (m .figures)
   pub unread : (m : Lent) (c : Call) → askOf (m .ask) ≡ Unreadable → stepForC m c .left ≡ m

@@ -1,4 +1,4 @@
--- What C is given of the log's calls. The open ask is four lent bytes.
+-- What C is given of the log's calls. The open ask is four lent bytes; a log with its figures, lent together, is `Both` (document 02, CR 8).
 use mathlib.Core.Bool.{Bool, false, cond, _||_}
 use mathlib.Core.List.{List}
 use Prim.Native.Nat.{ℕ}
@@ -11,6 +11,7 @@ use Rattle.log.specs.View.{View}
 use Rattle.log.specs.declared.header.Header.{Header}
 use Rattle.log.specs.declared.fresh.FreshAnswer.{FreshAnswer}
 use Rattle.log.specs.declared.fresh.FreshAnswer.the-variants as made
+use Rattle.day_figures.specs.Both.{Both}
 use Rattle.logfile.specs.declared.read.ReadAnswer.{ReadAnswer}
 use Rattle.logfile.specs.Read.{ifRead}
 use Rattle.logfile.specs.declared.write.WriteAnswer.{WriteAnswer}
@@ -84,13 +85,13 @@ lapseForC Unreadable log bs = outcome 28 (log, bs)
 unfoldable pub closes : ℕ → Bool
 closes n = eqb n 0 || eqb n 24 || eqb n 25
 
--- left: the meter's result, the length received, the log and the ask's bytes
-abbrev pub takenForC : Outcome Taken (List ℕ) → List ℕ → ℕ → ℕ → List ℕ → Outcome ℕ (ℕ × ℕ × List ℕ × List ℕ)
+-- left: the meter's result, the length received, the log with its figures, and the ask's bytes
+abbrev pub takenForC : Outcome Taken Both → List ℕ → ℕ → ℕ → List ℕ → Outcome ℕ (ℕ × ℕ × Both × List ℕ)
 takenForC o y result size bs =
     let n = take.numberOf (o .result .answer) in
     outcome n (resultAfter n y result, receivedAfter n y size, o .left, askLeft (closes n) (o .result .held) bs)
 
--- bytes that are no ask are 28 too
-unfoldable pub takeForC : AskRead → List ℕ → List ℕ → List ℕ → ℕ → ℕ → Outcome ℕ (ℕ × ℕ × List ℕ × List ℕ)
-takeForC (Read held) log bs y result size = takenForC (take.taken log held y) y result size bs
-takeForC Unreadable log bs y result size = outcome 28 (result, size, log, bs)
+-- bytes that are no ask are 28 too, as those of an unsound log are: before 1 for too few figures
+unfoldable pub takeForC : AskRead → Both → List ℕ → List ℕ → ℕ → ℕ → Outcome ℕ (ℕ × ℕ × Both × List ℕ)
+takeForC (Read held) b bs y result size = takenForC (take.taken b held y) y result size bs
+takeForC Unreadable b bs y result size = outcome 28 (result, size, b, bs)

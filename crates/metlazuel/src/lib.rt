@@ -4,8 +4,9 @@
 ghost use mathlib.Core.Path.{_≡_};
 ghost use Rattle.crc16.specs.Crc.{crcOf};
 ghost use Rattle.refusal.specs.Outcome.{outcome};
+ghost use Rattle.log.specs.Header.{soundOf};
+ghost use Rattle.day_figures.specs.Both.{both};
 ghost use Rattle.logfile.specs.Read.{readFile, readNumber};
-ghost use Rattle.log.specs.View.{viewOf};
 ghost use Rattle.dayreport.specs.Report.{reportOf, reportNumber};
 ghost use Rattle.metlazuel.specs.Calls.{numbered, sized};
 ghost use Rattle.metlazuel.specs.LogCalls.{lengthAfter};
@@ -47,23 +48,29 @@ pub extern "C" fn metlazuel_crc16(bytes: &[u8]) -> u16
     crc16::crc16(bytes)
 }
 
-// uint8_t metlazuel_read_file(const uint8_t *file, size_t n, uint8_t *out, size_t room, size_t *length)
+// uint8_t metlazuel_read_file(const uint8_t *file, size_t n, uint8_t *out, size_t room, uint32_t *figures, size_t numbers, size_t *length)
 //
-// The image's length goes to `length`, which a refusal leaves as it was, as it leaves `out`.
+// The image's length goes to `length`, which a refusal leaves as it was, as it leaves `out` and `figures`.
 #[no_mangle]
-pub extern "C" fn metlazuel_read_file(file: &[u8], out: &mut [u8], length: &mut usize) -> u8
-    ensures { λ r. ⌜ outcome r (now (length .exit), now (out .exit))
-        ≡ sized readNumber lengthAfter (readFile (now (file .entry)) (now (out .entry))) (now (length .entry)) ⌝ }
+pub extern "C" fn metlazuel_read_file(
+    file: &[u8],
+    out: &mut [u8],
+    figures: &mut [u32],
+    length: &mut usize,
+) -> u8
+    ensures { λ r. ⌜ outcome r (now (length .exit), both (now (out .exit)) (now (figures .exit)))
+        ≡ sized readNumber lengthAfter (readFile (now (file .entry)) (now (out .entry)) (now (figures .entry))) (now (length .entry)) ⌝ }
 {
-    let answer = logfile::read_file(file, out);
+    let answer = logfile::read_file(file, out, figures);
     *length = answer.length_or(*length);
     answer.number()
 }
 
-// uint8_t metlazuel_day_report(const uint8_t *log, size_t n, uint8_t day, uint32_t *row, size_t room)
+// uint8_t metlazuel_day_report(const uint8_t *log, size_t n, const uint32_t *figures, size_t numbers, uint8_t day, uint32_t *row, size_t room)
 #[no_mangle]
-pub extern "C" fn metlazuel_day_report(log: &[u8], day: u8, row: &mut [u32]) -> u8
-    ensures { λ r. ⌜ outcome r (now (row .exit)) ≡ numbered reportNumber (reportOf (viewOf (now (log .entry))) day (now (row .entry))) ⌝ }
+pub extern "C" fn metlazuel_day_report(log: &[u8], figures: &[u32], day: u8, row: &mut [u32]) -> u8
+    ensures { λ r. ⌜ outcome r (now (row .exit))
+        ≡ numbered reportNumber (reportOf (soundOf (now (log .entry))) (now (figures .entry)) day (now (row .entry))) ⌝ }
 {
-    dayreport::day_report(log, day, row).number()
+    dayreport::day_report(log, figures, day, row).number()
 }

@@ -1,6 +1,6 @@
-// The log for C: fresh logs, files, and asks, lapses and replies. A log is its image, and the open ask four bytes, which firmware keeps
-// between the calls; bytes that are no ask count as an unsound log: 28. A refusal leaves what is lent, but for the open ask where document
-// 01's table closes it.
+// The log for C: fresh logs, files, and asks, lapses and replies. A log is its image, its figures are numbers, and the open ask four bytes:
+// firmware keeps all three between the calls. Bytes that are no ask count as an unsound log: 28. A refusal leaves what is lent, but for the
+// open ask where document 01's table closes it.
 use crate::given;
 use c_values::AskRead;
 use calendar::Date;
@@ -11,21 +11,24 @@ use logfile::WriteAnswer;
 use logger::OpenAsk;
 ghost use mathlib.Core.Path.{_≡_};
 ghost use Rattle.refusal.specs.Outcome.{outcome};
-ghost use Rattle.log.specs.Fresh.{freshOf, freshNumber};
+ghost use Rattle.log.specs.Fresh.{freshNumber};
 ghost use Rattle.log.specs.View.{viewOf};
+ghost use Rattle.day_figures.specs.Both.{both};
+ghost use Rattle.day_figures.specs.Fresh.{freshWith};
 ghost use Rattle.logfile.specs.Write.{writtenFile, writeNumber};
 ghost use Rattle.c_values.specs.Ask.{askOf};
 ghost use Rattle.metlazuel.specs.Calls.{sized};
 ghost use Rattle.metlazuel.specs.LogCalls.{headerFrom, imageLength, fileLength, askLeft, askForC, lapseCloses, lapseForC, closes, takeForC};
 
-// uint8_t metlazuel_log_fresh(uint8_t *log, size_t room, uint8_t year, uint8_t month, uint8_t day, uint8_t days, uint8_t minutes,
-//     uint16_t ke, uint8_t seasons, size_t *length)
+// uint8_t metlazuel_log_fresh(uint8_t *log, size_t room, uint32_t *figures, size_t numbers, uint8_t year, uint8_t month, uint8_t day,
+//     uint8_t days, uint8_t minutes, uint16_t ke, uint8_t seasons, size_t *length)
 //
-// A fresh log; `year` counts from 2000, and `seasons` is 1 where the automatic seasons are followed, else 0. The image's length goes to
-// `length`.
+// A fresh log with its figures; `year` counts from 2000, and `seasons` is 1 where the automatic seasons are followed, else 0. The image's
+// length goes to `length`.
 #[no_mangle]
 pub extern "C" fn metlazuel_log_fresh(
     log: &mut [u8],
+    figures: &mut [u32],
     year: u8,
     month: u8,
     day: u8,
@@ -35,8 +38,9 @@ pub extern "C" fn metlazuel_log_fresh(
     seasons: u8,
     length: &mut usize,
 ) -> u8
-    ensures { λ n. ⌜ outcome n (now (length .exit), now (log .exit))
-        ≡ sized freshNumber imageLength (freshOf (headerFrom year month day days minutes ke seasons) (now (log .entry))) (now (length .entry)) ⌝ }
+    ensures { λ n. ⌜ outcome n (now (length .exit), both (now (log .exit)) (now (figures .exit)))
+        ≡ sized freshNumber imageLength (freshWith (headerFrom year month day days minutes ke seasons) (now (log .entry)) (now (figures .entry)))
+        (now (length .entry)) ⌝ }
 {
     let header = Header {
         start: Date {
@@ -49,7 +53,7 @@ pub extern "C" fn metlazuel_log_fresh(
         ke: ke,
         seasons: seasons,
     };
-    let answer = log::fresh_log(header, log);
+    let answer = day_figures::fresh_log(header, log, figures);
     *length = image_length(answer, *length);
     answer.number()
 }
@@ -154,25 +158,28 @@ fn lapse_closes(held: OpenAsk, number: u8) -> bool
     }
 }
 
-// uint8_t metlazuel_take(uint8_t *log, size_t n, uint8_t *ask, size_t size, const uint8_t *reply, size_t bytes, uint8_t *result,
-//     size_t *length)
+// uint8_t metlazuel_take(uint8_t *log, size_t n, uint32_t *figures, size_t numbers, uint8_t *ask, size_t size, const uint8_t *reply,
+//     size_t bytes, uint8_t *result, size_t *length)
 //
-// Takes a reply for the open ask. A meter's result that is not 0 goes to `result`, a length that is wrong to `length`.
+// Takes a reply for the open ask, and keeps the day's figures right. A meter's result that is not 0 goes to `result`, a length that is wrong
+// to `length`.
 #[no_mangle]
 pub extern "C" fn metlazuel_take(
     log: &mut [u8],
+    figures: &mut [u32],
     ask: &mut [u8],
     reply: &[u8],
     result: &mut u8,
     length: &mut usize,
 ) -> u8
-    ensures { λ n. ⌜ outcome n (now (result .exit), now (length .exit), now (log .exit), now (ask .exit))
-        ≡ takeForC (askOf (now (ask .entry))) (now (log .entry)) (now (ask .entry)) (now (reply .entry)) (now (result .entry)) (now (length .entry)) ⌝ }
+    ensures { λ n. ⌜ outcome n (now (result .exit), now (length .exit), both (now (log .exit)) (now (figures .exit)), now (ask .exit))
+        ≡ takeForC (askOf (now (ask .entry))) (both (now (log .entry)) (now (figures .entry))) (now (ask .entry)) (now (reply .entry))
+        (now (result .entry)) (now (length .entry)) ⌝ }
 {
     let AskRead::Read(held) = c_values::ask_of(ask) else {
         return refusal::UNSOUND;
     };
-    let taken = logger::take_reply(log, held, reply);
+    let taken = logger::take_reply(log, figures, held, reply);
     let answer = taken.answer;
     let left = taken.held;
     let number = answer.number();

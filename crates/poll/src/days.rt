@@ -1,9 +1,11 @@
-// The asks of the days, one after the other. Whatever the line carries, the log and the open ask go on by the logger's calls alone, so
-// that demand 3 says what stands in every cell.
+// The asks of the days, one after the other. Whatever the line carries, the log, its figures and the open ask go on by the logger's calls
+// alone, so that demand 3 says what stands in every cell.
 ghost use mathlib.Core.Path.{_≡_};
 ghost use Rattle.refusal.specs.Outcome.{outcome};
+ghost use Rattle.day_figures.specs.Both.{both};
+ghost use Rattle.logger.specs.Run.{state};
 ghost use Rattle.polling.specs.Fate.{settled};
-ghost use Rattle.polling.specs.Reached.{standing, Reached, Polled};
+ghost use Rattle.polling.specs.Reached.{Reached, Polled};
 use crate::part::front;
 use crate::say;
 use crate::wire;
@@ -59,16 +61,17 @@ pub fn poll(
     device: &[u8],
     path: &[u8],
     image: &mut [u8],
+    figures: &mut [u32],
     from: u8,
     end: u8,
 ) -> Course
-    ensures { λ _. ⌜ Polled (now (image .entry)) (now (image .exit)) ⌝ }
+    ensures { λ _. ⌜ Polled (both (now (image .entry)) (now (figures .entry))) (both (now (image .exit)) (now (figures .exit))) ⌝ }
 {
     let mut course = nothing(OpenAsk::Closed);
     let mut day = from;
     while day < end {
         let earlier = course;
-        course = one_day(wire, plan, device, path, image, day, earlier);
+        course = one_day(wire, plan, device, path, image, figures, day, earlier);
         if is_over(course) {
             return course;
         }
@@ -84,13 +87,15 @@ fn one_day(
     device: &[u8],
     path: &[u8],
     image: &mut [u8],
+    figures: &mut [u32],
     day: u8,
     earlier: Course,
 ) -> Course
-    ensures { λ r. ⌜ Reached (standing (now (image .entry)) (earlier .held)) (standing (now (image .exit)) (r .held)) ⌝ }
+    ensures { λ r. ⌜ Reached (state (both (now (image .entry)) (now (figures .entry))) (earlier .held))
+        (state (both (now (image .exit)) (now (figures .exit))) (r .held)) ⌝ }
 {
     let held = earlier.held;
-    let after = asks(wire, plan, device, path, image, day, held);
+    let after = asks(wire, plan, device, path, image, figures, day, held);
     let left = after.held;
     let course = kept(wire, path, image, after);
     let tally = course.tally;
@@ -161,10 +166,12 @@ fn asks(
     device: &[u8],
     path: &[u8],
     image: &mut [u8],
+    figures: &mut [u32],
     day: u8,
     held: OpenAsk,
 ) -> Course
-    ensures { λ r. ⌜ Reached (standing (now (image .entry)) held) (standing (now (image .exit)) (r .held)) ⌝ }
+    ensures { λ r. ⌜ Reached (state (both (now (image .entry)) (now (figures .entry))) held)
+        (state (both (now (image .exit)) (now (figures .exit))) (r .held)) ⌝ }
 {
     let wanted = plan.wanted;
     let mut course = nothing(held);
@@ -174,7 +181,7 @@ fn asks(
             return course;
         };
         let earlier = course;
-        course = one_slot(wire, plan, device, path, image, day, next, earlier);
+        course = one_slot(wire, plan, device, path, image, figures, day, next, earlier);
         if is_over(course) {
             return course;
         }
@@ -190,16 +197,18 @@ fn one_slot(
     device: &[u8],
     path: &[u8],
     image: &mut [u8],
+    figures: &mut [u32],
     day: u8,
     slot: u8,
     earlier: Course,
 ) -> Course
-    ensures { λ r. ⌜ Reached (standing (now (image .entry)) (earlier .held)) (standing (now (image .exit)) (r .held)) ⌝ }
+    ensures { λ r. ⌜ Reached (state (both (now (image .entry)) (now (figures .entry))) (earlier .held))
+        (state (both (now (image .exit)) (now (figures .exit))) (r .held)) ⌝ }
 {
     let h = plan.header;
     let standing = polling::standing_of(h, day, slot, plan.now);
     match standing {
-        Standing::Due => one_ask(wire, device, path, image, day, slot, earlier),
+        Standing::Due => one_ask(wire, device, path, image, figures, day, slot, earlier),
         Standing::NotOver => passed_over(earlier, standing),
         Standing::TooOld => passed_over(earlier, standing),
     }
@@ -210,11 +219,13 @@ fn one_ask(
     device: &[u8],
     path: &[u8],
     image: &mut [u8],
+    figures: &mut [u32],
     day: u8,
     slot: u8,
     earlier: Course,
 ) -> Course
-    ensures { λ r. ⌜ Reached (standing (now (image .entry)) (earlier .held)) (standing (now (image .exit)) (r .held)) ⌝ }
+    ensures { λ r. ⌜ Reached (state (both (now (image .entry)) (now (figures .entry))) (earlier .held))
+        (state (both (now (image .exit)) (now (figures .exit))) (r .held)) ⌝ }
 {
     let tally = earlier.tally;
     let passed = earlier.passed;
@@ -225,7 +236,7 @@ fn one_ask(
     let answer = asked.answer;
     let held = asked.held;
     match answer {
-        AskAnswer::Done => exchanged(wire, device, path, image, &frame, held, earlier),
+        AskAnswer::Done => exchanged(wire, device, path, image, figures, &frame, held, earlier),
         _ => {
             say::new_line(wire.terminal);
             say::refused(path, answer.number());
@@ -241,15 +252,20 @@ fn exchanged(
     device: &[u8],
     path: &[u8],
     image: &mut [u8],
+    figures: &mut [u32],
     frame: &[u8],
     held: OpenAsk,
     earlier: Course,
 ) -> Course
-    ensures { λ r. ⌜ Reached (standing (now (image .entry)) held) (standing (now (image .exit)) (r .held)) ⌝ }
+    ensures { λ r. ⌜ Reached (state (both (now (image .entry)) (now (figures .entry))) held)
+        (state (both (now (image .exit)) (now (figures .exit))) (r .held)) ⌝ }
 {
     let mut reply = [0u8; LONGEST];
     match wire::exchange(wire, device, frame, SLICE_REPLY, &mut reply) {
-        Heard::Bytes(n) => heard(wire, device, path, image, front(&reply, n), held, earlier),
+        Heard::Bytes(n) => {
+            let bytes = front(&reply, n);
+            heard(wire, device, path, image, figures, bytes, held, earlier)
+        }
         Heard::Failed => holding(ends(earlier, End::Stopped), held),
     }
 }
@@ -260,13 +276,15 @@ fn heard(
     device: &[u8],
     path: &[u8],
     image: &mut [u8],
+    figures: &mut [u32],
     reply: &[u8],
     held: OpenAsk,
     earlier: Course,
 ) -> Course
-    ensures { λ r. ⌜ Reached (standing (now (image .entry)) held) (standing (now (image .exit)) (r .held)) ⌝ }
+    ensures { λ r. ⌜ Reached (state (both (now (image .entry)) (now (figures .entry))) held)
+        (state (both (now (image .exit)) (now (figures .exit))) (r .held)) ⌝ }
 {
-    let after = settled(image, held, reply);
+    let after = settled(image, figures, held, reply);
     let fate = after.fate;
     let left = after.held;
     let course = followed(wire, device, path, fate, counted(earlier, fate));
@@ -274,11 +292,13 @@ fn heard(
 }
 
 // What was heard is taken, and the ask lapses where it is still open: one history of the logger's calls, which the equation names.
-fn settled(image: &mut [u8], held: OpenAsk, reply: &[u8]) -> Settled
-    ensures { λ r. ⌜ outcome r (now (image .exit)) ≡ settled (now (image .entry)) held (now (reply .entry)) ⌝ }
-    ensures { λ r. ⌜ Reached (standing (now (image .entry)) held) (standing (now (image .exit)) (r .held)) ⌝ }
+fn settled(image: &mut [u8], figures: &mut [u32], held: OpenAsk, reply: &[u8]) -> Settled
+    ensures { λ r. ⌜ outcome r (both (now (image .exit)) (now (figures .exit)))
+        ≡ settled (both (now (image .entry)) (now (figures .entry))) held (now (reply .entry)) ⌝ }
+    ensures { λ r. ⌜ Reached (state (both (now (image .entry)) (now (figures .entry))) held)
+        (state (both (now (image .exit)) (now (figures .exit))) (r .held)) ⌝ }
 {
-    polling::settle(image, held, reply)
+    polling::settle(image, figures, held, reply)
 }
 
 // What an ask's fate leads to.

@@ -3,6 +3,7 @@ use crate::arguments;
 use crate::arguments::Start;
 use crate::part::front;
 use crate::say;
+use day_figures::FIGURES_MOST;
 use log::FreshAnswer;
 use log::Header;
 use log::IMAGE_MOST;
@@ -21,7 +22,8 @@ pub fn make() -> bool {
 
 fn made_of(path: &[u8], h: Header) -> bool {
     let mut image = [0u8; IMAGE_MOST];
-    let answer = log::fresh_log(h, &mut image);
+    let mut figures = [0u32; FIGURES_MOST];
+    let answer = day_figures::fresh_log(h, &mut image, &mut figures);
     match answer {
         FreshAnswer::Done(length) => put(path, front(&image, length)),
         _ => say::refused(path, answer.number()),

@@ -7,12 +7,12 @@ use libc::STDERR_FILENO;
 use libc::STDOUT_FILENO;
 
 // A heading, and a line for each day from one on and before another. Where a person looks, the days' strips follow on standard error.
-pub fn show(terminal: bool, path: &[u8], image: &[u8], from: u8, end: u8) {
+pub fn show(terminal: bool, path: &[u8], image: &[u8], figures: &[u32], from: u8, end: u8) {
     let mut text = [0u8; LINE_MOST];
     let answer = dayreport::put_heading(&mut text);
     tell(path, answer, &text);
     for day in from..end {
-        one_day(path, image, day);
+        one_day(path, image, figures, day);
     }
     if terminal {
         strips(image, from, end);
@@ -36,9 +36,9 @@ fn strip(image: &[u8], day: u8) {
     }
 }
 
-fn one_day(path: &[u8], image: &[u8], day: u8) {
+fn one_day(path: &[u8], image: &[u8], figures: &[u32], day: u8) {
     let mut text = [0u8; LINE_MOST];
-    let answer = dayreport::put_day(image, day, &mut text);
+    let answer = dayreport::put_day(image, figures, day, &mut text);
     tell(path, answer, &text);
 }
 

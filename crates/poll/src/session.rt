@@ -15,6 +15,7 @@ use crate::part::front;
 use crate::report;
 use crate::say;
 use crate::wire::Wire;
+use day_figures::FIGURES_MOST;
 use file_io::FileAnswer;
 use libc::STDERR_FILENO;
 use log::Header;
@@ -70,11 +71,12 @@ fn loaded(device: &[u8], address: u8, path: &[u8]) -> bool {
 
 fn read(device: &[u8], address: u8, path: &[u8], file: &[u8]) -> bool {
     let mut image = [0u8; FILE_ROOM];
-    let answer = logfile::read_file(file, &mut image);
+    let mut figures = [0u32; FIGURES_MOST];
+    let answer = logfile::read_file(file, &mut image, &mut figures);
     match answer {
         ReadAnswer::Done(length) => {
             if length <= FILE_ROOM {
-                return on_log(device, address, path, &mut image[..length]);
+                return on_log(device, address, path, &mut image[..length], &mut figures);
             }
             false
         }
@@ -82,12 +84,21 @@ fn read(device: &[u8], address: u8, path: &[u8], file: &[u8]) -> bool {
     }
 }
 
-fn on_log(device: &[u8], address: u8, path: &[u8], image: &mut [u8]) -> bool {
+fn on_log(device: &[u8], address: u8, path: &[u8], image: &mut [u8], figures: &mut [u32]) -> bool {
     let options = arguments::said_options();
     let chosen = options.chosen;
     match log::sound(image) {
         Lent::Sound(h) => match span_of(chosen, h.days) {
-            SpanAnswer::Of(span) => on_line(device, address, path, image, h, span, options),
+            SpanAnswer::Of(span) => on_line(
+                device,
+                address,
+                path,
+                image,
+                figures,
+                h,
+                span,
+                options,
+            ),
             SpanAnswer::NotInLog => say::refused(path, refusal::NOT_IN_LOG),
         },
         Lent::Unsound => say::refused(path, refusal::UNSOUND),
@@ -116,6 +127,7 @@ fn on_line(
     address: u8,
     path: &[u8],
     image: &mut [u8],
+    figures: &mut [u32],
     h: Header,
     span: Span,
     options: Options,
@@ -123,7 +135,7 @@ fn on_line(
     let mut lock = io::buffer();
     match locks::take(Kind::Line, device, &mut lock) {
         Taken::Path(n) => {
-            let well = on_device(device, address, path, image, h, span, options);
+            let well = on_device(device, address, path, image, figures, h, span, options);
             locks::left(front(&lock, n));
             well
         }
@@ -137,6 +149,7 @@ fn on_device(
     address: u8,
     path: &[u8],
     image: &mut [u8],
+    figures: &mut [u32],
     h: Header,
     span: Span,
     options: Options,
@@ -155,7 +168,7 @@ fn on_device(
         terminal: libc::isatty(STDERR_FILENO) == 1,
         refuses: true,
     };
-    let well = on_wire(wire, device, path, image, h, span, options);
+    let well = on_wire(wire, device, path, image, figures, h, span, options);
     libc::close(fd);
     well
 }
@@ -165,6 +178,7 @@ fn on_wire(
     device: &[u8],
     path: &[u8],
     image: &mut [u8],
+    figures: &mut [u32],
     h: Header,
     span: Span,
     options: Options,
@@ -178,7 +192,7 @@ fn on_wire(
                 now: now,
                 wanted: wanted,
             };
-            polled(wire, device, path, image, plan, span)
+            polled(wire, device, path, image, figures, plan, span)
         }
         Known::Not => false,
     }
@@ -190,10 +204,20 @@ fn polled(
     device: &[u8],
     path: &[u8],
     image: &mut [u8],
+    figures: &mut [u32],
     plan: Plan,
     span: Span,
 ) -> bool {
-    let course = days::poll(wire, plan, device, path, image, span.from, span.end);
+    let course = days::poll(
+        wire,
+        plan,
+        device,
+        path,
+        image,
+        figures,
+        span.from,
+        span.end,
+    );
     say::new_line(wire.terminal);
     let tally = course.tally;
     let passed = course.passed;
@@ -201,11 +225,11 @@ fn polled(
     let end = course.end;
     match end {
         End::GoesOn => {
-            report::show(wire.terminal, path, image, span.from, span.end);
+            report::show(wire.terminal, path, image, figures, span.from, span.end);
             true
         }
         End::Stopped => {
-            report::show(wire.terminal, path, image, span.from, span.end);
+            report::show(wire.terminal, path, image, figures, span.from, span.end);
             false
         }
         End::NotSaved => false,

@@ -7,8 +7,9 @@ use mathlib.Core.List.{List, [], _∷_}
 use lib.ListN.{length}
 use Rattle.refusal.specs.Outcome.{Outcome, outcome}
 use Rattle.polling.specs.declared.fate.Settled.{Settled}
+use Rattle.day_figures.specs.Both.{Both, both}
 use Rattle.logger.specs.Book.{Call, lapse, reply, runOf}
-use Rattle.logger.specs.Run.{State, step, run}
+use Rattle.logger.specs.Run.{State, state, step, run}
 use Rattle.logger.specs.declared.take.Taken.{Taken}
 use Rattle.logger.specs.declared.held.OpenAsk.{OpenAsk}
 use Rattle.logger.specs.Take as Take
@@ -20,31 +21,32 @@ use Rattle.polling.specs.declared.fate.Fate.the-variants as fate
 
 -- ---- the two cases
 
-pub heard-nothing : (s : List ℕ) (held : OpenAsk) (y : List ℕ) → length y ≡ 0
-    → heard s held y ≡ outcome (record { fate = fate.Silent; held = held }) s
+pub heard-nothing : (b : Both) (held : OpenAsk) (y : List ℕ) → length y ≡ 0
+    → heard b held y ≡ outcome (record { fate = fate.Silent; held = held }) b
 unfolding heard
-heard-nothing s held [] e = refl
-heard-nothing s held (b ∷ y) e = absurd (omega arith)
+heard-nothing b held [] e = refl
+heard-nothing b held (x ∷ y) e = absurd (omega arith)
 
-pub heard-some : (s : List ℕ) (held : OpenAsk) (y : List ℕ) (r : Taken) (l : List ℕ) → (length y ≡ 0 → ⊥)
-    → outcome r l ≡ Take.taken s held y
-    → outcome (record { fate = fateOf (r .answer); held = r .held }) l ≡ heard s held y
+pub heard-some : (b : Both) (held : OpenAsk) (y : List ℕ) (r : Taken) (l : Both) → (length y ≡ 0 → ⊥)
+    → outcome r l ≡ Take.taken b held y
+    → outcome (record { fate = fateOf (r .answer); held = r .held }) l ≡ heard b held y
 unfolding heard
-heard-some s held [] r l e p = absurd (e refl)
-heard-some s held (b ∷ y) r l e p =
-    ap (λ (o : Outcome Taken (List ℕ)). outcome (record { fate = fateOf (o .result .answer); held = o .result .held }) (o .left)) p
+heard-some b held [] r l e p = absurd (e refl)
+heard-some b held (x ∷ y) r l e p =
+    ap (λ (o : Outcome Taken Both). outcome (record { fate = fateOf (o .result .answer); held = o .result .held }) (o .left)) p
 
 -- what was heard, and then the lapse
-pub settled-by : (s : List ℕ) (held : OpenAsk) (y : List ℕ) (x : Settled) (t : List ℕ) (l : Lapsed) (u : List ℕ) (f : Fate)
-    → outcome x t ≡ heard s held y → outcome l u ≡ Lapse.lapsed t (x .held) → f ≡ fateLapsed (l .answer) (x .fate)
-    → outcome (record { fate = f; held = l .held }) u ≡ settled s held y
+pub settled-by : (b : Both) (held : OpenAsk) (y : List ℕ) (x : Settled) (t : Both) (l : Lapsed) (u : List ℕ) (f : Fate)
+    → outcome x t ≡ heard b held y → outcome l u ≡ Lapse.lapsed (t .log) (x .held) → f ≡ fateLapsed (l .answer) (x .fate)
+    → outcome (record { fate = f; held = l .held }) (both u (t .figures)) ≡ settled b held y
 unfolding settled
-settled-by s held y x t l u f p q e =
-    ap (λ (g : Fate). outcome (record { fate = g; held = l .held }) u) e
-    ∙ ap (λ (o : Outcome Lapsed (List ℕ)). outcome (record { fate = fateLapsed (o .result .answer) (x .fate); held = o .result .held }) (o .left)) q
-    ∙ ap (λ (o : Outcome Settled (List ℕ)).
-    let l = Lapse.lapsed (o .left) (o .result .held) in
-    outcome (record { fate = fateLapsed (l .result .answer) (o .result .fate); held = l .result .held }) (l .left)) p
+settled-by b held y x t l u f p q e =
+    ap (λ (g : Fate). outcome (record { fate = g; held = l .held }) (both u (t .figures))) e
+    ∙ ap (λ (o : Outcome Lapsed (List ℕ)).
+    outcome (record { fate = fateLapsed (o .result .answer) (x .fate); held = o .result .held }) (both (o .left) (t .figures))) q
+    ∙ ap (λ (o : Outcome Settled Both).
+    let l = Lapse.lapsed (o .left .log) (o .result .held) in
+    outcome (record { fate = fateLapsed (l .result .answer) (o .result .fate); held = l .result .held }) (both (l .left) (o .left .figures))) p
 
 -- ---- the calls
 
@@ -54,10 +56,10 @@ settleCalls [] = lapse ∷ []
 settleCalls (b ∷ y) = reply (b ∷ y) ∷ lapse ∷ []
 
 -- the state that an outcome leaves
-abbrev pub stateAfter : Outcome Settled (List ℕ) → State
-stateAfter o = record { log = o .left; held = o .result .held }
+abbrev pub stateAfter : Outcome Settled Both → State
+stateAfter o = state (o .left) (o .result .held)
 
-pub settled-run : (s : List ℕ) (held : OpenAsk) (y : List ℕ) → stateAfter (settled s held y) ≡ run (record { log = s; held = held }) (settleCalls y) .left
+pub settled-run : (b : Both) (held : OpenAsk) (y : List ℕ) → stateAfter (settled b held y) ≡ run (state b held) (settleCalls y) .left
 unfolding settled heard settleCalls runOf step
-settled-run s held [] = refl
-settled-run s held (b ∷ y) = refl
+settled-run b held [] = refl
+settled-run b held (x ∷ y) = refl

@@ -5,15 +5,16 @@ use mathlib.Core.List.{List, [], _∷_, _++_}
 use Rattle.refusal.specs.Outcome.{Outcome, outcome}
 use Rattle.words.specs.Number.{Bytes}
 use Rattle.log.specs.View.{viewOf}
+use Rattle.day_figures.specs.Both.{Both}
 use Rattle.logger.specs.Book.{Call, ask, AllBytes, runOf}
-use Rattle.logger.specs.Run.{State, step, run}
+use Rattle.logger.specs.Run.{State, state, step, run}
 use Rattle.logger.specs.declared.ask.Asked.{Asked}
 use Rattle.logger.specs.declared.held.OpenAsk.{OpenAsk}
 use Rattle.logger.specs.Ask as Ask
 use Rattle.polling.specs.Fate.{settled}
 use Rattle.polling.proofs.FateLaws.{settleCalls, settled-run}
 use Rattle.polling.specs.declared.fate.Settled.{Settled}
-use Rattle.polling.specs.Reached.{standing, Reached}
+use Rattle.polling.specs.Reached.{Reached}
 
 -- ---- laws
 
@@ -37,12 +38,12 @@ onward {s} {t} {u} x y = record {
   leads = run-both s (x .calls) (y .calls) ∙ ap (λ (w : State). run w (y .calls) .left) (x .leads) ∙ y .leads;
 }
 
--- an ask leaves the log, and the ask that it answers
-pub asks : (s : List ℕ) (o : OpenAsk) (address day slot : ℕ) (out after : List ℕ) (r : Asked) → outcome r after ≡ Ask.asked (viewOf s) o address day slot out
-    → Reached (standing s o) (standing s (r .held))
+-- an ask leaves the log and its figures, and the ask that it answers
+pub asks : (b : Both) (o : OpenAsk) (address day slot : ℕ) (out after : List ℕ) (r : Asked) → outcome r after ≡ Ask.asked (viewOf (b .log)) o address day slot out
+    → Reached (state b o) (state b (r .held))
 unfolding runOf step
-asks s o address day slot out after r e =
-    record { calls = ask address day slot out ∷ []; bytes = (tt, tt); leads = ap (λ (x : Outcome Asked (List ℕ)). standing s (x .result .held)) (sym e) }
+asks b o address day slot out after r e =
+    record { calls = ask address day slot out ∷ []; bytes = (tt, tt); leads = ap (λ (x : Outcome Asked (List ℕ)). state b (x .result .held)) (sym e) }
 
 settle-bytes : (y : List ℕ) → Bytes y → AllBytes (settleCalls y)
 unfolding settleCalls
@@ -50,10 +51,10 @@ settle-bytes [] k = (tt, tt)
 settle-bytes (b ∷ y) k = (k, (tt, tt))
 
 -- what was heard is taken, and the ask lapses
-pub settles : (s : List ℕ) (o : OpenAsk) (y after : List ℕ) (r : Settled) → Bytes y → outcome r after ≡ settled s o y
-    → Reached (standing s o) (standing after (r .held))
-settles s o y after r k e = record {
+pub settles : (b : Both) (o : OpenAsk) (y : List ℕ) (after : Both) (r : Settled) → Bytes y → outcome r after ≡ settled b o y
+    → Reached (state b o) (state after (r .held))
+settles b o y after r k e = record {
   calls = settleCalls y;
   bytes = settle-bytes y k;
-  leads = sym (settled-run s o y) ∙ ap (λ (x : Outcome Settled (List ℕ)). standing (x .left) (x .result .held)) (sym e);
+  leads = sym (settled-run b o y) ∙ ap (λ (x : Outcome Settled Both). state (x .left) (x .result .held)) (sym e);
 }

@@ -3,12 +3,13 @@
 use Prim.Native.Nat.{ℕ}
 use mathlib.Core.List.{List, [], _∷_}
 use Rattle.refusal.specs.Outcome.{Outcome, outcome}
+use Rattle.day_figures.specs.Both.{Both, both}
 use Rattle.logger.specs.Lapse as Lapse
 use Rattle.logger.specs.declared.no_reply.LapseAnswer.{LapseAnswer}
 use Rattle.logger.specs.declared.no_reply.LapseAnswer.the-variants as lapse
 use Rattle.logger.specs.Take as Take
 use Rattle.logger.specs.declared.take.TakeAnswer.{TakeAnswer}
-use Rattle.logger.specs.declared.take.TakeAnswer.the-variants.{Done, NoAskOpen, NotInLog, Malformed, MeterRefused, OtherCounts, Unsound}
+use Rattle.logger.specs.declared.take.TakeAnswer.the-variants.{Done, TooShort, NoAskOpen, NotInLog, Malformed, MeterRefused, OtherCounts, Unsound}
 use Rattle.logger.specs.declared.held.OpenAsk.{OpenAsk}
 use Rattle.polling.specs.declared.fate.Fate.{Fate}
 use Rattle.polling.specs.declared.fate.Fate.the-variants as fate
@@ -19,16 +20,17 @@ abbrev pub fateOf : TakeAnswer → Fate
 fateOf Done = fate.Taken
 fateOf (Malformed fault) = fate.Malformed fault
 fateOf (MeterRefused result) = fate.Refused
+fateOf TooShort = fate.Stopped (Take.numberOf TooShort)
 fateOf NoAskOpen = fate.Stopped (Take.numberOf NoAskOpen)
 fateOf NotInLog = fate.Stopped (Take.numberOf NotInLog)
 fateOf OtherCounts = fate.Stopped (Take.numberOf OtherCounts)
 fateOf Unsound = fate.Stopped (Take.numberOf Unsound)
 
 -- what was heard for the open ask is taken as the logger takes a reply; nothing heard is silence
-unfoldable pub heard : List ℕ → OpenAsk → List ℕ → Outcome Settled (List ℕ)
-heard s held [] = outcome (record { fate = fate.Silent; held = held }) s
-heard s held (b ∷ y) =
-    let o = Take.taken s held (b ∷ y) in
+unfoldable pub heard : Both → OpenAsk → List ℕ → Outcome Settled Both
+heard b held [] = outcome (record { fate = fate.Silent; held = held }) b
+heard b held (x ∷ y) =
+    let o = Take.taken b held (x ∷ y) in
     outcome (record { fate = fateOf (o .result .answer); held = o .result .held }) (o .left)
 
 -- a lapse that is refused stops the poll
@@ -38,9 +40,9 @@ fateLapsed lapse.NotInLog f = fate.Stopped (Lapse.numberOf lapse.NotInLog)
 fateLapsed lapse.Unsound f = fate.Stopped (Lapse.numberOf lapse.Unsound)
 
 -- and then the ask lapses, where the reply has not closed it
-unfoldable pub settled : List ℕ → OpenAsk → List ℕ → Outcome Settled (List ℕ)
+unfoldable pub settled : Both → OpenAsk → List ℕ → Outcome Settled Both
 unfolding heard
-settled s held y =
-    let o = heard s held y in
-    let l = Lapse.lapsed (o .left) (o .result .held) in
-    outcome (record { fate = fateLapsed (l .result .answer) (o .result .fate); held = l .result .held }) (l .left)
+settled b held y =
+    let o = heard b held y in
+    let l = Lapse.lapsed (o .left .log) (o .result .held) in
+    outcome (record { fate = fateLapsed (l .result .answer) (o .result .fate); held = l .result .held }) (both (l .left) (o .left .figures))

@@ -1,6 +1,7 @@
 // What becomes of an ask.
 ghost use mathlib.Core.Path.{_≡_};
 ghost use Rattle.refusal.specs.Outcome.{outcome};
+ghost use Rattle.day_figures.specs.Both.{both};
 ghost use Rattle.polling.specs.Fate.{heard, settled, fateOf, fateLapsed};
 use logger::LapseAnswer;
 use logger::OpenAsk;
@@ -27,10 +28,11 @@ pub struct Settled {
 
 // Takes what was heard for the open ask into the log, and lets the ask lapse, which closes it where the reply did not: with nothing
 // heard, and after a reply that is not well formed. The interval then stays a gap, and the log counts the lapse.
-pub fn settle(log: &mut [u8], held: OpenAsk, reply: &[u8]) -> Settled
-    ensures { λ r. ⌜ outcome r (now (log .exit)) ≡ settled (now (log .entry)) held (now (reply .entry)) ⌝ }
+pub fn settle(log: &mut [u8], figures: &mut [u32], held: OpenAsk, reply: &[u8]) -> Settled
+    ensures { λ r. ⌜ outcome r (both (now (log .exit)) (now (figures .exit)))
+        ≡ settled (both (now (log .entry)) (now (figures .entry))) held (now (reply .entry)) ⌝ }
 {
-    let heard = heard(log, held, reply);
+    let heard = heard(log, figures, held, reply);
     let fate = heard.fate;
     let left = heard.held;
     let lapsed = logger::lapse(log, left);
@@ -53,8 +55,9 @@ fn fate_lapsed(answer: LapseAnswer, fate: Fate) -> Fate
     }
 }
 
-fn heard(log: &mut [u8], held: OpenAsk, reply: &[u8]) -> Settled
-    ensures { λ r. ⌜ outcome r (now (log .exit)) ≡ heard (now (log .entry)) held (now (reply .entry)) ⌝ }
+fn heard(log: &mut [u8], figures: &mut [u32], held: OpenAsk, reply: &[u8]) -> Settled
+    ensures { λ r. ⌜ outcome r (both (now (log .exit)) (now (figures .exit)))
+        ≡ heard (both (now (log .entry)) (now (figures .entry))) held (now (reply .entry)) ⌝ }
 {
     if reply.len() == 0 {
         return Settled {
@@ -62,7 +65,7 @@ fn heard(log: &mut [u8], held: OpenAsk, reply: &[u8]) -> Settled
             held: held,
         };
     }
-    let taken = logger::take_reply(log, held, reply);
+    let taken = logger::take_reply(log, figures, held, reply);
     let answer = taken.answer;
     let left = taken.held;
     Settled {
@@ -78,6 +81,7 @@ fn fate_of(answer: TakeAnswer) -> Fate
         TakeAnswer::Done => Fate::Taken,
         TakeAnswer::Malformed(fault) => Fate::Malformed(fault),
         TakeAnswer::MeterRefused(_) => Fate::Refused,
+        TakeAnswer::TooShort => Fate::Stopped(refusal::TOO_SHORT),
         TakeAnswer::NoAskOpen => Fate::Stopped(refusal::NO_ASK_OPEN),
         TakeAnswer::NotInLog => Fate::Stopped(refusal::NOT_IN_LOG),
         TakeAnswer::OtherCounts => Fate::Stopped(refusal::OTHER_COUNTS),

@@ -1,12 +1,12 @@
 -- What follows from the definition of a page: a refusal's line, its length, and its parts written one behind the other; that a file is never
 -- refused for want of room; that past the last line there is none; and that each line has room. Assumes nothing.
-use mathlib.Core.Path.{_≡_, refl, sym, ap, subst, _∙_}
+use mathlib.Core.Path.{_≡_, refl, sym, _∙_}
 use mathlib.Core.Bool.{true, false, _&&_}
 use mathlib.Core.List.{[], _∷_, List, _++_}
-use Prim.Native.Nat.{ℕ, _+_, _-_, _≤_}
+use Prim.Native.Nat.{ℕ, zero, suc, _+_, _-_, _≤_, _<_}
 use native.Mathlib.Omega.{arith}
 use lib.Dec.{leb, eqb}
-use lib.ListN.{length, take, drop, length-append, length-replicate}
+use lib.ListN.{length, replicate, length-append, length-replicate}
 use borrow.Author.Tests.{le-leb, ne-eqb}
 use Rattle.case_laws.proofs.Test.{either}
 use Rattle.refusal.specs.Outcome.{Outcome, outcome, check}
@@ -15,28 +15,29 @@ use Rattle.text.specs.Decimal.{decimal}
 use Rattle.text.proofs.DecimalLaws.{decimal-most-u32}
 use Rattle.words.specs.Number.{Bytes}
 use Rattle.words.specs.Place.{written}
-use Rattle.words.proofs.PlaceLaws.{written-append}
+use Rattle.words.proofs.PlaceLaws.{length-written, written-append}
 use Rattle.frame.specs.Sealing.{crcFits}
-use Rattle.log.specs.Header.{headerSize, daysMost, imageMost, lengthOf, markRight, versionAt, ifRight}
-use Rattle.log.proofs.ByteLaws.{bytes-nil}
+use Rattle.log.specs.Header.{headerSize, daysMost, imageMost, lengthOf, isHeader, markRight, versionAt, ifRight}
 use Rattle.log.proofs.HeaderLaws.{image-most}
-use Rattle.log.proofs.ImageLaws.{bytes-image}
 use Rattle.log.specs.declared.header.Header.{Header}
 use Rattle.log.specs.declared.header.HeaderAnswer.{HeaderAnswer}
 use Rattle.log.specs.declared.header.HeaderAnswer.the-variants.{Right, Wrong}
+use Rattle.day_figures.specs.Rows.{figuresOf, allFigures}
+use Rattle.day_figures.specs.Both.{Both, both, enough}
+use Rattle.day_figures.proofs.RowsLaws.{figuresMost, figures-at-most, Small, small-nil, small-written, small-figures}
 use Rattle.logfile.specs.Row.{rowAt, lapsesIn}
 use Rattle.logfile.specs.File.{isVersion, fileHeader, fileLengthAs, cellsRight}
-use Rattle.logfile.specs.Read.{readNumber, ifRead, markSize, readCells, readFields, readFile}
-use Rattle.logfile.proofs.FileLaws.{file-header-right, image-front, accepted}
+use Rattle.logfile.specs.Read.{readNumber, markSize, readCells, readFields, readFile}
+use Rattle.logfile.proofs.FileLaws.{file-header-right}
+use Rattle.logfile.proofs.RowLaws.{read-is-cell}
 use Rattle.logfile.specs.declared.read.ReadAnswer.{ReadAnswer}
 use Rattle.logfile.specs.declared.read.ReadAnswer.the-variants.{Done, WrongMark, WrongVersion, WrongHeader, WrongLength, WrongCrc, WrongCell, TooShort}
 use Rattle.dayreport.specs.Text.{lineFeed, headingText, lineMost}
 use Rattle.dayreport.proofs.TextLaws.{Never, text-fits}
 use Rattle.log.specs.View.{viewOf}
-use Rattle.log.proofs.ViewLaws.{seen-are-cells}
 use Rattle.dayreport.proofs.DayLaws.{line-past, line-room}
 use Rattle.dayreport.proofs.StripLaws.{stripMost, strip-past, strip-room}
-use Rattle.report_page.specs.Page.{refusedText, refusedLine, reportLine, imageIn, readLine, room, pageLine, stripLine}
+use Rattle.report_page.specs.Page.{refusedText, refusedLine, reportLine, imageIn, readLine, room, figuresRoom, pageLine, stripLine}
 
 pub length-refused : (n : ℕ) → length (refusedText n) ≡ 9 + length (decimal n)
 unfolding refusedText ascii
@@ -49,45 +50,89 @@ written-refused s n =
     sym (written-append (written s 0 (ascii "refused ")) 8 (decimal n) (lineFeed ∷ []))
     ∙ sym (written-append s 0 (ascii "refused ") (decimal n ++ (lineFeed ∷ [])))
 
--- ---- no file is refused for want of room
+-- ---- what a file gives
 
--- the answer is not 1
-abbrev Room : Outcome ReadAnswer (List ℕ) → Type 0
-Room o = readNumber (o .result) ≡ 1 → ⊥
+-- what holds of every refusal but 1, and of what a file with a right header gives by its cells, holds of what it gives
+module _ (P : Outcome ReadAnswer Both → Type 0) (f out figs : List ℕ) (other : (a : ReadAnswer) → 1 < readNumber a → P (outcome a (both out figs)))
+    (cells : (h : Header) → isHeader h ≡ true → P (readCells f h out figs)) where
+  by-fields : P (readFields f out figs)
+  unfolding readFields
+  by-fields = either P (leb headerSize (length f)) (go (fileHeader f) refl) (other WrongHeader (omega arith))
+    where
+      go : (a : HeaderAnswer) → fileHeader f ≡ a
+          → P (ifRight a (outcome WrongHeader (both out figs)) (λ h.
+          check (eqb (length f) (fileLengthAs (versionAt f) h)) (outcome WrongLength (both out figs)) (
+          check (crcFits f) (outcome WrongCrc (both out figs)) (
+          readCells f h out figs))))
+      go Wrong p = other WrongHeader (omega arith)
+      go (Right h) p =
+          either P (eqb (length f) (fileLengthAs (versionAt f) h))
+          (either P (crcFits f) (cells h (file-header-right f h p)) (other WrongCrc (omega arith)))
+          (other WrongLength (omega arith))
 
-cells-room : (f : List ℕ) (h : Header) (out : List ℕ) → lengthOf h ≤ length out → Room (readCells f h out)
-unfolding readCells
-cells-room f h out l =
-    either Room (cellsRight h (rowAt (versionAt f) f) (lapsesIn (versionAt f) f)) (rw (le-leb _ _ l) (λ e. omega (arith, e))) (λ e. omega (arith, e))
-
-fields-room : (f out : List ℕ) → imageMost ≤ length out → Room (readFields f out)
-unfolding readFields
-fields-room f out l = either Room (leb headerSize (length f)) (go (fileHeader f) refl) (λ e. omega (arith, e))
-  where
-    go : (a : HeaderAnswer) → fileHeader f ≡ a
-        → Room (ifRight a (outcome WrongHeader out) (λ h.
-        check (eqb (length f) (fileLengthAs (versionAt f) h)) (outcome WrongLength out) (
-        check (crcFits f) (outcome WrongCrc out) (
-        readCells f h out))))
-    go Wrong p = λ e. omega (arith, e)
-    go (Right h) p =
-        let short : lengthOf h ≤ length out = omega (arith, image-most h (file-header-right f h p)) in
-        either Room (eqb (length f) (fileLengthAs (versionAt f) h))
-        (either Room (crcFits f) (cells-room f h out short) (λ e. omega (arith, e)))
-        (λ e. omega (arith, e))
+  by-file : P (readFile f out figs)
+  unfolding readFile
+  by-file =
+      either P (leb markSize (length f) && markRight f)
+      (either P (isVersion (versionAt f)) by-fields (other WrongVersion (omega arith)))
+      (other WrongMark (omega arith))
 
 room-size : length room ≡ imageMost
 unfolding room
 room-size = length-replicate {A = ℕ} imageMost 0
 
+figures-size : length figuresRoom ≡ figuresMost
+unfolding figuresRoom
+figures-size = length-replicate {A = ℕ} figuresMost 0
+
+-- ---- no file is refused for want of room
+
+-- the answer is not 1
+abbrev Room : Outcome ReadAnswer Both → Type 0
+Room o = readNumber (o .result) ≡ 1 → ⊥
+
+cells-room : (f : List ℕ) (h : Header) (out figs : List ℕ) → lengthOf h ≤ length out → figuresOf h ≤ length figs → Room (readCells f h out figs)
+unfolding readCells
+cells-room f h out figs l m =
+    either Room (cellsRight h (rowAt (versionAt f) f) (lapsesIn (versionAt f) f)) (rw (le-leb _ _ l, le-leb _ _ m) (λ e. omega (arith, e))) (λ e. omega (arith, e))
+
 -- `refused 1` is never printed
-pub never-short : (f : List ℕ) → readNumber (readFile f room .result) ≡ 1 → ⊥
-unfolding readFile
+pub never-short : (f : List ℕ) → readNumber (readFile f room figuresRoom .result) ≡ 1 → ⊥
 never-short f =
-    let l : imageMost ≤ length room = omega (arith, room-size) in
-    either Room (leb markSize (length f) && markRight f)
-    (either Room (isVersion (versionAt f)) (fields-room f room l) (λ e. omega (arith, e)))
-    (λ e. omega (arith, e))
+    by-file Room f room figuresRoom (λ a l e. omega (arith, l, e)) (λ h e.
+    cells-room f h room figuresRoom (omega (arith, image-most h e, room-size)) (omega (arith, figures-at-most h e, figures-size)))
+
+-- ---- as many figures as the longest log has, each of 32 bits
+
+abbrev Kept : Outcome ReadAnswer Both → Type 0
+Kept o = (length (o .left .figures) ≡ figuresMost) × Small (o .left .figures)
+
+small-zeros : (n : ℕ) → Small (replicate n 0)
+small-zeros zero i = small-nil i
+small-zeros (suc n) zero = omega arith
+small-zeros (suc n) (suc i) = small-zeros n i
+
+small-room : Small figuresRoom
+unfolding figuresRoom
+small-room = small-zeros figuresMost
+
+module _ (f : List ℕ) (bytes : Bytes f) where
+  cells-kept : (h : Header) (out figs : List ℕ) → length figs ≡ figuresMost → Small figs → Kept (readCells f h out figs)
+  unfolding readCells
+  cells-kept h out figs n small =
+      let cell = rowAt (versionAt f) f in
+      let all = allFigures h cell in
+      either Kept (cellsRight h cell (lapsesIn (versionAt f) f))
+      (either Kept (leb (lengthOf h) (length out))
+      (either Kept (enough h figs)
+      (length-written figs 0 all ∙ n, small-written figs 0 all small (small-figures h cell (read-is-cell (versionAt f) f bytes)))
+      (n, small))
+      (n, small))
+      (n, small)
+
+  figures-kept : Kept (readFile f room figuresRoom)
+  figures-kept =
+      by-file Kept f room figuresRoom (λ a l. (figures-size, small-room)) (λ h e. cells-kept h room figuresRoom figures-size small-room)
 
 -- ---- past the last line there is none
 
@@ -99,15 +144,15 @@ linesMost = daysMost + 1
 pub page-past : (f : List ℕ) (i : ℕ) (out : List ℕ) → linesMost ≤ i → Never 0 (pageLine f i out)
 unfolding pageLine readLine reportLine refusedLine
 page-past f i out l =
-    let o = readFile f room in
+    let o = readFile f room figuresRoom in
     let behind : eqb i 0 ≡ false = ne-eqb i 0 (λ e. omega (arith, e)) in
     either (Never 0) (eqb (readNumber (o .result)) 0)
-    (rw behind (line-past (imageIn (o .result) (o .left)) (i - 1) out (omega arith))) (rw behind (λ e. omega (arith, e)))
+    (rw behind (line-past (imageIn (o .result) (o .left .log)) (o .left .figures) (i - 1) out (omega arith))) (rw behind (λ e. omega (arith, e)))
 
 -- 62 strips are all that there are
 pub strips-past : (f : List ℕ) (d : ℕ) (out : List ℕ) → daysMost ≤ d → Never 0 (stripLine f d out)
 unfolding stripLine
-strips-past f d out l = strip-past (imageIn (readFile f room .result) (readFile f room .left)) d out l
+strips-past f d out l = let o = readFile f room figuresRoom in strip-past (imageIn (o .result) (o .left .log)) d out l
 
 -- ---- the longest line's room is enough for each, and so is the longest strip's
 
@@ -125,38 +170,21 @@ number-most WrongCrc = omega arith
 number-most WrongCell = omega arith
 number-most TooShort = omega arith
 
--- the image that a file gave is bytes
-image-bytes : (f : List ℕ) → Bytes f → Bytes (imageIn (readFile f room .result) (readFile f room .left))
-unfolding imageIn
-image-bytes f bytes = go (readFile f room .result) refl
-  where
-    go : (a : ReadAnswer) → readFile f room .result ≡ a → Bytes (take (ifRead a 0 (λ n. n)) (readFile f room .left))
-    go (Done n) p =
-        let y = readFile f room .left in
-        let a = accepted f bytes room y n (ap (λ (r : ReadAnswer). outcome r y) p) in
-        subst Bytes (sym (image-front f room y n a)) (bytes-image (a .lapses) (a .header) (a .cells) (a .whole .fit) (a .whole .right))
-    go WrongMark p = bytes-nil
-    go WrongVersion p = bytes-nil
-    go WrongHeader p = bytes-nil
-    go WrongLength p = bytes-nil
-    go WrongCrc p = bytes-nil
-    go WrongCell p = bytes-nil
-    go TooShort p = bytes-nil
-
 pub page-room : (f : List ℕ) (i : ℕ) (out : List ℕ) → Bytes f → lineMost ≤ length out → Never 1 (pageLine f i out)
 unfolding pageLine readLine reportLine refusedLine
 page-room f i out bytes l =
-    let o = readFile f room in
+    let o = readFile f room figuresRoom in
     let n = readNumber (o .result) in
     let digits = decimal-most-u32 n (omega (arith, number-most (o .result))) in
+    let kept = figures-kept f bytes in
     either (Never 1) (eqb n 0)
     (either (Never 1) (eqb i 0)
     (text-fits headingText out (omega (arith, length-heading)))
-    (line-room (viewOf (imageIn (o .result) (o .left))) (seen-are-cells _ (image-bytes f bytes)) (i - 1) out l))
+    (line-room (imageIn (o .result) (o .left .log)) (o .left .figures) (i - 1) out (omega (arith, kept .0)) (kept .1) l))
     (either (Never 1) (eqb i 0)
     (text-fits (refusedText n) out (omega (arith, length-refused n, digits)))
     (λ e. omega (arith, e)))
 
 pub strips-room : (f : List ℕ) (d : ℕ) (out : List ℕ) → stripMost ≤ length out → Never 1 (stripLine f d out)
 unfolding stripLine
-strips-room f d out l = strip-room (viewOf (imageIn (readFile f room .result) (readFile f room .left))) d out l
+strips-room f d out l = let o = readFile f room figuresRoom in strip-room (viewOf (imageIn (o .result) (o .left .log))) d out l

@@ -2,6 +2,7 @@
 ghost use mathlib.Core.Path.{_≡_};
 ghost use lib.ListN.{take};
 ghost use Rattle.refusal.specs.Outcome.{outcome};
+ghost use Rattle.day_figures.specs.Both.{both};
 ghost use Rattle.report_page.specs.Page.{refusedLine, reportLine, readLine, pageLine, stripLine};
 use dayreport::TextAnswer;
 use logfile::ReadAnswer;
@@ -17,8 +18,9 @@ pub fn put_page_line(file: &[u8], i: u8, out: &mut [u8]) -> TextAnswer
     ensures { λ r. ⌜ outcome r (now (out .exit)) ≡ pageLine (now (file .entry)) i (now (out .entry)) ⌝ }
 {
     let mut room = [0u8; log::IMAGE_MOST];
-    let answer = logfile::read_file(file, &mut room);
-    put_read_line(answer, &room, i, out)
+    let mut figures = [0u32; day_figures::FIGURES_MOST];
+    let answer = logfile::read_file(file, &mut room, &mut figures);
+    put_read_line(answer, &room, &figures, i, out)
 }
 
 // The strip of a day of a file's log, likewise; 28 for a file that is refused.
@@ -26,29 +28,36 @@ pub fn put_strip_line(file: &[u8], day: u8, out: &mut [u8]) -> TextAnswer
     ensures { λ r. ⌜ outcome r (now (out .exit)) ≡ stripLine (now (file .entry)) day (now (out .entry)) ⌝ }
 {
     let mut room = [0u8; log::IMAGE_MOST];
-    let answer = logfile::read_file(file, &mut room);
+    let mut figures = [0u32; day_figures::FIGURES_MOST];
+    let answer = logfile::read_file(file, &mut room, &mut figures);
     dayreport::put_strip(front(&room, answer.length_or(0)), day, out)
 }
 
-// The image that was read stands at the front of the room that it was given.
-fn put_read_line(answer: ReadAnswer, room: &[u8], i: u8, out: &mut [u8]) -> TextAnswer
-    ensures { λ r. ⌜ outcome r (now (out .exit)) ≡ readLine answer (now (room .entry)) i (now (out .entry)) ⌝ }
+// The image that was read stands at the front of the room that it was given, and its figures at the front of theirs.
+fn put_read_line(
+    answer: ReadAnswer,
+    room: &[u8],
+    figures: &[u32],
+    i: u8,
+    out: &mut [u8],
+) -> TextAnswer
+    ensures { λ r. ⌜ outcome r (now (out .exit)) ≡ readLine answer (both (now (room .entry)) (now (figures .entry))) i (now (out .entry)) ⌝ }
 {
     let number = answer.number();
     if number == refusal::DONE {
-        return put_report_line(front(room, answer.length_or(0)), i, out);
+        return put_report_line(front(room, answer.length_or(0)), figures, i, out);
     }
     put_refused_line(number, i, out)
 }
 
 // The heading, then the days.
-fn put_report_line(image: &[u8], i: u8, out: &mut [u8]) -> TextAnswer
-    ensures { λ r. ⌜ outcome r (now (out .exit)) ≡ reportLine (now (image .entry)) i (now (out .entry)) ⌝ }
+fn put_report_line(image: &[u8], figures: &[u32], i: u8, out: &mut [u8]) -> TextAnswer
+    ensures { λ r. ⌜ outcome r (now (out .exit)) ≡ reportLine (now (image .entry)) (now (figures .entry)) i (now (out .entry)) ⌝ }
 {
     if i == 0 {
         return dayreport::put_heading(out);
     }
-    dayreport::put_day(image, i - 1, out)
+    dayreport::put_day(image, figures, i - 1, out)
 }
 
 fn put_refused_line(number: u8, i: u8, out: &mut [u8]) -> TextAnswer

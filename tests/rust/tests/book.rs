@@ -1,6 +1,6 @@
 //! Demand 3 of the model: histories of asks, lapses and replies of any bytes, given to the log's calls and to the plain book. Every
-//! answer, the ask left open and the log's bytes are those of the book, and no call alters a byte outside the cell whose ask was open
-//! before it. Half of the logs begin about a season day, and those read from a file have cells with some 250 lapses.
+//! answer, the ask left open, the log's bytes and its days' figures are those of the book, the figures are also those of a walk over the
+//! cells, and no call alters a byte outside the cell whose ask was open before it, or a figure of another day. Half of the logs begin about a season day, and those read from a file have cells with some 250 lapses.
 
 #[path = "compare/damage.rs"]
 #[allow(dead_code)]
@@ -13,7 +13,7 @@ use damage::{damaged, damaged_and_sealed};
 use metlazuel_check::model::book::Book;
 use metlazuel_check::model::calendar::{date_of, last_sunday};
 use metlazuel_check::model::crc::sealed;
-use metlazuel_check::model::log::{self, Ask, Cell, Header};
+use metlazuel_check::model::log::{self, Ask, Cell, Header, Log, ROW};
 use metlazuel_check::model::reader::{READ, READ_SHOWN};
 use metlazuel_check::model::refusal::Refusal;
 use metlazuel_check::model::{count_bytes, slots};
@@ -25,6 +25,8 @@ const CALLS: usize = 60;
 const HEADER_BYTES: usize = 14;
 const CELL_BYTES: usize = 10;
 const CRC_BYTES: usize = 2;
+/// Numbers behind the figures, which no call may touch.
+const PAST_THE_FIGURES: [u32; 3] = [0, 7, u32::MAX];
 const SLICE: u8 = 36;
 const SEED: u64 = 2;
 
@@ -46,7 +48,8 @@ fn every_history_is_the_books() {
         let random = &mut Random::of(SEED, case);
         let fresh = log::fresh(any_header(random)).expect("a header in its ranges");
         let first = history(random, fresh, &mut seen);
-        let file = log::write_file(&first).expect("a sound log");
+        let file = log::write_file(&first.image).expect("a sound log");
+        assert_eq!(log::read_file(&file), Ok(first));
         let file = with_many_lapses(random, file);
         history(random, log::read_file(&file).expect("a log's file"), &mut seen);
     }
@@ -73,31 +76,37 @@ fn cell_of(header: &Header, day: u8, slot: u8) -> std::ops::Range<usize> {
     at..at + CELL_BYTES
 }
 
-/// A history from a log with no ask open; gives the log after it.
-fn history(random: &mut Random, mut image: Vec<u8>, seen: &mut Seen) -> Vec<u8> {
-    let header = log::header(&image).expect("a sound log");
-    let front = image[..HEADER_BYTES].to_vec();
-    let mut book = Book::begin(header, |day, slot| cell_and_lapses(&image, day, slot));
-    let mut open = None;
+/// A history from a log with no ask open; gives the log after it. Beside the log more figures are lent than it needs.
+fn history(random: &mut Random, start: Log, seen: &mut Seen) -> Log {
+    let header = log::header(&start.image).expect("a sound log");
+    let mut book = Book::begin(header, |day, slot| cell_and_lapses(&start.image, day, slot));
+    let (mut log, mut open) = (start.clone(), None);
+    assert_eq!(log.figures, book.figures());
+    log.figures.extend(PAST_THE_FIGURES);
     for _ in 0..CALLS {
-        let (before, asked) = (image.clone(), open);
-        let (ours, books) = call(random, &mut image, &mut open, &mut book, seen);
+        let (before, asked) = (log.clone(), open);
+        let (ours, books) = call(random, &mut log, &mut open, &mut book, seen);
         assert_eq!(ours, books);
         assert_eq!(open, book.open());
-        assert!(alone(&header, asked, before, &image), "after {asked:?}");
+        assert!(alone(&header, asked, before, &log), "after {asked:?}");
+        assert_eq!(log.figures, [log::walk_all(&log.image).expect("a sound log"), PAST_THE_FIGURES.to_vec()].concat());
         seen.numbers.insert(ours.map_or_else(Refusal::number, |()| 0));
     }
-    assert_eq!(image, [front, book.cells()].concat());
-    image
+    assert_eq!(log.image, [start.image[..HEADER_BYTES].to_vec(), book.cells()].concat());
+    log.figures.truncate(start.figures.len());
+    assert_eq!(log.figures, book.figures());
+    log
 }
 
-/// Whether all but the cell whose ask was open is as it was.
-fn alone(header: &Header, asked: Option<Ask>, mut before: Vec<u8>, after: &[u8]) -> bool {
+/// Whether all but the cell whose ask was open and its day's figures is as it was.
+fn alone(header: &Header, asked: Option<Ask>, mut before: Log, after: &Log) -> bool {
     if let Some(ask) = asked {
-        let cell = cell_of(header, ask.day, ask.slot);
-        before[cell.clone()].copy_from_slice(&after[cell]);
+        let (cell, day) =
+            (cell_of(header, ask.day, ask.slot), usize::from(ask.day) * ROW..usize::from(ask.day + 1) * ROW);
+        before.image[cell.clone()].copy_from_slice(&after.image[cell]);
+        before.figures[day.clone()].copy_from_slice(&after.figures[day]);
     }
-    before == after
+    before == *after
 }
 
 fn cell_and_lapses(image: &[u8], day: u8, slot: u8) -> (Cell, u8) {
@@ -109,11 +118,12 @@ type Answer = Result<(), Refusal>;
 /// One call of each, and both answers.
 fn call(
     random: &mut Random,
-    image: &mut [u8],
+    log: &mut Log,
     open: &mut Option<Ask>,
     book: &mut Book,
     seen: &mut Seen,
 ) -> (Answer, Answer) {
+    let Log { image, figures } = log;
     match random.below(16) {
         0..=6 => {
             let ask = any_ask(random, image);
@@ -131,7 +141,7 @@ fn call(
         }
         _ => {
             let reply = any_reply(random, *open);
-            (log::take(image, open, &reply), book.reply(&reply))
+            (log::take(image, figures, open, &reply), book.reply(&reply))
         }
     }
 }

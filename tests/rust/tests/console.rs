@@ -322,3 +322,40 @@ fn the_most_lapses() {
     lines.extend([("ask 1 0 0", "0 010324051100536B"), ("lapse", "0"), ("cell 0 0", "0 gap 255")]);
     talk(&lines);
 }
+
+/// After each call the report is that of the cells, on its day and on the other.
+#[test]
+fn figures_kept() {
+    let path = std::env::temp_dir().join(format!("metlazuel-check-figures-{}.gel", std::process::id()));
+    let path = path.to_str().expect("a plain path");
+    talk(&[
+        ("report 0", "28"),
+        ("log 2024 10 26 2 30 100 1", "0"),
+        ("report 0", "0 48 0 0 0 0 0 0 0"),
+        ("ask 1 1 4", "0 0103240A1B04640B"),
+        ("report 1", "0 48 0 0 0 0 0 0 0"),
+        ("reply 010324000000000000000000D63A", "0"),
+        ("report 1", "0 47 1 0 0 0 0 0 0"),
+        ("report 0", "0 48 0 0 0 0 0 0 0"),
+        ("ask 1 1 4", "0 0103240A1B04640B"),
+        ("reply 010324000C00000003000000D62B", "0"),
+        ("report 1", "0 47 0 1 12 0 3 0 1"),
+        ("ask 1 1 4", "0 0103240A1B04640B"),
+        ("reply 010324000D0000000300000017E7", "25"),
+        ("report 1", "0 47 0 1 12 0 3 0 1"),
+        ("ask 1 1 4", "0 0103240A1B04640B"),
+        ("lapse", "0"),
+        ("report 1", "0 47 0 1 12 0 3 0 1"),
+        (&format!("save {path}"), "0"),
+        ("log 2024 10 27 1 15 100 2", "27"),
+        ("report 1", "0 47 0 1 12 0 3 0 1"),
+        ("log 2024 10 27 1 15 100 1", "0"),
+        ("report 0", "0 96 0 0 0 0 0 0 0"),
+        ("report 1", "22"),
+        (&format!("load {path}"), "0"),
+        ("report 0", "0 48 0 0 0 0 0 0 0"),
+        ("report 1", "0 47 0 1 12 0 3 0 1"),
+        ("report 2", "22"),
+    ]);
+    std::fs::remove_file(path).expect("the file was written");
+}

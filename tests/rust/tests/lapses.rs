@@ -14,8 +14,9 @@ const HEADER_BYTES: usize = 14;
 const CELL_BYTES: usize = 10;
 const LAPSES_AT: usize = 9;
 
+/// Its image; the figures of a day that lapses, which leave them, are not looked at here.
 fn fresh(header: Header) -> Vec<u8> {
-    log::fresh(header).expect("a header in its ranges")
+    log::fresh(header).expect("a header in its ranges").image
 }
 
 /// Where a cell of half hours stands.
@@ -33,9 +34,9 @@ fn reply(ask: Ask, counts: [u16; 4]) -> Vec<u8> {
 
 /// An ask for the interval, and the reply to it.
 fn answered(image: &mut [u8], ask: Ask, reply: &[u8]) -> Result<(), Refusal> {
-    let mut open = None;
+    let (mut open, mut figures) = (None, log::walk_all(image).expect("a sound log"));
     assert!(log::ask(image, &mut open, ask).is_ok());
-    log::take(image, &mut open, reply)
+    log::take(image, &mut figures, &mut open, reply)
 }
 
 /// An ask for the interval that ends in a lapse.
@@ -162,33 +163,33 @@ fn replies_keep_the_lapses() {
 fn what_is_no_lapse() {
     let mut image = fresh(MAY);
     let before = image.clone();
-    let mut open = None;
+    let (mut open, mut figures) = (None, [48, 0, 0, 0, 0, 0, 0, 0, 48, 0, 0, 0, 0, 0, 0, 0]);
     assert!(log::ask(&image, &mut open, FIRST).is_ok());
     let right = reply(FIRST, [12, 0, 3, 0]);
     for malformed in [vec![], right[..13].to_vec(), vec![0; 14], reply(LAST, [1; 4]), sealed(vec![1, 0x83, 35, 1])] {
-        assert!(log::take(&mut image, &mut open, &malformed).is_err());
+        assert!(log::take(&mut image, &mut figures, &mut open, &malformed).is_err());
         assert_eq!((&image, open), (&before, Some(FIRST)));
     }
-    assert_eq!(log::take(&mut image, &mut open, &sealed(vec![1, 0x83, 36, 4])), Err(MeterRefused(4)));
+    assert_eq!(log::take(&mut image, &mut figures, &mut open, &sealed(vec![1, 0x83, 36, 4])), Err(MeterRefused(4)));
     assert_eq!(log::lapse(&mut image, &mut open), Ok(()), "none is open");
     assert_eq!(image, before);
     assert_eq!(answered(&mut image, FIRST, &right), Ok(()));
     assert_eq!(answered(&mut image, FIRST, &reply(FIRST, [13, 0, 3, 0])), Err(OtherCounts));
     assert_eq!(log::lapses(&image, 0, 0), Ok(0));
     assert!(log::ask(&image, &mut open, FIRST).is_ok());
-    assert_eq!(log::take(&mut image, &mut open, &[]), Err(ReplyLength(0)));
+    assert_eq!(log::take(&mut image, &mut figures, &mut open, &[]), Err(ReplyLength(0)));
     assert_eq!(log::lapse(&mut image, &mut open), Ok(()));
     assert_eq!(log::lapses(&image, 0, 0), Ok(1));
 }
 
-/// Lapses are no matter to the report, the next gap and asks, and a gap with lapses is one.
+/// Lapses are no matter to the figures, the next gap and asks, and a gap with lapses is one.
 #[test]
 fn a_gap_stays_one() {
     let mut image = fresh(MAY);
     for _ in 0..3 {
         lapsed(&mut image, FIRST);
     }
-    assert_eq!(log::report(&image, 0), Ok([48, 0, 0, 0, 0, 0, 0, 0]));
+    assert_eq!(log::walk(&image, 0), Ok([48, 0, 0, 0, 0, 0, 0, 0]));
     assert_eq!(log::next_gap(&image, 0, 0), Ok(Some(0)));
     assert_eq!(answered(&mut image, FIRST, &reply(FIRST, [0; 4])), Ok(()));
     assert_eq!(log::next_gap(&image, 0, 0), Ok(Some(1)));
@@ -204,7 +205,7 @@ fn lapses_go_on_from_the_file() {
     }
     let file = log::write_file(&image).expect("a sound log");
     assert_eq!(file[file.len() - 12..file.len() - 2], [0, 0, 0, 0, 0, 0, 0, 0, 0, 200]);
-    let mut read = log::read_file(&file).expect("a log's file");
+    let mut read = log::read_file(&file).expect("a log's file").image;
     assert_eq!(read, image);
     for lapses in 201..=300_u16 {
         lapsed(&mut read, LAST);
@@ -222,5 +223,5 @@ fn the_longest_log() {
     assert_eq!(image[59_533], 1);
     let file = log::write_file(&image).expect("a sound log");
     assert_eq!(file.len(), 59_536);
-    assert_eq!(log::read_file(&file), Ok(image));
+    assert_eq!(log::read_file(&file).map(|log| log.image), Ok(image));
 }

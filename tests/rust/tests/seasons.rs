@@ -2,7 +2,7 @@
 //! lacks, the hour that the October day has twice, and that no other day has either.
 
 use metlazuel_check::model::crc::sealed;
-use metlazuel_check::model::log::{self, Ask, Cell, Header};
+use metlazuel_check::model::log::{self, Ask, Cell, Figures, Header, Log};
 use metlazuel_check::model::refusal::Refusal::{NotInLog, OutOfRange, Unsound};
 use metlazuel_check::model::{count_bytes, slots};
 use std::ops::Range;
@@ -38,16 +38,23 @@ fn about(year: u8, month: u8, minutes: u8, seasons: u8) -> Header {
     Header { days: 3, ..day_of(year, month, season_day(year, month) - 1, minutes, seasons) }
 }
 
-fn fresh(header: Header) -> Vec<u8> {
+fn fresh(header: Header) -> Log {
     log::fresh(header).expect("a header in its ranges")
 }
 
 /// An ask for an interval and a reply with these counts.
-fn measure(image: &mut [u8], day: u8, slot: u8, counts: [u16; 4]) {
+fn measure(log: &mut Log, day: u8, slot: u8, counts: [u16; 4]) {
     let mut open = None;
-    assert!(log::ask(image, &mut open, Ask { address: 1, day, slot }).is_ok());
+    assert!(log::ask(&log.image, &mut open, Ask { address: 1, day, slot }).is_ok());
     let reply = sealed([&[1, 3, 36, 0][..], &count_bytes(counts)].concat());
-    assert_eq!(log::take(image, &mut open, &reply), Ok(()));
+    assert_eq!(log::take(&mut log.image, &mut log.figures, &mut open, &reply), Ok(()));
+}
+
+/// A day's report, which is that of the walk over its cells.
+fn report(log: &Log, day: u8) -> Figures {
+    let figures = log::report(&log.image, &log.figures, day).expect("a day of the log");
+    assert_eq!(log::walk(&log.image, day), Ok(figures));
+    figures
 }
 
 fn put(image: &mut [u8], slot: u8, cell: &[u8]) {
@@ -67,13 +74,16 @@ fn the_days_of_the_marked_examples() {
 #[test]
 fn the_header_byte() {
     let header = day_of(24, 3, 31, 30, 0);
-    assert_eq!(fresh(header)[..14], [b'G', b'E', b'L', 3, 0, 24, 3, 31, 1, 30, 100, 0, 0, 0]);
-    assert_eq!(fresh(Header { seasons: 1, ..header })[..14], [b'G', b'E', b'L', 3, 0, 24, 3, 31, 1, 30, 100, 0, 1, 0]);
+    assert_eq!(fresh(header).image[..14], [b'G', b'E', b'L', 3, 0, 24, 3, 31, 1, 30, 100, 0, 0, 0]);
+    assert_eq!(
+        fresh(Header { seasons: 1, ..header }).image[..14],
+        [b'G', b'E', b'L', 3, 0, 24, 3, 31, 1, 30, 100, 0, 1, 0]
+    );
     for seasons in 2..=255 {
         assert_eq!(log::fresh(Header { seasons, ..header }), Err(OutOfRange));
     }
     for (at, byte) in [(3, 1), (3, 2), (3, 4), (4, 1), (12, 2), (12, 255), (13, 1)] {
-        let mut image = fresh(header);
+        let mut image = fresh(header).image;
         image[at] = byte;
         assert_eq!(log::header(&image), Err(Unsound), "byte {at} is {byte}");
     }
@@ -84,25 +94,25 @@ fn the_header_byte() {
 fn the_march_hour_is_outside() {
     for (year, minutes) in years_and_minutes() {
         for seasons in [0, 1] {
-            let image = fresh(about(year, MARCH, minutes, seasons));
+            let Log { image, figures } = fresh(about(year, MARCH, minutes, seasons));
             for (day, slot) in (0..3).flat_map(|day| (0..=slots(minutes)).map(move |slot| (day, slot))) {
                 let missing = seasons == 1 && day == 1 && hour(minutes).contains(&slot);
-                outside(&image, day, slot, missing || slot == slots(minutes));
+                outside(&image, &figures, day, slot, missing || slot == slots(minutes));
             }
         }
     }
 }
 
-fn outside(image: &[u8], day: u8, slot: u8, expected: bool) {
+fn outside(image: &[u8], figures: &[u32], day: u8, slot: u8, expected: bool) {
     let ask = Ask { address: 1, day, slot };
     let mut open = None;
     assert_eq!(log::ask(image, &mut open, ask) == Err(NotInLog), expected);
     assert_eq!(open.is_none(), expected);
     assert_eq!(log::cell(image, day, slot), if expected { Err(NotInLog) } else { Ok(Cell::Gap) });
     // 22 comes before the form of the reply, and the ask stays as it was
-    let (mut copy, mut open) = (image.to_vec(), Some(ask));
-    assert_eq!(log::take(&mut copy, &mut open, &[]) == Err(NotInLog), expected);
-    assert_eq!((copy.as_slice(), open), (image, Some(ask)));
+    let (mut copy, mut numbers, mut open) = (image.to_vec(), figures.to_vec(), Some(ask));
+    assert_eq!(log::take(&mut copy, &mut numbers, &mut open, &[]) == Err(NotInLog), expected);
+    assert_eq!((copy.as_slice(), numbers.as_slice(), open), (image, figures, Some(ask)));
     assert_eq!(log::lapse(&mut copy, &mut open) == Err(NotInLog), expected);
     assert_eq!((copy.as_slice() == image, open.is_some()), (expected, expected));
 }
@@ -111,12 +121,12 @@ fn outside(image: &[u8], day: u8, slot: u8, expected: bool) {
 fn a_reply_to_an_ask_in_the_march_hour() {
     for (year, minutes) in years_and_minutes() {
         for slot in hour(minutes) {
-            let mut image = fresh(about(year, MARCH, minutes, 1));
-            let (before, ask) = (image.clone(), Some(Ask { address: 1, day: 1, slot }));
+            let mut log = fresh(about(year, MARCH, minutes, 1));
+            let (before, ask) = (log.clone(), Some(Ask { address: 1, day: 1, slot }));
             let mut open = ask;
             let reply = sealed([&[1, 3, 36, 0][..], &count_bytes(COUNTS)].concat());
-            assert_eq!(log::take(&mut image, &mut open, &reply), Err(NotInLog));
-            assert_eq!((image, open), (before, ask));
+            assert_eq!(log::take(&mut log.image, &mut log.figures, &mut open, &reply), Err(NotInLog));
+            assert_eq!((log, open), (before, ask));
         }
     }
 }
@@ -125,19 +135,19 @@ fn a_reply_to_an_ask_in_the_march_hour() {
 #[test]
 fn the_march_hour_is_no_gap() {
     for (year, minutes) in years_and_minutes() {
-        let image = fresh(about(year, MARCH, minutes, 1));
+        let log = fresh(about(year, MARCH, minutes, 1));
         let (all, missing) = (u32::from(slots(minutes)), hour(minutes).len() as u32);
-        let gaps = [0, 1, 2].map(|day| log::report(&image, day).expect("a day of the log"));
+        let gaps = [0, 1, 2].map(|day| report(&log, day));
         assert_eq!(gaps, [all, all - missing, all].map(|gaps| [gaps, 0, 0, 0, 0, 0, 0, 0]));
         let Range { start, end } = hour(minutes);
         for from in 0..=slots(minutes) {
             let next = if (start..end).contains(&from) { end } else { from };
-            assert_eq!(log::next_gap(&image, 1, from), Ok((from < slots(minutes)).then_some(next)));
-            assert_eq!(log::next_gap(&image, 0, from), Ok((from < slots(minutes)).then_some(from)));
+            assert_eq!(log::next_gap(&log.image, 1, from), Ok((from < slots(minutes)).then_some(next)));
+            assert_eq!(log::next_gap(&log.image, 0, from), Ok((from < slots(minutes)).then_some(from)));
         }
         let without = fresh(about(year, MARCH, minutes, 0));
-        assert_eq!(log::report(&without, 1), Ok([all, 0, 0, 0, 0, 0, 0, 0]));
-        assert_eq!(log::next_gap(&without, 1, start), Ok(Some(start)));
+        assert_eq!(report(&without, 1), [all, 0, 0, 0, 0, 0, 0, 0]);
+        assert_eq!(log::next_gap(&without.image, 1, start), Ok(Some(start)));
     }
 }
 
@@ -149,15 +159,15 @@ fn bytes_in_the_march_hour() {
     let lapsed = [0, 0, 0, 0, 0, 0, 0, 0, 0, 1];
     for (year, minutes) in years_and_minutes() {
         let sound = fresh(day_of(year, MARCH, season_day(year, MARCH), minutes, 1));
-        let file = log::write_file(&sound).expect("a sound log");
+        let file = log::write_file(&sound.image).expect("a sound log");
         assert_eq!(log::read_file(&file).as_ref(), Ok(&sound));
         for slot in hour(minutes) {
             for bytes in [&measured[..], &empty, &lapsed, &NO_CELLS[0], &NO_CELLS[1]] {
-                let mut image = sound.clone();
+                let Log { mut image, figures } = sound.clone();
                 put(&mut image, slot, bytes);
-                assert_eq!(log::report(&image, 0), log::report(&sound, 0));
+                assert_eq!(log::walk(&image, 0), Ok(report(&sound, 0)));
                 assert_eq!(log::next_gap(&image, 0, slot), Ok(Some(hour(minutes).end)));
-                outside(&image, 0, slot, true);
+                outside(&image, &figures, 0, slot, true);
                 assert_eq!(log::write_file(&image), Err(Unsound));
             }
         }
@@ -169,14 +179,14 @@ fn bytes_in_the_march_hour() {
 fn bytes_beside_the_march_hour() {
     for (year, minutes) in years_and_minutes() {
         for slot in [hour(minutes).start - 1, hour(minutes).end] {
-            let mut image = fresh(day_of(year, MARCH, season_day(year, MARCH), minutes, 1));
-            measure(&mut image, 0, slot, COUNTS);
+            let mut log = fresh(day_of(year, MARCH, season_day(year, MARCH), minutes, 1));
+            measure(&mut log, 0, slot, COUNTS);
             let gaps = u32::from(slots(minutes)) - hour(minutes).len() as u32 - 1;
-            assert_eq!(log::report(&image, 0), Ok([gaps, 0, 1, 12, 0, 3, 0, 0]));
-            assert!(log::write_file(&image).is_ok());
-            put(&mut image, slot, &NO_CELLS[0]);
-            assert_eq!(log::report(&image, 0), Err(Unsound));
-            assert_eq!(log::cell(&image, 0, slot), Err(Unsound));
+            assert_eq!(report(&log, 0), [gaps, 0, 1, 12, 0, 3, 0, 0]);
+            assert!(log::write_file(&log.image).is_ok());
+            put(&mut log.image, slot, &NO_CELLS[0]);
+            assert_eq!(log::walk(&log.image, 0), Err(Unsound));
+            assert_eq!(log::cell(&log.image, 0, slot), Err(Unsound));
         }
     }
 }
@@ -186,14 +196,14 @@ fn bytes_beside_the_march_hour() {
 fn the_october_hour_is_doubled() {
     for (year, minutes) in years_and_minutes() {
         for seasons in [0, 1] {
-            let mut image = fresh(about(year, OCTOBER, minutes, seasons));
+            let mut log = fresh(about(year, OCTOBER, minutes, seasons));
             for (day, slot) in (0..3).flat_map(|day| (0..slots(minutes)).map(move |slot| (day, slot))) {
-                measure(&mut image, day, slot, [1, 2, 3, 4]);
+                measure(&mut log, day, slot, [1, 2, 3, 4]);
             }
             let all = u32::from(slots(minutes));
             let doubled = u32::from(seasons) * hour(minutes).len() as u32;
             for (day, doubled) in [(0, 0), (1, doubled), (2, 0)] {
-                assert_eq!(log::report(&image, day), Ok([0, 0, all, all, 2 * all, 3 * all, 4 * all, doubled]));
+                assert_eq!(report(&log, day), [0, 0, all, all, 2 * all, 3 * all, 4 * all, doubled]);
             }
         }
     }
@@ -204,10 +214,10 @@ fn the_october_hour_is_doubled() {
 fn one_measured_slot_of_the_october_day() {
     for (year, minutes) in years_and_minutes() {
         for slot in 0..slots(minutes) {
-            let mut image = fresh(day_of(year, OCTOBER, season_day(year, OCTOBER), minutes, 1));
-            measure(&mut image, 0, slot, COUNTS);
+            let mut log = fresh(day_of(year, OCTOBER, season_day(year, OCTOBER), minutes, 1));
+            measure(&mut log, 0, slot, COUNTS);
             let doubled = u32::from(hour(minutes).contains(&slot));
-            assert_eq!(log::report(&image, 0), Ok([u32::from(slots(minutes)) - 1, 0, 1, 12, 0, 3, 0, doubled]));
+            assert_eq!(report(&log, 0), [u32::from(slots(minutes)) - 1, 0, 1, 12, 0, 3, 0, doubled]);
         }
     }
 }
@@ -216,14 +226,16 @@ fn one_measured_slot_of_the_october_day() {
 #[test]
 fn empties_and_gaps_of_the_october_hour() {
     for (year, minutes) in years_and_minutes() {
-        let mut image = fresh(day_of(year, OCTOBER, season_day(year, OCTOBER), minutes, 1));
+        let mut log = fresh(day_of(year, OCTOBER, season_day(year, OCTOBER), minutes, 1));
         let Range { start, end } = hour(minutes);
-        measure(&mut image, 0, start, [0; 4]);
-        assert_eq!(log::report(&image, 0).map(|row| (row[1], row[7])), Ok((1, 0)));
-        measure(&mut image, 0, end - 1, COUNTS);
-        assert_eq!(log::report(&image, 0).map(|row| (row[1], row[2], row[7])), Ok((1, 1, 1)));
-        put(&mut image, start, &NO_CELLS[1]);
-        assert_eq!(log::report(&image, 0), Err(Unsound), "on this day the hour's cells are read");
+        measure(&mut log, 0, start, [0; 4]);
+        let row = report(&log, 0);
+        assert_eq!((row[1], row[7]), (1, 0));
+        measure(&mut log, 0, end - 1, COUNTS);
+        let row = report(&log, 0);
+        assert_eq!((row[1], row[2], row[7]), (1, 1, 1));
+        put(&mut log.image, start, &NO_CELLS[1]);
+        assert_eq!(log::walk(&log.image, 0), Err(Unsound), "on this day the hour's cells are read");
     }
 }
 
@@ -241,14 +253,14 @@ fn no_other_day_of_the_century() {
                 _ => 62,
             };
             let header = Header { days, ..day_of(year, month, first, minutes, 1) };
-            let mut image = fresh(header);
+            let mut image = fresh(header).image;
             for cell in image[HEADER_BYTES..].chunks_exact_mut(CELL_BYTES) {
                 cell.copy_from_slice(&[2, 1, 0, 0, 0, 0, 0, 0, 0, 7]);
             }
             for day in 0..days {
                 let (measured, doubled) = measured_and_doubled(header.date(day), minutes);
                 let expected = [0, 0, measured, measured, 0, 0, 0, doubled];
-                assert_eq!(log::report(&image, day), Ok(expected), "{:?}", header.date(day));
+                assert_eq!(log::walk(&image, day), Ok(expected), "{:?}", header.date(day));
             }
         }
     }
@@ -269,13 +281,13 @@ fn the_sunday_before() {
     for (year, minutes) in years_and_minutes() {
         for month in [MARCH, OCTOBER] {
             let header = day_of(year, month, season_day(year, month) - 7, minutes, 1);
-            let mut image = fresh(header);
+            let mut log = fresh(header);
             for slot in 0..slots(minutes) {
-                measure(&mut image, 0, slot, COUNTS);
+                measure(&mut log, 0, slot, COUNTS);
             }
             let all = u32::from(slots(minutes));
-            assert_eq!(log::report(&image, 0), Ok([0, 0, all, 12 * all, 0, 3 * all, 0, 0]));
-            assert_eq!(log::read_file(&log::write_file(&image).expect("a sound log")), Ok(image));
+            assert_eq!(report(&log, 0), [0, 0, all, 12 * all, 0, 3 * all, 0, 0]);
+            assert_eq!(log::read_file(&log::write_file(&log.image).expect("a sound log")), Ok(log));
         }
     }
 }

@@ -1,7 +1,7 @@
 //! Files of versions 1, 2 and 3 over the season days (02, CR 5 and CR 7), put together here byte by byte, with CRCs that another
 //! program reckoned.
 
-use metlazuel_check::model::log::{self, Ask, Cell};
+use metlazuel_check::model::log::{self, Ask, Cell, Log};
 use metlazuel_check::model::refusal::Refusal::{self, *};
 use metlazuel_check::model::slots;
 use std::ops::Range;
@@ -99,17 +99,17 @@ fn former_versions_without_seasons() {
             [1, 2, 3].map(|version| with_these(day(version, date, minutes, 0, &cells), crcs[usize::from(version) - 1]));
         for file in [&first, &second, &third] {
             let read = log::read_file(file).expect("a log's file");
-            assert_eq!(read, image(date, minutes, 0, &cells));
+            assert_eq!(read.image, image(date, minutes, 0, &cells));
             without_seasons(&read, minutes);
-            assert_eq!(log::write_file(&read), Ok(third.clone()));
+            assert_eq!(log::write_file(&read.image), Ok(third.clone()));
         }
     }
 }
 
 /// The hour's slots are there, on either day, and are counted as others are.
-fn without_seasons(image: &[u8], minutes: u8) {
+fn without_seasons(Log { image, figures }: &Log, minutes: u8) {
     let gaps = u32::from(slots(minutes)) - 2;
-    assert_eq!(log::report(image, 0), Ok([gaps, 1, 1, 12, 0, 3, 0, 0]));
+    assert_eq!(*figures, [gaps, 1, 1, 12, 0, 3, 0, 0]);
     assert_eq!(log::cell(image, 0, hour(minutes).start), Ok(Cell::Measured([12, 0, 3, 0])));
     assert_eq!(log::cell(image, 0, hour(minutes).end - 1), Ok(Cell::Empty));
     assert!((0..slots(minutes)).all(|slot| log::lapses(image, 0, slot) == Ok(0)));
@@ -127,20 +127,19 @@ fn seasons_and_lapses() {
     for (date, minutes, cells, [second, third, lapses], row) in files {
         let file = with_these(day(3, date, minutes, 1, &cells), third);
         let read = log::read_file(&with_these(day(2, date, minutes, 1, &cells), second)).expect("a file of version 2");
-        assert_eq!(read, image(date, minutes, 1, &cells));
-        assert_eq!(log::report(&read, 0), Ok(row));
-        assert_eq!(log::write_file(&read), Ok(file.clone()));
+        assert_eq!(read, Log { image: image(date, minutes, 1, &cells), figures: row.to_vec() });
+        assert_eq!(log::write_file(&read.image), Ok(file.clone()));
         assert_eq!(log::read_file(&file), Ok(read));
         lapses_of_a_file(date, minutes, with_lapses(cells), lapses, row);
     }
 }
 
-/// A file of version 3 with lapses: the cells and the report are those without.
+/// A file of version 3 with lapses: the cells and the figures are those without.
 fn lapses_of_a_file(date: [u8; 2], minutes: u8, cells: [(u8, Row); 3], crc: [u8; 2], row: [u32; 8]) {
     let file = with_these(day(3, date, minutes, 1, &cells), crc);
-    let read = log::read_file(&file).expect("a file of version 3");
+    let Log { image: read, figures } = log::read_file(&file).expect("a file of version 3");
     assert_eq!(read, image(date, minutes, 1, &cells));
-    assert_eq!(log::report(&read, 0), Ok(row));
+    assert_eq!(figures, row);
     assert_eq!(cells.map(|(slot, _)| log::lapses(&read, 0, slot)), [Ok(1), Ok(255), Ok(7)]);
     let kinds = [Cell::Gap, Cell::Measured([12, 0, 3, 0]), Cell::Empty];
     assert_eq!(cells.map(|(slot, _)| log::cell(&read, 0, slot)), kinds.map(Ok));
@@ -255,13 +254,13 @@ fn refused(mut image: Vec<u8>) {
     let ask = Ask { address: 1, day: 0, slot: 0 };
     assert_eq!(log::header(&image), Err(Unsound));
     assert_eq!(log::ask(&image, &mut None, ask), Err(Unsound));
-    assert_eq!(log::take(&mut image, &mut Some(ask), &[]), Err::<(), Refusal>(Unsound));
+    assert_eq!(log::take(&mut image, &mut [0; 8], &mut Some(ask), &[]), Err::<(), Refusal>(Unsound));
     assert_eq!(log::lapse(&mut image, &mut Some(ask)), Err(Unsound));
     assert_eq!(log::lapse(&mut image, &mut None), Ok(()));
     assert_eq!(log::cell(&image, 0, 0), Err(Unsound));
     assert_eq!(log::lapses(&image, 0, 0), Err(Unsound));
     assert_eq!(log::next_gap(&image, 0, 0), Err(Unsound));
-    assert_eq!(log::report(&image, 0), Err(Unsound));
+    assert_eq!(log::report(&image, &[0; 8], 0), Err(Unsound));
     assert_eq!(log::write_file(&image), Err(Unsound));
     assert_eq!(image, before);
 }

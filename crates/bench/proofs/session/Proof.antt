@@ -7,11 +7,12 @@ use Rattle.bench.proofs.session.Statement.{statement}
 use Rattle.bench.proofs.session.Tie as tie
 
 abbrev Inv-loop : tie.InvT-loop
-Inv-loop image₀ store₀ line₀ block₀ kept₀ record₀ mercury₀ rest₀ turns₀ image store line block kept «record» mercury rest turns =
-    (length line ≡ length line₀) × (length image ≡ length image₀) × (length store ≡ length store₀) × (length block ≡ length block₀)
+Inv-loop image₀ figures₀ store₀ line₀ block₀ kept₀ record₀ mercury₀ rest₀ turns₀ image figures store line block kept «record» mercury rest turns =
+    (length line ≡ length line₀) × (length image ≡ length image₀) × (length figures ≡ length figures₀) × (length store ≡ length store₀)
+    × (length block ≡ length block₀)
 
 abbrev μ-loop : tie.MeasureT-loop
-μ-loop image₀ store₀ line₀ block₀ kept₀ record₀ mercury₀ rest₀ turns₀ image store line block kept «record» mercury rest turns = turns
+μ-loop image₀ figures₀ store₀ line₀ block₀ kept₀ record₀ mercury₀ rest₀ turns₀ image figures store line block kept «record» mercury rest turns = turns
 
 first-requires : tie.Need-first-requires Inv-loop μ-loop
 first-requires c κs = search needs
@@ -33,6 +34,9 @@ same-length-3 c = search needs
 
 same-length-4 : tie.Need-same-length-4 Inv-loop μ-loop
 same-length-4 c = search needs
+
+same-length-5 : tie.Need-same-length-5 Inv-loop μ-loop
+same-length-5 c = search needs
 
 returns : tie.Need-returns Inv-loop μ-loop
 returns c = search needs
@@ -63,28 +67,27 @@ on-mercury-requires c κs = search needs
 
 sub-turns : tie.Need-sub-turns Inv-loop μ-loop
 sub-turns c =
-    let back = c .before .before .before .before .before .before .before .before .before .before .before .before .before .before in
-    let loop-test = back .before .before .before .before .before .before .before .before .before .before .before .before .before .loop-test in
+    let back = c .before .before .before .before .before .before .before .before .before .before .before .before .before .before .before in
+    let loop-test = back .before .before .before .before .before .before .before .before .before .before .before .before .before .before .before .loop-test in
     loop-test .taken
 
 loop-less : tie.Need-loop-less Inv-loop μ-loop
 loop-less c =
-    let back = c .before .before .before .before .before .before .before .before .before .before .before .before .before .before in
-    let loop-test = back .before .before .before .before .before .before .before .before .before .before .before .before .before .loop-test in
+    let back = c .before .before .before .before .before .before .before .before .before .before .before .before .before .before .before in
+    let loop-test = back .before .before .before .before .before .before .before .before .before .before .before .before .before .before .before .loop-test in
     omega (arith, loop-test .taken)
 
 loop-again : tie.Need-loop-again Inv-loop μ-loop
 loop-again c =
-    let back = c .before .before .before .before .before .before .before .before .before .before .before .before .before .before .before .before .before .before .before .before .before in
+    let called = c .before .before .before .before .before .before .before .before .before .before .before .before in
+    let image = called .image in
+    let back = called .before .before .before .before .before .before .before .before .before .before .before .before in
     let block = back .before .before .block in
     let line = back .line in
-    let image = c .before .before .before .before .before .before .before .before .before .before .image in
+    let figures = c .before .before .before .before .before .before .before .before .before .before .figures in
     let store = c .before .before .before .before .store in
     let held = back .before .before .before .before .before .before .before .loop .inv in
-    (line .given ∙ held .0, image .given ∙ held .1, store .given ∙ held .2, block .given ∙ held .3)
-
-same-length-5 : tie.Need-same-length-5 Inv-loop μ-loop
-same-length-5 c = search needs
+    (line .given ∙ held .0, image .given ∙ held .1, figures .given ∙ held .2, store .given ∙ held .3, block .given ∙ held .4)
 
 same-length-6 : tie.Need-same-length-6 Inv-loop μ-loop
 same-length-6 c = search needs
@@ -94,6 +97,12 @@ same-length-7 c = search needs
 
 same-length-8 : tie.Need-same-length-8 Inv-loop μ-loop
 same-length-8 c = search needs
+
+same-length-9 : tie.Need-same-length-9 Inv-loop μ-loop
+same-length-9 c = search needs
+
+same-length-10 : tie.Need-same-length-10 Inv-loop μ-loop
+same-length-10 c = search needs
 
 returns-2 : tie.Need-returns-2 Inv-loop μ-loop
 returns-2 c = search needs
@@ -111,6 +120,7 @@ session-spec =
     same-length-2
     same-length-3
     same-length-4
+    same-length-5
     returns
     part-requires
     verb-of-requires
@@ -123,8 +133,9 @@ session-spec =
     sub-turns
     loop-less
     loop-again
-    same-length-5
     same-length-6
     same-length-7
     same-length-8
+    same-length-9
+    same-length-10
     returns-2)

@@ -1,10 +1,10 @@
 -- `metlazuel_day_report` meets its contract: row and answer are what `day_report` ensures, and `number` ensures the answer's number.
 use Rattle.metlazuel.specs.Calls.{numbered}
 use Rattle.dayreport.specs.Report.{reportNumber}
-use mathlib.Core.Path.{ap, _∙_}
+use mathlib.Core.Path.{ap}
 use Prim.Native.Nat.{ℕ}
 use borrow.Author.Needs.{needs}
-use Rattle.refusal.specs.Outcome.{Outcome, outcome}
+use Rattle.refusal.specs.Outcome.{Outcome}
 use Rattle.dayreport.specs.declared.report.ReportAnswer.{ReportAnswer}
 use mathlib.Core.List.{List}
 use Rattle.metlazuel.proofs.metlazuel_day_report.Statement.{statement}
@@ -23,7 +23,7 @@ returns : tie.Need-returns
 returns c =
     let report = c .before .before .before in
     let day-report = report .day-report in
-    ap (λ (n : ℕ). outcome n (day-report .last .1 .1 .0)) (c .number .ensures) ∙ ap (λ (o : Outcome ReportAnswer (List ℕ)). numbered reportNumber o) (day-report .ensures)
+    simp (c .number .ensures) (ap (λ (o : Outcome ReportAnswer (List ℕ)). numbered reportNumber o) (day-report .ensures))
 
 pub metlazuel-day-report-spec : {M : Type 1} → statement M
 metlazuel-day-report-spec =

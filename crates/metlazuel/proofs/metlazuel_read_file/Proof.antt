@@ -2,12 +2,11 @@
 use Rattle.metlazuel.specs.Calls.{sized}
 use Rattle.metlazuel.specs.LogCalls.{lengthAfter}
 use Rattle.logfile.specs.Read.{readNumber}
-use mathlib.Core.Path.{ap, ap₂, _∙_}
-use Prim.Native.Nat.{ℕ}
+use mathlib.Core.Path.{ap}
 use borrow.Author.Needs.{needs}
-use Rattle.refusal.specs.Outcome.{Outcome, outcome}
+use Rattle.refusal.specs.Outcome.{Outcome}
 use Rattle.logfile.specs.declared.read.ReadAnswer.{ReadAnswer}
-use mathlib.Core.List.{List}
+use Rattle.day_figures.specs.Both.{Both}
 use Rattle.metlazuel.proofs.metlazuel_read_file.Statement.{statement}
 use Rattle.metlazuel.proofs.metlazuel_read_file.Tie as tie
 
@@ -23,15 +22,20 @@ number-requires c κs = search needs
 same-length : tie.Need-same-length
 same-length c = search needs
 
+same-length-2 : tie.Need-same-length-2
+same-length-2 c = search needs
+
 returns : tie.Need-returns
 unfolding lengthAfter
 returns c =
-    let read = c .before .before .before .before .before in
-    let args = read .before .before .before .before .args in
-    ap₂ (λ (n l : ℕ). outcome n (l, read .read-file .last .1 .0)) (c .number .ensures) (c .before .length-or .ensures)
-    ∙ ap (λ (o : Outcome ReadAnswer (List ℕ)). sized readNumber lengthAfter o (args .length .now)) (read .read-file .ensures)
+    let read = c .before .before .before .before .before .before .before in
+    let args = read .before .before .before .before .before .before .args in
+    simp (
+      c .number .ensures,
+      c .before .length-or .ensures,
+    ) (ap (λ (o : Outcome ReadAnswer Both). sized readNumber lengthAfter o (args .length .now)) (read .read-file .ensures))
 
 pub metlazuel-read-file-spec : {M : Type 1} → statement M
 metlazuel-read-file-spec =
     tie.close
-    (tie.spec read-file-requires length-or-requires number-requires same-length returns)
+    (tie.spec read-file-requires length-or-requires number-requires same-length same-length-2 returns)

@@ -1,7 +1,7 @@
 //! The console of CONSOLE.md over the model: a line in, a line out, at once.
 
 use metlazuel_check::model::calendar::Moment;
-use metlazuel_check::model::log::{self, Ask, Cell, Header};
+use metlazuel_check::model::log::{self, Ask, Cell, Header, Log};
 use metlazuel_check::model::mercury::{self, Reading};
 use metlazuel_check::model::meter::{self, Level, Phases, Ratios, Record, Season, Telemetry};
 use metlazuel_check::model::reader::{Figures, Request, READ, READ_SHOWN};
@@ -37,9 +37,9 @@ fn passed_over(line: &[u8]) -> bool {
     line.is_empty() || line[0] == b'#'
 }
 
-/// What the console keeps: a log image, an open ask, a meter record and a slice store; a Mercury 206's address and figures.
+/// What the console keeps: a log image with its figures, an open ask, a meter record and a slice store; a Mercury 206's address and figures.
 struct Console {
-    image: Vec<u8>,
+    log: Log,
     open: Option<Ask>,
     record: Record,
     store: Vec<u8>,
@@ -53,7 +53,8 @@ impl Console {
     fn new() -> Console {
         let record = new_record(&START).expect("readable").expect("in range");
         let mercury = (MERCURY_ADDRESS, mercury::Figures::ZEROS);
-        Console { image: vec![], open: None, record, store: meter::empty_store(), mercury }
+        let log = Log { image: vec![], figures: vec![] };
+        Console { log, open: None, record, store: meter::empty_store(), mercury }
     }
 
     fn line(&mut self, line: &[u8]) -> String {
@@ -101,25 +102,25 @@ impl Console {
         let [year, month, day, days, minutes, ke, seasons] = *words else { return None };
         let [month, day, days, minutes, seasons] = bytes(&[month, day, days, minutes, seasons])?;
         let (year, ke) = (since_2000(word(year)?), word(ke)?);
-        let image = year.and_then(|year| log::fresh(Header { year, month, day, days, minutes, ke, seasons }));
-        Some(done(image.map(|image| self.hold(image))))
+        let log = year.and_then(|year| log::fresh(Header { year, month, day, days, minutes, ke, seasons }));
+        Some(done(log.map(|log| self.hold(log))))
     }
 
     fn load(&mut self, words: &[&str]) -> Line {
         let [path] = *words else { return None };
         let file = std::fs::read(path).ok()?;
-        Some(done(log::read_file(&file).map(|image| self.hold(image))))
+        Some(done(log::read_file(&file).map(|log| self.hold(log))))
     }
 
     /// A new log; the open ask closes with it.
-    fn hold(&mut self, image: Vec<u8>) {
-        self.image = image;
+    fn hold(&mut self, log: Log) {
+        self.log = log;
         self.open = None;
     }
 
     fn save(&mut self, words: &[&str]) -> Line {
         let [path] = *words else { return None };
-        let file = log::write_file(&self.image);
+        let file = log::write_file(&self.log.image);
         if let Ok(bytes) = &file {
             std::fs::write(path, bytes).ok()?;
         }
@@ -128,18 +129,19 @@ impl Console {
 
     fn ask(&mut self, words: &[&str]) -> Line {
         let [address, day, slot] = bytes(words)?;
-        let frame = log::ask(&self.image, &mut self.open, Ask { address, day, slot });
+        let frame = log::ask(&self.log.image, &mut self.open, Ask { address, day, slot });
         Some(said(frame.map(|frame| hex(&frame))))
     }
 
     fn lapse(&mut self, words: &[&str]) -> Line {
         let [] = *words else { return None };
-        Some(done(log::lapse(&mut self.image, &mut self.open)))
+        Some(done(log::lapse(&mut self.log.image, &mut self.open)))
     }
 
     fn reply(&mut self, words: &[&str]) -> Line {
         let reply = string_or_nothing(words)?;
-        Some(done(log::take(&mut self.image, &mut self.open, &reply)))
+        let Log { image, figures } = &mut self.log;
+        Some(done(log::take(image, figures, &mut self.open, &reply)))
     }
 
     fn open(&self, words: &[&str]) -> Line {
@@ -156,7 +158,7 @@ impl Console {
     }
 
     fn cell_and_lapses(&self, day: u8, slot: u8) -> Result<String, Refusal> {
-        let (cell, lapses) = (log::cell(&self.image, day, slot)?, log::lapses(&self.image, day, slot)?);
+        let (cell, lapses) = (log::cell(&self.log.image, day, slot)?, log::lapses(&self.log.image, day, slot)?);
         Ok(match cell {
             Cell::Gap => format!("gap {lapses}"),
             Cell::Empty => format!("empty {lapses}"),
@@ -166,7 +168,7 @@ impl Console {
 
     fn report(&self, words: &[&str]) -> Line {
         let [day] = bytes(words)?;
-        Some(said(log::report(&self.image, day).map(list)))
+        Some(said(log::report(&self.log.image, &self.log.figures, day).map(list)))
     }
 
     // Bench meter

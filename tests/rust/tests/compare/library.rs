@@ -3,12 +3,30 @@
 mod c {
     extern "C" {
         pub fn metlazuel_crc16(bytes: *const u8, n: usize) -> u16;
-        pub fn metlazuel_read_file(file: *const u8, n: usize, out: *mut u8, room: usize, length: *mut usize) -> u8;
-        pub fn metlazuel_day_report(log: *const u8, n: usize, day: u8, row: *mut u32, room: usize) -> u8;
+        pub fn metlazuel_read_file(
+            file: *const u8,
+            n: usize,
+            out: *mut u8,
+            room: usize,
+            figures: *mut u32,
+            numbers: usize,
+            length: *mut usize,
+        ) -> u8;
+        pub fn metlazuel_day_report(
+            log: *const u8,
+            n: usize,
+            figures: *const u32,
+            numbers: usize,
+            day: u8,
+            row: *mut u32,
+            room: usize,
+        ) -> u8;
         pub fn metlazuel_write_file(log: *const u8, n: usize, out: *mut u8, room: usize, length: *mut usize) -> u8;
         pub fn metlazuel_log_fresh(
             log: *mut u8,
             room: usize,
+            figures: *mut u32,
+            numbers: usize,
             year: u8,
             month: u8,
             day: u8,
@@ -43,6 +61,8 @@ mod c {
         pub fn metlazuel_take(
             log: *mut u8,
             n: usize,
+            figures: *mut u32,
+            numbers: usize,
             ask: *mut u8,
             size: usize,
             reply: *const u8,
@@ -203,25 +223,35 @@ pub fn crc16(bytes: &[u8]) -> u16 {
     unsafe { c::metlazuel_crc16(bytes.as_ptr(), bytes.len()) }
 }
 
-pub fn read_file(file: &[u8], out: &mut [u8], length: &mut usize) -> u8 {
-    guarded(out, |out| unsafe {
-        c::metlazuel_read_file(file.as_ptr(), file.len(), out.as_mut_ptr(), out.len(), length)
+pub fn read_file(file: &[u8], out: &mut [u8], figures: &mut [u32], length: &mut usize) -> u8 {
+    guarded(out, |out| {
+        guarded(figures, |figures| unsafe {
+            let (n, room, numbers) = (file.len(), out.len(), figures.len());
+            let (file, out, figures) = (file.as_ptr(), out.as_mut_ptr(), figures.as_mut_ptr());
+            c::metlazuel_read_file(file, n, out, room, figures, numbers, length)
+        })
     })
 }
 
-pub fn day_report(log: &[u8], day: u8, row: &mut [u32]) -> u8 {
-    guarded(row, |row| unsafe { c::metlazuel_day_report(log.as_ptr(), log.len(), day, row.as_mut_ptr(), row.len()) })
+pub fn day_report(log: &[u8], figures: &[u32], day: u8, row: &mut [u32]) -> u8 {
+    guarded(row, |row| unsafe {
+        let (n, numbers, room) = (log.len(), figures.len(), row.len());
+        c::metlazuel_day_report(log.as_ptr(), n, figures.as_ptr(), numbers, day, row.as_mut_ptr(), room)
+    })
 }
 
 pub fn write_file(log: &[u8], out: &mut [u8], length: &mut usize) -> u8 {
     guarded(out, |out| unsafe { c::metlazuel_write_file(log.as_ptr(), log.len(), out.as_mut_ptr(), out.len(), length) })
 }
 
-pub fn fresh(log: &mut [u8], header: &Header, length: &mut usize) -> u8 {
+pub fn fresh(log: &mut [u8], figures: &mut [u32], header: &Header, length: &mut usize) -> u8 {
     let Header { year, month, day, days, minutes, ke, seasons } = *header;
-    guarded(log, |log| unsafe {
-        let (room, log) = (log.len(), log.as_mut_ptr());
-        c::metlazuel_log_fresh(log, room, year, month, day, days, minutes, ke, seasons, length)
+    guarded(log, |log| {
+        guarded(figures, |figures| unsafe {
+            let (room, numbers) = (log.len(), figures.len());
+            let (log, figures) = (log.as_mut_ptr(), figures.as_mut_ptr());
+            c::metlazuel_log_fresh(log, room, figures, numbers, year, month, day, days, minutes, ke, seasons, length)
+        })
     })
 }
 
@@ -258,12 +288,18 @@ pub fn lapse(log: &mut [u8], kept: &mut [u8]) -> u8 {
     })
 }
 
-pub fn take(log: &mut [u8], kept: &mut [u8], reply: &[u8], result: &mut u8, length: &mut usize) -> u8 {
+/// What a reply's call is lent beside the log: the meter's result and the length received.
+pub type Said<'a> = (&'a mut u8, &'a mut usize);
+
+pub fn take(log: &mut [u8], figures: &mut [u32], kept: &mut [u8], reply: &[u8], (result, length): Said) -> u8 {
     guarded(log, |log| {
-        guarded(kept, |kept| unsafe {
-            let (n, size, bytes) = (log.len(), kept.len(), reply.len());
-            let (log, kept, reply) = (log.as_mut_ptr(), kept.as_mut_ptr(), reply.as_ptr());
-            c::metlazuel_take(log, n, kept, size, reply, bytes, result, length)
+        guarded(figures, |figures| {
+            guarded(kept, |kept| unsafe {
+                let (n, numbers, size, bytes) = (log.len(), figures.len(), kept.len(), reply.len());
+                let (log, figures, kept, reply) =
+                    (log.as_mut_ptr(), figures.as_mut_ptr(), kept.as_mut_ptr(), reply.as_ptr());
+                c::metlazuel_take(log, n, figures, numbers, kept, size, reply, bytes, result, length)
+            })
         })
     })
 }

@@ -1,14 +1,14 @@
-//! Logs: their files read, their days reported, their cells and gaps looked up, sound and damaged. Half of them have a season day
-//! or begin near one.
+//! Logs: their files read, their days reported, their cells and gaps looked up, sound and damaged, with the figures of their days right,
+//! wrong or too few beside them. Half of the logs have a season day or begin near one.
 
 use crate::damage::{change_byte, damaged, damaged_and_sealed};
 use crate::library;
 use crate::random::Random;
-use crate::run::{same, same_bytes, Answer, Group};
+use crate::run::{same, same_bytes, same_numbers, Answer, Group};
 use crate::twin::number;
 use metlazuel_check::model::calendar::{date_of, day_number, last_sunday, month_length};
 use metlazuel_check::model::crc::sealed;
-use metlazuel_check::model::log::{self, cell, lapses, next_gap, read_file, report, Cell, Header, ROW};
+use metlazuel_check::model::log::{self, cell, lapses, next_gap, read_file, report, walk, Cell, Header, Log, ROW};
 use metlazuel_check::model::refusal::Refusal;
 use metlazuel_check::model::{count_bytes, slots};
 
@@ -33,6 +33,9 @@ pub const CELL_BYTES: usize = 10;
 const FORMER_CELL_BYTES: usize = 9;
 /// The days of 2000 to 2099.
 const DAYS: u32 = 36_525;
+/// What is lent before a call.
+const LENT: u8 = 0xA5;
+const LENT_FIGURE: u32 = 0xA5A5_A5A5;
 
 #[test]
 fn files() {
@@ -40,9 +43,10 @@ fn files() {
     for case in 0..FILES {
         let random = &mut Random::of(group.seed, case);
         let file = any_file(random);
-        let room = room(random, read_file(&file).map_or(file.len().saturating_sub(2), |image| image.len()));
-        let answer = read_both(&file, room);
-        group.call(case, answer, || format!("{} bytes into {room}, from {:?}", file.len(), start(&file)));
+        let (image, figures) = read_file(&file).map_or((file.len(), ROW), |log| (log.image.len(), log.figures.len()));
+        let (room, numbers) = (room(random, image), room(random, figures));
+        let answer = read_both(&file, room, numbers);
+        group.call(case, answer, || format!("{} bytes into {room} and {numbers}, from {:?}", file.len(), start(&file)));
     }
     group.end(&[0, 1, 30, 31, 32, 33, 34, 35]);
 }
@@ -55,11 +59,12 @@ fn reports() {
         let random = &mut Random::of(group.seed, case);
         let log = any_log(random);
         for _ in 0..REPORTS_OF_A_LOG {
-            let day = any_day(random, &log);
+            let (day, figures) = (any_day(random, &log), any_figures(random, &log));
             let row = if random.one_in(8) { random.below(ROW + 3) } else { ROW };
-            let answer = report_both(&log, day, row);
-            group.call(case, answer, || format!("day {day} into {row} of {} bytes, from {:?}", log.len(), start(&log)));
-            if let Ok(numbers) = report(&log, day) {
+            let answer = report_both(&log, &figures, day, row);
+            let lent = (log.len(), figures.len());
+            group.call(case, answer, || format!("day {day} into {row} of {lent:?}, from {:?}", start(&log)));
+            if let Ok(numbers) = walk(&log, day) {
                 shorter += u32::from(numbers[..3].iter().sum::<u32>() < u32::from(slots(log[9])));
                 doubled += u32::from(numbers[7] > 0);
             }
@@ -89,39 +94,52 @@ pub fn start(bytes: &[u8]) -> &[u8] {
     &bytes[..bytes.len().min(64)]
 }
 
-/// The number, the length and the whole output; 1 comes last here.
-pub fn read_both(file: &[u8], room: usize) -> Answer {
-    let outcome = read_file(file).and_then(|image| fitting(image, room));
-    let (mut out, mut length) = (vec![0xA5; room], 0xA5A5);
-    if let Ok(image) = &outcome {
-        out[..image.len()].copy_from_slice(image);
-        length = image.len();
+pub fn read_both(file: &[u8], room: usize, numbers: usize) -> Answer {
+    same_log(read_file(file), room, numbers, |out, figures, length| library::read_file(file, out, figures, length))
+}
+
+/// A new log of both, into so much room and so many numbers: the number, the length, the whole output and all figures. 1 comes last
+/// here.
+pub fn same_log(
+    outcome: Result<Log, Refusal>,
+    room: usize,
+    numbers: usize,
+    call: impl FnOnce(&mut [u8], &mut [u32], &mut usize) -> u8,
+) -> Answer {
+    let outcome = outcome.and_then(|log| fitting(log, room, numbers));
+    let (mut out, mut figures, mut length) = (vec![LENT; room], vec![LENT_FIGURE; numbers], usize::MAX);
+    if let Ok(log) = &outcome {
+        out[..log.image.len()].copy_from_slice(&log.image);
+        figures[..log.figures.len()].copy_from_slice(&log.figures);
+        length = log.image.len();
     }
-    let (mut library_out, mut library_length) = (vec![0xA5; room], 0xA5A5);
-    let library_number = library::read_file(file, &mut library_out, &mut library_length);
+    let (mut library_out, mut library_figures, mut library_length) =
+        (vec![LENT; room], vec![LENT_FIGURE; numbers], usize::MAX);
+    let library_number = call(&mut library_out, &mut library_figures, &mut library_length);
     same("number", number(&outcome), library_number)?;
     same("length", length, library_length)?;
     same_bytes("output", &out, &library_out)?;
+    same_numbers("figures", &figures, &library_figures)?;
     Ok(library_number)
 }
 
-pub fn fitting(image: Vec<u8>, room: usize) -> Result<Vec<u8>, Refusal> {
-    if room < image.len() {
+fn fitting(log: Log, room: usize, numbers: usize) -> Result<Log, Refusal> {
+    if room < log.image.len() || numbers < log.figures.len() {
         Err(Refusal::OutputTooShort)
     } else {
-        Ok(image)
+        Ok(log)
     }
 }
 
-/// The number and the whole row; 1 comes first here.
-pub fn report_both(log: &[u8], day: u8, room: usize) -> Answer {
-    let outcome = if room < ROW { Err(Refusal::OutputTooShort) } else { report(log, day) };
-    let mut row = vec![0xA5A5_A5A5; room];
+/// The number and the whole row; 1 for the row comes first here.
+pub fn report_both(log: &[u8], figures: &[u32], day: u8, room: usize) -> Answer {
+    let outcome = if room < ROW { Err(Refusal::OutputTooShort) } else { report(log, figures, day) };
+    let mut row = vec![LENT_FIGURE; room];
     if let Ok(numbers) = &outcome {
         row[..ROW].copy_from_slice(numbers);
     }
-    let mut library_row = vec![0xA5A5_A5A5; room];
-    let library_number = library::day_report(log, day, &mut library_row);
+    let mut library_row = vec![LENT_FIGURE; room];
+    let library_number = library::day_report(log, figures, day, &mut library_row);
     same("number", number(&outcome), library_number)?;
     same("row", row, library_row)?;
     Ok(library_number)
@@ -159,13 +177,43 @@ pub fn gap_both(log: &[u8], day: u8, from: u8) -> Answer {
     Ok(library_number)
 }
 
-/// As long as the image, or shorter, or longer.
-fn room(random: &mut Random, image: usize) -> usize {
+/// As many as are wanted, or fewer, or more.
+pub fn room(random: &mut Random, wanted: usize) -> usize {
     match random.below(8) {
-        0 => random.below(image + 1),
-        1 => image.saturating_sub(1),
-        2 => image + random.below(20),
-        _ => image,
+        0 => random.below(wanted + 1),
+        1 => wanted.saturating_sub(1),
+        2 => wanted + random.below(20),
+        _ => wanted,
+    }
+}
+
+/// The figures of a log's days by the walk, zeros for a day with a cell that is none; none for bytes that are no log.
+pub fn walked(log: &[u8]) -> Vec<u32> {
+    let days = log::header(log).map_or(0, |header| header.days);
+    (0..days).flat_map(|day| walk(log, day).unwrap_or_default()).collect()
+}
+
+/// Those of the walk most often; else more, fewer, or with one that is wrong.
+fn any_figures(random: &mut Random, log: &[u8]) -> Vec<u32> {
+    let mut figures = walked(log);
+    let numbers = room(random, figures.len());
+    figures.resize_with(numbers, || random.long());
+    if random.one_in(4) {
+        spoil_figure(random, &mut figures);
+    }
+    figures
+}
+
+/// One of the figures near an end of its range, or any number.
+pub fn spoil_figure(random: &mut Random, figures: &mut [u32]) {
+    if !figures.is_empty() {
+        let at = random.below(figures.len());
+        figures[at] = match random.below(4) {
+            0 => 0,
+            1 => u32::MAX,
+            2 => u32::MAX - u32::from(random.word() >> random.below(16)),
+            _ => random.long(),
+        };
     }
 }
 

@@ -28,6 +28,14 @@ pub fn same_bytes(what: &str, model: &[u8], library: &[u8]) -> Same {
     Err(format!("{what} from byte {at:?}: the model has {:?}, the library {:?}", part(model), part(library)))
 }
 
+/// Of long rows of numbers likewise.
+pub fn same_numbers(what: &str, model: &[u32], library: &[u32]) -> Same {
+    match model.iter().zip(library).position(|(ours, theirs)| ours != theirs) {
+        None => same("how many", model.len(), library.len()),
+        Some(at) => Err(format!("{what}, number {at}: the model has {}, the library {}", model[at], library[at])),
+    }
+}
+
 /// METLAZUEL_SEED, else 1.
 pub fn seed() -> u64 {
     match std::env::var("METLAZUEL_SEED") {

@@ -3,7 +3,7 @@
 
 use crate::asks::{compare, write_both, Call, Logs};
 use crate::logs::{
-    cell_both, file_bytes, gap_both, image_front, image_of, read_both, report_both, start, Row, ABOUT_THE_HOUR,
+    cell_both, file_bytes, gap_both, image_front, image_of, read_both, report_both, start, walked, Row, ABOUT_THE_HOUR,
 };
 use crate::random::Random;
 use crate::run::Group;
@@ -64,10 +64,12 @@ fn slots_of_the_century() {
     let mut group = Group::new("slots of the season days");
     for (case, header) in headers() {
         let log = log_of(&header, &mut Random::of(group.seed, case));
+        let figures = walked(&log);
         for day in 0..=DAYS {
             let call = || format!("day {day}, from {:?}", start(&log));
-            group.call(case, report_both(&log, day, ROW), call);
-            group.call(case, report_both(&log, day, ROW - 1), call);
+            group.call(case, report_both(&log, &figures, day, ROW), call);
+            group.call(case, report_both(&log, &figures, day, ROW - 1), call);
+            group.call(case, report_both(&log, &figures[1..], day, ROW), call);
             for slot in 0..=header.slots() {
                 group.call(case, cell_both(&log, day, slot), call);
                 group.call(case, gap_both(&log, day, slot), call);
@@ -97,13 +99,14 @@ fn cells_about_the_hour() {
             let log = image_of(&front, &rows);
             let call = || format!("slot {slot} with {kind:?}, from {:?}", start(&log));
             group.call(case, write_both(&log, log.len() + 2), call);
-            group.call(case, report_both(&log, SUNDAY, ROW), call);
+            group.call(case, report_both(&log, &walked(&log), SUNDAY, ROW), call);
             group.call(case, gap_both(&log, SUNDAY, slot), call);
             let ask = Ask { address: 1, day: SUNDAY, slot };
             compare(&mut group, case, &mut Logs::of(&log, Some(ask)), &Call::Lapse);
             for version in 1..=3 {
                 front[3] = version;
-                group.call(case, read_both(&sealed(file_bytes(&front, &rows)), log.len()), call);
+                let file = sealed(file_bytes(&front, &rows));
+                group.call(case, read_both(&file, log.len(), ROW * usize::from(DAYS)), call);
             }
         }
     }

@@ -17,12 +17,16 @@ fresh-from-requires c κs = search needs
 same-length : tie.Need-same-length
 same-length c = search needs
 
+same-length-2 : tie.Need-same-length-2
+same-length-2 c = search needs
+
 returns : tie.Need-returns
 unfolding freshLine
 returns c =
-    let is-form = c .before .before .before .before .before .is-form in
-    let if1 = c .before .before .before .before .if1 in
-    rw (sym (is-form .ensures) ∙ if1 .taken) (c .before .before .fresh-from .ensures)
+    let at-is-form = c .before .before .before .before .before .before .before .before .is-form in
+    let at-if1 = c .before .before .before .before .before .before .before .if1 in
+    let at-fresh-from = c .before .before .before .before .fresh-from in
+    rw (sym (at-is-form .ensures) ∙ at-if1 .taken) (at-fresh-from .ensures)
 
 unread-requires : tie.Need-unread-requires
 unread-requires c κs = search needs
@@ -39,6 +43,7 @@ fresh-spec =
     is-form-requires
     fresh-from-requires
     same-length
+    same-length-2
     returns
     unread-requires
     returns-2)

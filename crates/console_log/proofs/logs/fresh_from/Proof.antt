@@ -47,26 +47,30 @@ fresh-of-requires c κs = search needs
 same-length : tie.Need-same-length
 same-length c = search needs
 
+same-length-2 : tie.Need-same-length-2
+same-length-2 c = search needs
+
 returns-2 : tie.Need-returns-2
 unfolding freshIn
 returns-2 c =
-    let year = c .before .before .before .before .before .before .before .before .before .before .before .before .before .year in
-    let year2 = c .before .before .before .before .before .before .before .before .before .before .before .year2 in
-    let byte = c .before .before .before .before .before .before .before .before .before .byte in
-    let byte2 = c .before .before .before .before .before .before .before .before .byte2 in
-    let byte3 = c .before .before .before .before .before .before .before .byte3 in
-    let byte4 = c .before .before .before .before .before .before .byte4 in
-    let short = c .before .before .before .before .before .short in
-    let byte5 = c .before .before .before .before .byte5 in
+    let at-year = c .before .before .before .before .before .before .before .before .before .before .before .before .before .before .before .before .year in
+    let at-year2 = c .before .before .before .before .before .before .before .before .before .before .before .before .before .before .year2 in
+    let at-byte = c .before .before .before .before .before .before .before .before .before .before .before .before .byte in
+    let at-byte2 = c .before .before .before .before .before .before .before .before .before .before .before .byte2 in
+    let at-byte3 = c .before .before .before .before .before .before .before .before .before .before .byte3 in
+    let at-byte4 = c .before .before .before .before .before .before .before .before .before .byte4 in
+    let at-short = c .before .before .before .before .before .before .before .before .short in
+    let at-byte5 = c .before .before .before .before .before .before .before .byte5 in
+    let at-fresh-of = c .before .before .before .before .fresh-of in
     rw (
-      sym (year .ensures) ∙ year2 .given .1,
-      sym (byte .ensures),
-      sym (byte2 .ensures),
-      sym (byte3 .ensures),
-      sym (byte4 .ensures),
-      sym (short .ensures),
-      sym (byte5 .ensures),
-    ) (c .before .before .fresh-of .ensures)
+      sym (at-year .ensures) ∙ at-year2 .given .1,
+      sym (at-byte .ensures),
+      sym (at-byte2 .ensures),
+      sym (at-byte3 .ensures),
+      sym (at-byte4 .ensures),
+      sym (at-short .ensures),
+      sym (at-byte5 .ensures),
+    ) (at-fresh-of .ensures)
 
 pub fresh-from-spec : {M : Type 1} → statement M
 fresh-from-spec =
@@ -85,4 +89,5 @@ fresh-from-spec =
     byte-requires-5
     fresh-of-requires
     same-length
+    same-length-2
     returns-2)

@@ -1,4 +1,4 @@
--- `fresh_of` meets its contract: image and answer are what `fresh_log` ensures; printing the number changes neither.
+-- `fresh_of` meets its contract: image, figures and answer are what `fresh_log` ensures; printing the number changes none of them.
 use Rattle.console_log.specs.Log.{newLog}
 use mathlib.Core.Path.{ap}
 use borrow.Author.Needs.{needs}
@@ -20,11 +20,14 @@ kept-after-requires c κs = search needs
 same-length : tie.Need-same-length
 same-length c = search needs
 
+same-length-2 : tie.Need-same-length-2
+same-length-2 c = search needs
+
 returns : tie.Need-returns
 returns c =
-    let args = c .before .before .before .before .before .before .before .before .args in
-    let fresh-log = c .before .before .before .before .before .fresh-log in
-    rw (c .kept-after .ensures) (ap (newLog (args .kept)) (fresh-log .ensures))
+    let at-args = c .before .before .before .before .before .before .before .before .before .before .before .before .args in
+    let at-fresh-log = c .before .before .before .before .before .before .before .fresh-log in
+    rw (c .kept-after .ensures) (ap (newLog (at-args .kept)) (at-fresh-log .ensures))
 
 pub fresh-of-spec : {M : Type 1} → statement M
 fresh-of-spec =
@@ -35,4 +38,5 @@ fresh-of-spec =
     number-line-requires
     kept-after-requires
     same-length
+    same-length-2
     returns)

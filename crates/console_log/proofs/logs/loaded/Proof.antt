@@ -1,4 +1,4 @@
--- `loaded` meets its contract: image and answer are what `read_file` ensures; printing the number changes neither.
+-- `loaded` meets its contract: image, figures and answer are what `read_file` ensures; printing the number changes none of them.
 use Rattle.console_log.specs.Log.{loadedLog}
 use mathlib.Core.Path.{ap}
 use borrow.Author.Needs.{needs}
@@ -20,11 +20,14 @@ kept-loaded-requires c κs = search needs
 same-length : tie.Need-same-length
 same-length c = search needs
 
+same-length-2 : tie.Need-same-length-2
+same-length-2 c = search needs
+
 returns : tie.Need-returns
 returns c =
-    let args = c .before .before .before .before .before .before .before .before .before .args in
-    let read-file = c .before .before .before .before .before .read-file in
-    rw (c .kept-loaded .ensures) (ap (loadedLog (args .kept)) (read-file .ensures))
+    let at-args = c .before .before .before .before .before .before .before .before .before .before .before .before .before .args in
+    let at-read-file = c .before .before .before .before .before .before .before .read-file in
+    rw (c .kept-loaded .ensures) (ap (loadedLog (at-args .kept)) (at-read-file .ensures))
 
 pub loaded-spec : {M : Type 1} → statement M
 loaded-spec =
@@ -35,4 +38,5 @@ loaded-spec =
     number-line-requires
     kept-loaded-requires
     same-length
+    same-length-2
     returns)

@@ -36,13 +36,17 @@ unread-requires c κs = search needs
 same-length : tie.Need-same-length
 same-length c = search needs
 
+same-length-2 : tie.Need-same-length-2
+same-length-2 c = search needs
+
 returns : tie.Need-returns
 unfolding replyLine replyIn replyOf
 returns c =
-    let reply-bytes = c .before .before .before .before .before .before .before .before .before .before .reply-bytes in
-    let n = c .before .before .before .before .before .before .before .n in
-    let part = c .before .before .before .before .part in
-    rw (sym (reply-bytes .ensures), n .given .1, sym (part .ensures)) (c .before .before .reply-of .ensures)
+    let at-reply-bytes = c .before .before .before .before .before .before .before .before .before .before .before .before .before .reply-bytes in
+    let at-n = c .before .before .before .before .before .before .before .before .before .before .n in
+    let at-part = c .before .before .before .before .before .before .before .part in
+    let at-reply-of = c .before .before .before .before .reply-of in
+    rw (sym (at-reply-bytes .ensures), at-n .given .1, sym (at-part .ensures)) (at-reply-of .ensures)
 
 returns-2 : tie.Need-returns-2
 unfolding replyLine replyIn replyOf
@@ -63,5 +67,6 @@ reply-spec =
     enum-told
     unread-requires
     same-length
+    same-length-2
     returns
     returns-2)

@@ -1,5 +1,6 @@
 -- `reply_of` meets its contract: the image was tested to have `length` bytes, so `take_reply` is lent that part, and what stands behind it stays.
 use Rattle.console_log.specs.Log.{replyOf, replyTaken}
+use Rattle.day_figures.specs.Both.{both}
 use borrow.Author.Tests.{lt-ltb, le-ltb}
 use lib.Seq.{length-take-le}
 use mathlib.Core.Path.{sym, ap}
@@ -29,13 +30,16 @@ say-taken-requires c κs = search needs
 same-length : tie.Need-same-length
 same-length c = search needs
 
+same-length-2 : tie.Need-same-length-2
+same-length-2 c = search needs
+
 returns-2 : tie.Need-returns-2
 unfolding replyOf
 returns-2 c =
-    let if1 = c .before .before .before .before .before .if1 in
-    let args = c .before .before .before .before .before .before .before .before .args in
-    let take-reply = c .before .before .before .take-reply in
-    rw (le-ltb _ _ (if1 .left)) (ap (replyTaken (args .image .now) (args .kept)) (take-reply .ensures))
+    let at-if1 = c .before .before .before .before .before .before .before .before .if1 in
+    let at-args = c .before .before .before .before .before .before .before .before .before .before .before .before .args in
+    let at-take-reply = c .before .before .before .before .before .take-reply in
+    rw (le-ltb _ _ (at-if1 .left)) (ap (replyTaken (both (at-args .image .now) (at-args .figures .now)) (at-args .kept)) (at-take-reply .ensures))
 
 pub reply-of-spec : {M : Type 1} → statement M
 reply-of-spec =
@@ -48,4 +52,5 @@ reply-of-spec =
     take-reply-requires
     say-taken-requires
     same-length
+    same-length-2
     returns-2)

@@ -1,13 +1,12 @@
--- `put_day` meets its contract: whether the lent log is sound is the case of `dayText`, and the date is that of its header's day.
-use Rattle.log.specs.View.{viewOf}
-use Rattle.log.specs.Header.{ifSound}
-use Rattle.log.specs.Interval.{dayDate}
-use Rattle.log.specs.declared.header.Lent.{Lent}
+-- `put_day` meets its contract: soundness and the number of figures are the cases of `dayText`, and what is copied of a day of the log is its row (`copied-on`).
+use Rattle.dayreport.proofs.DayLaws.{copied-on}
+use Rattle.dayreport.specs.Day.{zeros, dayOnText, dayText}
+use Rattle.day_figures.specs.Rows.{copied}
 use Rattle.log.specs.declared.interval.DayAnswer.{DayAnswer}
-use Rattle.refusal.specs.Outcome.{outcome}
-use Rattle.dayreport.specs.declared.answer.TextAnswer.the-variants.{Unsound}
-use Rattle.dayreport.specs.Day.{dayText, dayOnText}
-use mathlib.Core.Path.{sym, ap, _∙_}
+use borrow.Author.Tests.{le-leb, lt-leb}
+use lib.ListN.{length}
+use mathlib.Core.Path.{sym, ap, subst, _∙_}
+use Prim.Native.Nat.{ℕ, _≤_, _<_}
 use borrow.Author.Needs.{needs}
 use Rattle.dayreport.proofs.day.put_day.Statement.{statement}
 use Rattle.dayreport.proofs.day.put_day.Tie as tie
@@ -18,33 +17,48 @@ sound-requires c κs = search needs
 enum-known-h : tie.Need-enum-known-h
 enum-known-h c = search needs
 
+enum-told : tie.Need-enum-told
+enum-told c = search needs
+
+returns : tie.Need-returns
+unfolding dayText
+returns c = simp (sym (c .before .before .sound .ensures) ∙ c .enum-told .given .1)
+
+figures-of-requires : tie.Need-figures-of-requires
+figures-of-requires c κs = search needs
+
+returns-2 : tie.Need-returns-2
+unfolding dayText
+returns-2 c =
+    let at-sound = c .before .before .before .before .before .sound in
+    let at-h = c .before .before .before .h in
+    let at-args = c .before .before .before .before .before .before .before .before .before .args in
+    simp (sym (at-sound .ensures) ∙ at-h .given .1, lt-leb _ _ (subst (λ (n : ℕ). length (at-args .figures .now) < n) (c .before .figures-of .ensures) (c .if1 .taken)))
+
 date-of-requires : tie.Need-date-of-requires
 date-of-requires c κs = search needs
 
 put-day-on-requires : tie.Need-put-day-on-requires
 put-day-on-requires c κs = search needs
 
-enum-told : tie.Need-enum-told
-enum-told c = search needs
-
 same-length : tie.Need-same-length
 same-length c = search needs
 
-returns : tie.Need-returns
+returns-3 : tie.Need-returns-3
 unfolding dayText
-returns c =
-    let args = c .before .before .before .before .before .before .before .before .before .before .before .args in
-    let sound = c .before .before .before .before .before .before .before .before .sound in
-    let h = c .before .before .before .before .before .before .h in
-    let date-of = c .before .before .before .before .date-of in
-    c .before .before .put-day-on .ensures
-    ∙ ap (λ (a : DayAnswer). dayOnText a (viewOf (args .log .now)) (args .day) (args .out .now)) (date-of .ensures)
-    ∙ sym (ap (λ (a : Lent). ifSound a (outcome Unsound (args .out .now)) (λ g. dayOnText (dayDate g (args .day)) (viewOf (args .log .now)) (args .day) (args .out .now)))
-    (sym (sound .ensures) ∙ h .given .1))
-
-returns-2 : tie.Need-returns-2
-unfolding dayText
-returns-2 c = simp (sym (c .before .before .sound .ensures) ∙ c .enum-told .given .1)
+returns-3 c =
+    let at-args = c .before .before .before .before .before .before .before .before .before .before .before .before .before .before .args in
+    let at-figures-of = c .before .before .before .before .before .before .figures-of in
+    let at-if1 = c .before .before .before .before .before .if1 in
+    let at-sound = c .before .before .before .before .before .before .before .before .before .before .sound in
+    let at-h = c .before .before .before .before .before .before .before .before .h in
+    let at-date-of = c .before .before .before .before .date-of in
+    let figs = at-args .figures .now in
+    let enough = le-leb _ _ (subst (λ (n : ℕ). n ≤ length figs) (at-figures-of .ensures) (at-if1 .left)) in
+    simp (sym (at-sound .ensures) ∙ at-h .given .1, enough)
+    (c .before .before .put-day-on .ensures
+    ∙ ap (λ (a : DayAnswer). dayOnText a (copied figs (at-args .day) zeros) (at-args .out .now)) (at-date-of .ensures)
+    ∙ copied-on _ figs (at-args .day) (at-args .out .now) enough)
 
 pub put-day-spec : {M : Type 1} → statement M
 put-day-spec =
@@ -52,9 +66,11 @@ put-day-spec =
     (tie.spec
     sound-requires
     enum-known-h
+    enum-told
+    returns
+    figures-of-requires
+    returns-2
     date-of-requires
     put-day-on-requires
-    enum-told
     same-length
-    returns
-    returns-2)
+    returns-3)

@@ -1,6 +1,6 @@
 -- `write_numbers` meets its contract: the loop keeps that the numbers left, written at the next place, give all; it ends at the seventh.
 use Rattle.dayreport.proofs.TextLaws.{numbers-most, length-next, written-next}
-use Rattle.dayreport.specs.Report.{rowNumbers}
+use Rattle.day_figures.specs.Figures.{rowNumbers}
 use Rattle.dayreport.specs.Text.{numbersText, dateSize}
 use Rattle.text.specs.Decimal.{decimal}
 use Rattle.words.specs.Place.{written}

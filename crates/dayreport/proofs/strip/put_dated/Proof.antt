@@ -1,6 +1,6 @@
 -- `put_dated` meets its contract: what the walk says of the cells is the case of `stripDated` (`met-none`, `met-bad`).
 use mathlib.Core.Path.{sym, _∙_}
-use Rattle.dayreport.proofs.TalliesLaws.{met-none, met-bad}
+use Rattle.day_figures.proofs.TalliesLaws.{met-none, met-bad}
 use Rattle.dayreport.specs.Strip.{stripDated}
 use borrow.Author.Needs.{needs}
 use Rattle.dayreport.proofs.strip.put_dated.Statement.{statement}

@@ -1,5 +1,5 @@
 -- `put_marks` meets its contract: the loop keeps that the marks of the slots left, written at the next place, give all (`marks-on`).
-use Rattle.dayreport.proofs.TalliesLaws.{there-by}
+use Rattle.day_figures.proofs.TalliesLaws.{there-by}
 use Rattle.dayreport.proofs.StripLaws.{day-marks, marks-on, marks-end}
 use Rattle.dayreport.specs.Strip.{mark, marksAt, marksFrom}
 use Rattle.log.specs.Image.{cellAt}

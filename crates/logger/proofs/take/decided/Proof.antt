@@ -1,6 +1,6 @@
--- Each way out tells what the checks before it found, and with that the list of checks computes to what is returned.
-use mathlib.Core.Path.{sym, _∙_}
-use borrow.Author.Tests.{eq-eqb, ne-eqb}
+-- `decided` meets its contract: each check that fails is one of `decided`'s ways out, in its order, and a reply that passes them goes into its cell.
+use mathlib.Core.Path.{refl, sym, _∙_}
+use borrow.Author.Tests.{eq-eqb, ne-eqb, lt-leb, le-leb}
 use Rattle.logger.specs.Reply.{rowOf}
 use Rattle.logger.specs.Take.{decided}
 use borrow.Author.Needs.{needs}
@@ -20,10 +20,23 @@ stays-requires : tie.Need-stays-requires
 stays-requires c κs = search needs
 
 returns : tie.Need-returns
-unfolding decided
+unfolding decided rowOf
 returns c =
     let sound = c .before .before .before .sound in
-    c .stays .ensures ∙ simp (sym (sound .ensures) ∙ c .before .enum-told .given .1)
+    simp (c .stays .ensures, sym (sound .ensures) ∙ c .before .enum-told .given .1)
+
+figures-of-requires : tie.Need-figures-of-requires
+figures-of-requires c κs = search needs
+
+stays-requires-2 : tie.Need-stays-requires-2
+stays-requires-2 c κs = search needs
+
+returns-2 : tie.Need-returns-2
+unfolding decided rowOf
+returns-2 c =
+    let sound = c .before .before .before .before .before .before .sound in
+    let h = c .before .before .before .before .h in
+    rw (c .stays2 .ensures, sym (sound .ensures) ∙ h .given .1, sym (c .before .before .figures-of .ensures), lt-leb _ _ (c .before .if1 .taken)) refl
 
 enum-known-held : tie.Need-enum-known-held
 enum-known-held c = search needs
@@ -31,15 +44,17 @@ enum-known-held c = search needs
 enum-told-2 : tie.Need-enum-told-2
 enum-told-2 c = search needs
 
-stays-requires-2 : tie.Need-stays-requires-2
-stays-requires-2 c κs = search needs
+stays-requires-3 : tie.Need-stays-requires-3
+stays-requires-3 c κs = search needs
 
-returns-2 : tie.Need-returns-2
-unfolding decided
-returns-2 c =
-    let sound = c .before .before .before .before .before .before .sound in
-    let h = c .before .before .before .before .h in
-    c .stays2 .ensures ∙ simp (sym (sound .ensures) ∙ h .given .1, c .before .enum-told2 .given .1)
+returns-3 : tie.Need-returns-3
+unfolding decided rowOf
+returns-3 c =
+    let sound = c .before .before .before .before .before .before .before .before .sound in
+    let h = c .before .before .before .before .before .before .h in
+    let figures-of = c .before .before .before .before .figures-of in
+    let if1 = c .before .before .before .if1 in
+    rw (c .stays3 .ensures, sym (sound .ensures) ∙ h .given .1, sym (figures-of .ensures), le-leb _ _ (if1 .left), c .before .enum-told2 .given .1) refl
 
 interval-of-requires : tie.Need-interval-of-requires
 interval-of-requires c κs = search needs
@@ -50,22 +65,25 @@ enum-known-i c = search needs
 enum-told-3 : tie.Need-enum-told-3
 enum-told-3 c = search needs
 
-stays-requires-3 : tie.Need-stays-requires-3
-stays-requires-3 c κs = search needs
+stays-requires-4 : tie.Need-stays-requires-4
+stays-requires-4 c κs = search needs
 
-returns-3 : tie.Need-returns-3
-unfolding decided
-returns-3 c =
+returns-4 : tie.Need-returns-4
+unfolding decided rowOf
+returns-4 c =
+    let opened = c .before .before .before .before .before in
+    let sound = opened .before .before .before .before .before .before .before .sound in
+    let h = opened .before .before .before .before .before .h in
+    let figures-of = opened .before .before .before .figures-of in
+    let if1 = opened .before .before .if1 in
+    let held = opened .held in
     let interval-of = c .before .before .before .interval-of in
-    let ask = c .before .before .before .before .before in
-    let sound = ask .before .before .before .before .before .sound in
-    let h = ask .before .before .before .h in
-    c .stays3 .ensures
-    ∙ rw (
-      sym (sound .ensures) ∙ h .given .1,
-      ask .held .given .1,
-      sym (interval-of .ensures) ∙ c .before .enum-told3 .given .1,
-    )
+    let lent = sym (sound .ensures) ∙ h .given .1 in
+    let outside = sym (interval-of .ensures) ∙ c .before .enum-told3 .given .1 in
+    rw (c .stays4 .ensures, lent, sym (figures-of .ensures), le-leb _ _ (if1 .left), held .given .1, outside) refl
+
+comes-twice-requires : tie.Need-comes-twice-requires
+comes-twice-requires c κs = search needs
 
 form-of-requires : tie.Need-form-of-requires
 form-of-requires c κs = search needs
@@ -73,25 +91,26 @@ form-of-requires c κs = search needs
 enum-known-fault : tie.Need-enum-known-fault
 enum-known-fault c = search needs
 
-stays-requires-4 : tie.Need-stays-requires-4
-stays-requires-4 c κs = search needs
+stays-requires-5 : tie.Need-stays-requires-5
+stays-requires-5 c κs = search needs
 
-returns-4 : tie.Need-returns-4
-unfolding decided
-returns-4 c =
-    let fault = c .before .before in
-    let interval-of = fault .before .before .before .before .before .before .interval-of in
-    let i = fault .before .before .before .before .i in
-    let ask = fault .before .before .before .before .before .before .before .before in
-    let sound = ask .before .before .before .before .before .sound in
-    let h = ask .before .before .before .h in
-    c .stays4 .ensures
-    ∙ rw (
-      sym (sound .ensures) ∙ h .given .1,
-      ask .held .given .1,
-      sym (interval-of .ensures) ∙ i .given .1,
-      sym (fault .before .before .form-of .ensures) ∙ fault .fault .given .1,
-    )
+returns-5 : tie.Need-returns-5
+unfolding decided rowOf
+returns-5 c =
+    let opened = c .before .before .before .before .before .before .before .before .before .before .before in
+    let sound = opened .before .before .before .before .before .before .before .sound in
+    let h = opened .before .before .before .before .before .h in
+    let figures-of = opened .before .before .before .figures-of in
+    let if1 = opened .before .before .if1 in
+    let held = opened .held in
+    let interval-of = c .before .before .before .before .before .before .before .before .before .interval-of in
+    let i = c .before .before .before .before .before .before .before .i in
+    let form-of = c .before .before .before .before .form-of in
+    let fault = c .before .before .fault in
+    let lent = sym (sound .ensures) ∙ h .given .1 in
+    let index = sym (interval-of .ensures) ∙ i .given .1 in
+    let faulty = sym (form-of .ensures) ∙ fault .given .1 in
+    rw (c .stays5 .ensures, lent, sym (figures-of .ensures), le-leb _ _ (if1 .left), held .given .1, index, faulty) refl
 
 enum-told-4 : tie.Need-enum-told-4
 enum-told-4 c = search needs
@@ -102,117 +121,61 @@ byte-at-requires c κs = search needs
 closes-requires : tie.Need-closes-requires
 closes-requires c κs = search needs
 
-returns-5 : tie.Need-returns-5
-unfolding decided
-returns-5 c =
-    let form = c .before .before .before in
-    let interval-of = form .before .before .before .before .before .before .interval-of in
-    let i = form .before .before .before .before .i in
-    let ask = form .before .before .before .before .before .before .before .before in
-    let sound = ask .before .before .before .before .before .sound in
-    let h = ask .before .before .before .h in
-    c .closes .ensures
-    ∙ rw (
-      sym (sound .ensures) ∙ h .given .1,
-      ask .held .given .1,
-      sym (interval-of .ensures) ∙ i .given .1,
-      sym (form .before .before .form-of .ensures) ∙ form .enum-told4 .given .1,
-      sym (c .before .before .byte-at .ensures),
-      ne-eqb _ _ (c .before .if1 .taken),
-    )
-
-cell-at-requires : tie.Need-cell-at-requires
-cell-at-requires c κs = search needs
-
-enum-known-cell : tie.Need-enum-known-cell
-enum-known-cell c = search needs
-
-enum-told-5 : tie.Need-enum-told-5
-enum-told-5 c = search needs
-
-stays-requires-5 : tie.Need-stays-requires-5
-stays-requires-5 c κs = search needs
-
 returns-6 : tie.Need-returns-6
-unfolding decided
+unfolding decided rowOf
 returns-6 c =
-    let byte-at = c .before .before .before .before .before .byte-at in
-    let if1 = c .before .before .before .before .if1 in
-    let cell-at = c .before .before .before .cell-at in
-    let form = c .before .before .before .before .before .before in
-    let interval-of = form .before .before .before .before .before .before .interval-of in
-    let i = form .before .before .before .before .i in
-    let ask = form .before .before .before .before .before .before .before .before in
-    let sound = ask .before .before .before .before .before .sound in
-    let h = ask .before .before .before .h in
-    c .stays5 .ensures
-    ∙ rw (
-      sym (sound .ensures) ∙ h .given .1,
-      ask .held .given .1,
-      sym (interval-of .ensures) ∙ i .given .1,
-      sym (form .before .before .form-of .ensures) ∙ form .enum-told4 .given .1,
-      sym (byte-at .ensures),
-      eq-eqb _ _ (if1 .left),
-      sym (cell-at .ensures) ∙ c .before .enum-told5 .given .1,
-    )
+    let opened = c .before .before .before .before .before .before .before .before .before .before .before .before in
+    let sound = opened .before .before .before .before .before .before .before .sound in
+    let h = opened .before .before .before .before .before .h in
+    let figures-of = opened .before .before .before .figures-of in
+    let if1 = opened .before .before .if1 in
+    let held = opened .held in
+    let interval-of = c .before .before .before .before .before .before .before .before .before .before .interval-of in
+    let i = c .before .before .before .before .before .before .before .before .i in
+    let form-of = c .before .before .before .before .before .form-of in
+    let enum-told4 = c .before .before .before .enum-told4 in
+    let lent = sym (sound .ensures) ∙ h .given .1 in
+    let index = sym (interval-of .ensures) ∙ i .given .1 in
+    let formed = sym (form-of .ensures) ∙ enum-told4 .given .1 in
+    rw (c .closes .ensures, lent, sym (figures-of .ensures), le-leb _ _ (if1 .left), held .given .1, index, formed, sym (c .before .before .byte-at .ensures), ne-eqb _ _ (c .before .if2 .taken)) refl
 
-u16-at-requires : tie.Need-u16-at-requires
-u16-at-requires c κs = search needs
+into-cell-requires : tie.Need-into-cell-requires
+into-cell-requires c κs = search needs
 
-add-u16-at : tie.Need-add-u16-at
-add-u16-at c = search needs
-
-u16-at-requires-2 : tie.Need-u16-at-requires-2
-u16-at-requires-2 c κs = search needs
-
-add-u16-at-2 : tie.Need-add-u16-at-2
-add-u16-at-2 c = search needs
-
-u16-at-requires-3 : tie.Need-u16-at-requires-3
-u16-at-requires-3 c κs = search needs
-
-add-u16-at-3 : tie.Need-add-u16-at-3
-add-u16-at-3 c = search needs
-
-u16-at-requires-4 : tie.Need-u16-at-requires-4
-u16-at-requires-4 c κs = search needs
-
-update-of-requires : tie.Need-update-of-requires
-update-of-requires c κs = search needs
-
-updated-requires : tie.Need-updated-requires
-updated-requires c κs = search needs
+same-length : tie.Need-same-length
+same-length c = search needs
 
 returns-7 : tie.Need-returns-7
 unfolding decided rowOf
 returns-7 c =
-    let u16-at = c .before .before .before .before .before .u16-at in
-    let u16-at2 = c .before .before .before .before .u16-at2 in
-    let u16-at3 = c .before .before .before .u16-at3 in
-    let cell = c .before .before .before .before .before .before .before in
-    let byte-at = cell .before .before .before .before .byte-at in
-    let if1 = cell .before .before .before .if1 in
-    let form = cell .before .before .before .before .before in
-    let interval-of = form .before .before .before .before .before .before .interval-of in
-    let i = form .before .before .before .before .i in
-    let ask = form .before .before .before .before .before .before .before .before in
-    let sound = ask .before .before .before .before .before .sound in
-    let h = ask .before .before .before .h in
-    c .updated .ensures
+    let opened = c .before .before .before .before .before .before .before .before .before .before .before .before .before .before .before in
+    let sound = opened .before .before .before .before .before .before .before .sound in
+    let h = opened .before .before .before .before .before .h in
+    let figures-of = opened .before .before .before .figures-of in
+    let if1 = opened .before .before .if1 in
+    let held = opened .held in
+    let interval-of = c .before .before .before .before .before .before .before .before .before .before .before .before .before .interval-of in
+    let i = c .before .before .before .before .before .before .before .before .before .before .before .i in
+    let form-of = c .before .before .before .before .before .before .before .before .form-of in
+    let enum-told4 = c .before .before .before .before .before .before .enum-told4 in
+    let comes-twice = c .before .before .before .before .before .before .before .before .before .comes-twice in
+    let byte-at = c .before .before .before .before .before .byte-at in
+    let if2 = c .before .before .before .before .if2 in
+    let lent = sym (sound .ensures) ∙ h .given .1 in
+    let index = sym (interval-of .ensures) ∙ i .given .1 in
+    let formed = sym (form-of .ensures) ∙ enum-told4 .given .1 in
+    c .before .before .into-cell .ensures
     ∙ rw (
-      sym (sound .ensures) ∙ h .given .1,
-      ask .held .given .1,
-      sym (interval-of .ensures) ∙ i .given .1,
-      sym (form .before .before .form-of .ensures) ∙ form .enum-told4 .given .1,
+      lent,
+      sym (figures-of .ensures),
+      le-leb _ _ (if1 .left),
+      held .given .1,
+      index,
+      formed,
       sym (byte-at .ensures),
-      eq-eqb _ _ (if1 .left),
-      sym (cell .before .before .cell-at .ensures) ∙ cell .cell .given .1,
-      sym (u16-at .ensures),
-      sym (u16-at2 .ensures),
-      sym (u16-at3 .ensures),
-      sym (c .before .before .u16-at4 .ensures),
-      c .before .update-of .ensures,
-    )
+      eq-eqb _ _ (if2 .left),
+      comes-twice .ensures,
+    ) refl
 
 pub decided-spec : {M : Type 1} → statement M
 decided-spec =
@@ -223,35 +186,27 @@ decided-spec =
     enum-told
     stays-requires
     returns
-    enum-known-held
-    enum-told-2
+    figures-of-requires
     stays-requires-2
     returns-2
+    enum-known-held
+    enum-told-2
+    stays-requires-3
+    returns-3
     interval-of-requires
     enum-known-i
     enum-told-3
-    stays-requires-3
-    returns-3
-    form-of-requires
-    enum-known-fault
     stays-requires-4
     returns-4
+    comes-twice-requires
+    form-of-requires
+    enum-known-fault
+    stays-requires-5
+    returns-5
     enum-told-4
     byte-at-requires
     closes-requires
-    returns-5
-    cell-at-requires
-    enum-known-cell
-    enum-told-5
-    stays-requires-5
     returns-6
-    u16-at-requires
-    add-u16-at
-    u16-at-requires-2
-    add-u16-at-2
-    u16-at-requires-3
-    add-u16-at-3
-    u16-at-requires-4
-    update-of-requires
-    updated-requires
+    into-cell-requires
+    same-length
     returns-7)

@@ -6,8 +6,7 @@ use mathlib.Core.Path.{ap}
 use borrow.Author.Needs.{needs}
 use Rattle.refusal.specs.Outcome.{Outcome}
 use Rattle.log.specs.declared.fresh.FreshAnswer.{FreshAnswer}
-use mathlib.Core.List.{List}
-use Prim.Native.Nat.{ℕ}
+use Rattle.day_figures.specs.Both.{Both}
 use Rattle.metlazuel.proofs.log_calls.metlazuel_log_fresh.Statement.{statement}
 use Rattle.metlazuel.proofs.log_calls.metlazuel_log_fresh.Tie as tie
 
@@ -23,16 +22,19 @@ number-requires c κs = search needs
 same-length : tie.Need-same-length
 same-length c = search needs
 
+same-length-2 : tie.Need-same-length-2
+same-length-2 c = search needs
+
 returns : tie.Need-returns
 returns c =
-    let at-fresh-log = c .before .before .before .before .before in
-    let start = at-fresh-log .before .before .before in
+    let at-fresh-log = c .before .before .before .before .before .before .before in
+    let start = at-fresh-log .before .before .before .before .before in
     simp (
       c .number .ensures,
       c .before .image-length .ensures,
-    ) (ap (λ (o : Outcome FreshAnswer (List ℕ)). sized freshNumber imageLength o (start .args .length .now)) (at-fresh-log .fresh-log .ensures))
+    ) (ap (λ (o : Outcome FreshAnswer Both). sized freshNumber imageLength o (start .args .length .now)) (at-fresh-log .fresh-log .ensures))
 
 pub metlazuel-log-fresh-spec : {M : Type 1} → statement M
 metlazuel-log-fresh-spec =
     tie.close
-    (tie.spec fresh-log-requires image-length-requires number-requires same-length returns)
+    (tie.spec fresh-log-requires image-length-requires number-requires same-length same-length-2 returns)

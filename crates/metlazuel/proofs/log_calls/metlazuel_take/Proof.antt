@@ -1,6 +1,5 @@
 -- The bytes are an ask or none, and each case of `takeForC` is what the callees leave.
-use Prim.Native.Nat.{ℕ}
-use mathlib.Core.List.{List}
+use Rattle.day_figures.specs.Both.{Both}
 use Rattle.logger.specs.declared.take.Taken.{Taken}
 use Rattle.refusal.specs.Outcome.{Outcome}
 use mathlib.Core.Path.{sym, ap, _∙_}
@@ -49,16 +48,19 @@ same-length-2 c = search needs
 same-length-3 : tie.Need-same-length-3
 same-length-3 c = search needs
 
+same-length-4 : tie.Need-same-length-4
+same-length-4 c = search needs
+
 returns-2 : tie.Need-returns-2
 unfolding takeForC
 returns-2 c =
     let result-after = c .before .before .result-after in
     let put-left = c .before .before .before .before .before .before .put-left in
     let closed = c .before .before .before .before .before .before .before in
-    let taken = closed .before .before .before .before .before in
-    let known = taken .before .before .before in
+    let taken = closed .before .before .before .before .before .before .before in
+    let known = taken .before .before .before .before in
     let read = known .before .before in
-    let start = read .before .before .before .before .before .args in
+    let start = read .before .before .before .before .before .before .args in
     simp (
       sym (read .ask-of .ensures) ∙ known .held .given .1,
       c .received-after .ensures,
@@ -66,7 +68,7 @@ returns-2 c =
       put-left .ensures,
       closed .closes .ensures,
       closed .before .before .number .ensures,
-    ) (ap (λ (o : Outcome Taken (List ℕ)). takenForC o (start .reply .now) (start .result .now) (start .length .now) (start .ask .now)) (taken .take-reply .ensures))
+    ) (ap (λ (o : Outcome Taken Both). takenForC o (start .reply .now) (start .result .now) (start .length .now) (start .ask .now)) (taken .take-reply .ensures))
 
 pub metlazuel-take-spec : {M : Type 1} → statement M
 metlazuel-take-spec =
@@ -85,4 +87,5 @@ metlazuel-take-spec =
     received-after-requires
     same-length-2
     same-length-3
+    same-length-4
     returns-2)

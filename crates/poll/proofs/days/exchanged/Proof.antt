@@ -34,6 +34,9 @@ holding-requires c κs = search needs
 same-length : tie.Need-same-length
 same-length c = search needs
 
+same-length-2 : tie.Need-same-length-2
+same-length-2 c = search needs
+
 returns : tie.Need-returns
 returns c = search needs
 
@@ -54,5 +57,6 @@ exchanged-spec =
     ends-requires
     holding-requires
     same-length
+    same-length-2
     returns
     returns-2)

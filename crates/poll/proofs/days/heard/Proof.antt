@@ -18,8 +18,13 @@ holding-requires c κs = search needs
 same-length : tie.Need-same-length
 same-length c = search needs
 
+same-length-2 : tie.Need-same-length-2
+same-length-2 c = search needs
+
 returns : tie.Need-returns
-returns c = let settled = c .before .before .before .before .before .settled in rw (c .holding .ensures) (settled .ensures .1)
+returns c =
+    let at-settled = c .before .before .before .before .before .before .before .settled in
+    rw (c .holding .ensures) (at-settled .ensures .1)
 
 pub heard-spec : {M : Type 1} → statement M
 heard-spec =
@@ -30,4 +35,5 @@ heard-spec =
     followed-requires
     holding-requires
     same-length
+    same-length-2
     returns)

@@ -1,4 +1,5 @@
 -- An ask leaves the log and the ask that it answers; one that was made leads on to the exchange.
+use Rattle.day_figures.specs.Both.{both}
 use Rattle.polling.proofs.ReachedLaws.{asks, onward}
 use borrow.Author.Needs.{needs}
 use Rattle.poll.proofs.days.one_ask.Statement.{statement}
@@ -40,18 +41,26 @@ holding-requires c κs = search needs
 same-length : tie.Need-same-length
 same-length c = search needs
 
-returns : tie.Need-returns
-returns c =
-    let ask = c .before .before .before .before .before .before .before .before in
-    onward (asks _ _ _ _ _ _ _ (ask .put-ask .result) (ask .put-ask .ensures)) (c .before .before .exchanged .ensures)
-
 same-length-2 : tie.Need-same-length-2
 same-length-2 c = search needs
 
+returns : tie.Need-returns
+returns c =
+    let at-args = c .before .before .before .before .before .before .before .before .before .before .before .before .before .before .before .before .before .before .before .before .before .args in
+    let at-put-ask = c .before .before .before .before .before .before .before .before .before .before .before .put-ask in
+    let at-exchanged = c .before .before .before .before .exchanged in
+    onward
+    (asks (both (at-args .image .now) (at-args .figures .now)) _ _ _ _ _ _ (at-put-ask .result) (at-put-ask .ensures)) (at-exchanged .ensures)
+
+same-length-3 : tie.Need-same-length-3
+same-length-3 c = search needs
+
 returns-2 : tie.Need-returns-2
 returns-2 c =
-    let ask = c .before .before .before .before .before .before .before in
-    rw (c .holding .ensures) (asks _ _ _ _ _ _ _ (ask .put-ask .result) (ask .put-ask .ensures))
+    let at-args = c .before .before .before .before .before .before .before .before .before .before .before .before .before .before .before .before .before .args in
+    let at-put-ask = c .before .before .before .before .before .before .before .put-ask in
+    rw (c .holding .ensures)
+    (asks (both (at-args .image .now) (at-args .figures .now)) _ _ _ _ _ _ (at-put-ask .result) (at-put-ask .ensures))
 
 pub one-ask-spec : {M : Type 1} → statement M
 one-ask-spec =
@@ -69,6 +78,7 @@ one-ask-spec =
     ends-requires
     holding-requires
     same-length
-    returns
     same-length-2
+    returns
+    same-length-3
     returns-2)

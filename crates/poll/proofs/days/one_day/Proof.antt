@@ -19,12 +19,19 @@ holding-requires : tie.Need-holding-requires
 holding-requires c κs = search needs
 
 same-length : tie.Need-same-length
-same-length c = search needs
+same-length c =
+    let at-image = c .before .before .before .before .before .before .before .before .before .before .image in
+    at-image .given
+
+same-length-2 : tie.Need-same-length-2
+same-length-2 c =
+    let at-figures = c .before .before .before .before .before .before .before .before .figures in
+    at-figures .given
 
 returns : tie.Need-returns
 returns c =
-    let asks = c .before .before .before .before .before .before .before .before .before .asks in
-    rw (c .holding .ensures) (asks .ensures)
+    let at-asks = c .before .before .before .before .before .before .before .before .before .before .before .asks in
+    rw (c .holding .ensures) (at-asks .ensures)
 
 pub one-day-spec : {M : Type 1} → statement M
 one-day-spec =
@@ -36,4 +43,5 @@ one-day-spec =
     behind-requires
     holding-requires
     same-length
+    same-length-2
     returns)

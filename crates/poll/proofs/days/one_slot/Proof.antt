@@ -28,6 +28,9 @@ passed-over-requires-2 c κs = search needs
 same-length : tie.Need-same-length
 same-length c = search needs
 
+same-length-2 : tie.Need-same-length-2
+same-length-2 c = search needs
+
 returns : tie.Need-returns
 returns c = search needs
 
@@ -49,6 +52,7 @@ one-slot-spec =
     enum-told-3
     passed-over-requires-2
     same-length
+    same-length-2
     returns
     returns-2
     returns-3)

@@ -11,13 +11,22 @@ settle-requires c κs = search needs
 same-length : tie.Need-same-length
 same-length c = search needs
 
+same-length-2 : tie.Need-same-length-2
+same-length-2 c = search needs
+
 returns : tie.Need-returns
 returns c =
-    let call = c .before .before in
-    let known = call .before .before in
-    let args = known .before .before .args in
-    let reached = settles _ _ (args .reply .now) _ (call .settle .result) (λ i. omega (arith, known .shared-slice-known .given i)) (call .settle .ensures) in
-    (call .settle .ensures, reached)
+    let at-args = c .before .before .before .before .before .before .before .before .before .before .args in
+    let at-settle = c .before .before .before .before .settle in
+    let at-shared-slice-known = c .before .before .before .before .before .before .before .shared-slice-known in
+    let reached = settles _ _ (at-args .reply .now) _ (at-settle .result) (λ i. omega (arith, at-shared-slice-known .given i)) (at-settle .ensures) in
+    (at-settle .ensures, reached)
 
 pub settled-spec : {M : Type 1} → statement M
-settled-spec = tie.close (tie.spec settle-requires same-length returns)
+settled-spec =
+    tie.close
+    (tie.spec
+    settle-requires
+    same-length
+    same-length-2
+    returns)

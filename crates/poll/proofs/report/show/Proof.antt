@@ -5,10 +5,10 @@ use Rattle.poll.proofs.report.show.Statement.{statement}
 use Rattle.poll.proofs.report.show.Tie as tie
 
 abbrev Inv-loop : tie.InvT-loop
-Inv-loop terminal path image from end day₀ day = from ≤ day
+Inv-loop terminal path image figures from end day₀ day = from ≤ day
 
 abbrev μ-loop : tie.MeasureT-loop
-μ-loop terminal path image from end day₀ day = end - day
+μ-loop terminal path image figures from end day₀ day = end - day
 
 slice-aggregate-put-heading : tie.Need-slice-aggregate-put-heading Inv-loop μ-loop
 slice-aggregate-put-heading c = search needs

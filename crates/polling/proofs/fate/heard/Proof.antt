@@ -1,6 +1,6 @@
 -- Nothing heard is the clause for no bytes; else the reply was taken, and its answer is the fate.
-use mathlib.Core.Path.{sym, _∙_}
 use Rattle.polling.proofs.FateLaws.{heard-nothing, heard-some}
+use mathlib.Core.Path.{sym}
 use borrow.Author.Needs.{needs}
 use Rattle.polling.proofs.fate.heard.Statement.{statement}
 use Rattle.polling.proofs.fate.heard.Tie as tie
@@ -17,12 +17,16 @@ fate-of-requires c κs = search needs
 same-length : tie.Need-same-length
 same-length c = search needs
 
+same-length-2 : tie.Need-same-length-2
+same-length-2 c = search needs
+
 returns-2 : tie.Need-returns-2
 returns-2 c =
-    let if1 = c .before .before .before .before .before .if1 in
-    let take-reply = c .before .before .before .take-reply in
-    simp (c .fate-of .ensures) (heard-some _ _ _ _ _ (if1 .left) (take-reply .ensures))
+    let at-if1 = c .before .before .before .before .before .before .before .before .if1 in
+    let at-take-reply = c .before .before .before .before .before .take-reply in
+    simp (c .fate-of .ensures) (heard-some _ _ _ _ _ (at-if1 .left) (at-take-reply .ensures))
 
 pub heard-spec : {M : Type 1} → statement M
 heard-spec =
-    tie.close (tie.spec returns take-reply-requires fate-of-requires same-length returns-2)
+    tie.close
+    (tie.spec returns take-reply-requires fate-of-requires same-length same-length-2 returns-2)

@@ -29,12 +29,12 @@ unfolding readLine imageIn
 returns c =
     let number = c .before .before .before .before .before .before .before .number in
     let if1 = c .before .before .before .before .before .before .if1 in
-    let args = c .before .before .before .before .before .before .before .before .before .before .args in
+    let args = c .before .before .before .before .before .before .before .before .before .before .before .args in
     let front = c .before .before .before .before .front in
     let length-or = c .before .before .before .before .before .length-or in
     simp (eq-eqb _ _ (sym (number .ensures) ∙ if1 .taken))
     (c .before .before .put-report-line .ensures
-    ∙ ap (λ (x : List ℕ). reportLine x (args .i) (args .out .now))
+    ∙ ap (λ (x : List ℕ). reportLine x (args .figures .now) (args .i) (args .out .now))
     (front .ensures ∙ ap (λ (n : ℕ). take n (args .room .now)) (length-or .ensures)))
 
 put-refused-line-requires : tie.Need-put-refused-line-requires
@@ -48,7 +48,7 @@ unfolding readLine
 returns-2 c =
     let number = c .before .before .before .before .before .number in
     let if1 = c .before .before .before .before .if1 in
-    let args = c .before .before .before .before .before .before .before .before .args in
+    let args = c .before .before .before .before .before .before .before .before .before .args in
     simp (ne-eqb _ _ (λ e. if1 .left (number .ensures ∙ e)))
     (c .before .before .put-refused-line .ensures ∙ ap (λ (k : ℕ). refusedLine k (args .i) (args .out .now)) (number .ensures))
 

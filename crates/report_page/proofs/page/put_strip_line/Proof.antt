@@ -1,9 +1,10 @@
 -- `put_strip_line` meets its contract: the strip is that of the image that `readFile` gave, at the front of the room for it.
-use Rattle.report_page.specs.Page.{imageIn, room, stripLine}
+use Rattle.report_page.specs.Page.{imageIn, room, figuresRoom, stripLine}
 use Rattle.log.specs.View.{viewOf}
 use Rattle.logfile.specs.declared.read.ReadAnswer.{ReadAnswer}
 use Rattle.dayreport.specs.Strip.{stripText}
 use Rattle.refusal.specs.Outcome.{Outcome}
+use Rattle.day_figures.specs.Both.{Both}
 use lib.ListN.{take}
 use mathlib.Core.Path.{ap, _∙_}
 use mathlib.Core.List.{List}
@@ -14,6 +15,9 @@ use Rattle.report_page.proofs.page.put_strip_line.Tie as tie
 
 slice-aggregate-read-file : tie.Need-slice-aggregate-read-file
 slice-aggregate-read-file c = search needs
+
+slice-aggregate-read-file-2 : tie.Need-slice-aggregate-read-file-2
+slice-aggregate-read-file-2 c = search needs
 
 read-file-requires : tie.Need-read-file-requires
 read-file-requires c κs = search needs
@@ -34,22 +38,23 @@ same-length : tie.Need-same-length
 same-length c = search needs
 
 returns : tie.Need-returns
-unfolding stripLine imageIn room
+unfolding stripLine imageIn room figuresRoom
 returns c =
-    let at-args = c .before .before .before .before .before .before .before .before .before .before .before .before .args in
+    let at-args = c .before .before .before .before .before .before .before .before .before .before .before .before .before .before .args in
     let at-front = c .before .before .before .before .front in
-    let at-read-file = c .before .before .before .before .before .before .before .before .read-file in
+    let at-read-file = c .before .before .before .before .before .before .before .before .before .read-file in
     let at-length-or = c .before .before .before .before .before .length-or in
     c .before .before .put-strip .ensures
     ∙ ap (λ (x : List ℕ). stripText (viewOf x) (at-args .day) (at-args .out .now))
     (at-front .ensures ∙ ap (λ (n : ℕ). take n (at-read-file .last .1 .0)) (at-length-or .ensures))
-    ∙ ap (λ (o : Outcome ReadAnswer (List ℕ)). stripText (viewOf (imageIn (o .result) (o .left))) (at-args .day) (at-args .out .now)) (at-read-file .ensures)
+    ∙ ap (λ (o : Outcome ReadAnswer Both). stripText (viewOf (imageIn (o .result) (o .left .log))) (at-args .day) (at-args .out .now)) (at-read-file .ensures)
 
 pub put-strip-line-spec : {M : Type 1} → statement M
 put-strip-line-spec =
     tie.close
     (tie.spec
     slice-aggregate-read-file
+    slice-aggregate-read-file-2
     read-file-requires
     slice-aggregate-front
     length-or-requires

@@ -1,0 +1,111 @@
+-- Document 02, CR 8: what becomes of the figures, by the laws of the crates below.
+use mathlib.Core.Path.{_≡_, refl, sym, ap, subst, _∙_}
+use mathlib.Core.Bool.{true, not, _&&_}
+use mathlib.Core.List.{List, [], _∷_}
+use Prim.Native.Nat.{ℕ, zero, suc, _≤_, _<_}
+use native.Mathlib.Omega.{arith}
+use lib.Dec.{eqb, ltb}
+use lib.ListN.{length, getD}
+use borrow.Author.Tests.{le-leb, lt-ltb}
+use Rattle.case_laws.proofs.Test.{either}
+use Rattle.refusal.specs.Outcome.{Outcome, outcome}
+use Rattle.words.specs.Place.{written}
+use Rattle.frame.specs.Layout.{readSize}
+use Rattle.log.specs.Header.{soundOf}
+use Rattle.log.specs.Interval.{intervalOf}
+use Rattle.log.specs.View.{viewOf}
+use Rattle.log.proofs.IntervalLaws.{by-at}
+use Rattle.log.specs.declared.header.Header.{Header}
+use Rattle.log.specs.declared.header.Lent.{Lent}
+use Rattle.log.specs.declared.header.Lent.the-variants.{Sound}
+use Rattle.reader.specs.declared.form.Fault.{Fault}
+use Rattle.reader.specs.declared.form.Fault.the-variants as fault
+use Rattle.day_figures.specs.Both.{Both, enough}
+use Rattle.day_figures.specs.Figures.{rowNumbers}
+use Rattle.day_figures.specs.Rows.{rowAt, walked, Right}
+use Rattle.day_figures.proofs.RowsLaws.{right-enough}
+use Rattle.dayreport.specs.Report.{reportOf}
+use Rattle.dayreport.specs.declared.report.ReportAnswer.the-variants as report
+use Rattle.logger.specs.Book.{Call, ask, lapse, reply, Answer, Book, plain, faultAnswer, keptAnswer, First, none, counts, firstOf, alike, isZero, placeOf}
+use Rattle.logger.specs.Book.{keepReply, bookReply, bookAsk, bookLapse, bookStep, bookRun, runOf, AllBytes}
+use Rattle.logger.specs.Reply.{sliceForm, resultOf, Row, rowOf}
+use Rattle.logger.specs.Run.{State, run}
+use Rattle.logger.proofs.FigureLaws.{Faithful, run-faithful}
+use Rattle.logger.proofs.TakeLaws.{by-none, by-open, by-form, by-ok}
+use Rattle.polling.specs.Reached.{Polled}
+use Rattle.demands.specs.Demand3.{Start, begin, ran}
+use Rattle.demands.proofs.History.{start-faithful, answers}
+
+-- ---- right
+
+faithful : (b : Both) (start : Start b) (calls : List Call) → AllBytes calls → Faithful (start .header) (ran b calls .left)
+faithful b start calls k = run-faithful (start .header) calls (begin b) k (start-faithful start)
+
+pub kept : (b : Both) (start : Start b) (calls : List Call) → AllBytes calls → let s = ran b calls .left in
+    Right (start .header) (viewOf (s .log) .cell) (s .figures)
+kept b start calls k = faithful b start calls k .right
+
+-- the report of a day whose figures are lent
+copies : (h : Header) (figs : List ℕ) (d : ℕ) (row : List ℕ) → d < h .days → rowNumbers ≤ length row → enough h figs ≡ true
+    → reportOf (Sound h) figs d row ≡ outcome report.Done (written row 0 (rowAt figs d))
+unfolding reportOf
+copies h figs d row l m e = simp (le-leb _ _ m, e, lt-ltb d (h .days) l)
+
+pub reported : (b : Both) (start : Start b) (calls : List Call) → AllBytes calls → let s = ran b calls .left in
+    (d : ℕ) (row : List ℕ) → d < start .header .days → rowNumbers ≤ length row
+    → reportOf (soundOf (s .log)) (s .figures) d row ≡ outcome report.Done (written row 0 (walked (start .header) (viewOf (s .log) .cell) d))
+reported b start calls k d row l m =
+    let h = start .header in
+    let s = ran b calls .left in
+    let f = faithful b start calls k in
+    let right = f .right in
+    ap (λ (x : Lent). reportOf x (s .figures) d row) (f .sound)
+    ∙ copies h (s .figures) d row l m (right-enough h (viewOf (s .log) .cell) (s .figures) right)
+    ∙ ap (λ (x : List ℕ). outcome report.Done (written row 0 x)) (right .rows d l)
+
+pub polled : (b : Both) (start : Start b) (c : Both) → Polled b c → Right (start .header) (viewOf (c .log) .cell) (c .figures)
+polled b start c p =
+    let r = p .reached in
+    subst (λ (s : State). Right (start .header) (viewOf (s .log) .cell) (s .figures)) (r .leads) (kept b start (r .calls) (r .bytes))
+
+-- ---- 28 is none of the book's answers
+
+abbrev Not28 : Answer → Type 0
+Not28 a = a .number ≡ 28 → ⊥
+
+abbrev Passes : Outcome Answer Book → Type 0
+Passes e = Not28 (e .result)
+
+fault-not : (f : Fault) → Not28 (faultAnswer f)
+fault-not (fault.Length n) e = omega (arith, e)
+fault-not fault.Crc e = omega (arith, e)
+fault-not fault.Address e = omega (arith, e)
+fault-not fault.Function e = omega (arith, e)
+fault-not fault.Parameter e = omega (arith, e)
+
+kept-not : (f : First) (r : Row) → Not28 (plain (keptAnswer f r))
+kept-not none r = λ e. omega (arith, e)
+kept-not (counts q) r = either (λ (n : ℕ). n ≡ 28 → ⊥) (not (isZero r) && not (alike q r)) {x = 25} {y = 0} (λ e. omega (arith, e)) (λ e. omega (arith, e))
+
+step-not : (h : Header) (b : Book) (c : Call) → Passes (bookStep h b c)
+unfolding bookStep bookAsk bookLapse bookReply keepReply
+step-not h b (ask address day slot out) =
+    either Passes (ltb (length out) readSize) (λ e. omega (arith, e)) (
+    by-none Passes (b .held) (λ a d t o e. omega (arith, e)) (λ o.
+    by-at Passes (intervalOf h day slot) (λ n e. omega (arith, e)) (λ i n e. omega (arith, e))))
+step-not h b lapse = by-open Passes (b .held) (λ o e. omega (arith, e)) (λ a d t o e. omega (arith, e))
+step-not h b (reply y) =
+    by-open Passes (b .held) (λ o e. omega (arith, e)) (λ a d t o.
+    by-form Passes (sliceForm a y) (λ f n. fault-not f) (λ n.
+    by-ok Passes (resultOf y) (λ n e. omega (arith, e)) (λ n. kept-not (firstOf (b .kept (placeOf h d t))) (rowOf y))))
+
+book-not : (h : Header) (b : Book) (calls : List Call) (k : ℕ) → Not28 (getD (bookRun h b calls .result) k (plain 0))
+unfolding runOf
+book-not h b [] zero = λ e. omega (arith, e)
+book-not h b [] (suc k) = λ e. omega (arith, e)
+book-not h b (c ∷ calls) zero = step-not h b c
+book-not h b (c ∷ calls) (suc k) = book-not h (bookStep h b c .left) calls k
+
+pub never-28 : (b : Both) (start : Start b) (calls : List Call) → AllBytes calls → (k : ℕ) → getD (ran b calls .result) k (plain 0) .number ≡ 28 → ⊥
+never-28 b start calls all k =
+    subst (λ (xs : List Answer). Not28 (getD xs k (plain 0))) (sym (answers b start calls all)) (book-not (start .header) _ calls k)
