@@ -48,6 +48,9 @@ uint8_t c_read_file(c_crc *crc, const uint8_t *f, size_t n, uint8_t *out, size_t
 uint8_t c_write_file(c_crc *crc, const uint8_t *log, size_t n, uint8_t *out, size_t room, size_t *length);
 uint8_t c_take(c_crc *crc, uint8_t *log, size_t n, uint32_t *figures, size_t numbers, uint8_t *ask, size_t size, const uint8_t *reply,
                size_t bytes, uint8_t *result, size_t *length);
+uint8_t c_log_fresh(uint8_t *log, size_t room, uint32_t *figures, size_t numbers, uint8_t year, uint8_t month, uint8_t day, uint8_t days,
+                    uint8_t minutes, uint16_t ke, uint8_t seasons, size_t *length);
+uint8_t c_cell(const uint8_t *log, size_t n, uint8_t day, uint8_t slot, uint8_t *kind, uint16_t *counts, uint8_t *lapses);
 uint8_t c_lapse(uint8_t *log, size_t n, uint8_t *ask, size_t size);
 
 // A day's report by its row of the figures, and by a walk over its cells without them.

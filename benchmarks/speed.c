@@ -8,11 +8,14 @@
 #include "metlazuel.h"
 #include "plain.h"
 
-enum { DAYS = 62, SLOTS = 96, CELL = 10, OLD_ROW = 9, IMAGE = 14 + CELL * DAYS * SLOTS, FULL = IMAGE + 2 };
+// A file's bytes: header, a row for each cell, CRC; and those of its image: header, kinds, counts by column, lapses.
+enum { DAYS = 62, SLOTS = 96, CELLS = DAYS * SLOTS, HEADER = 14, ROW_BYTES = 10, OLD_ROW = 9, ROW_LAPSES = 9, SEALED = HEADER + ROW_BYTES * CELLS };
+enum { FULL = SEALED + 2, COUNTS = HEADER + CELLS / 4, LAPSES = COUNTS + 8 * CELLS, IMAGE = LAPSES + CELLS };
+_Static_assert((size_t)IMAGE == METLAZUEL_LOG_BYTES && (size_t)FULL == METLAZUEL_FILE_BYTES, "the longest log and its file");
 
 // ---- the input
 
-static uint8_t file[FULL + 1], ours_out[FULL], c_out[FULL];
+static uint8_t file[FULL + 1], image[IMAGE + 1], ours_out[FULL + 1], c_out[FULL + 1];
 
 // The file's figures, and room for those of the two outputs and a row more.
 static uint32_t figures[METLAZUEL_DAY_FIGURES], ours_figures[METLAZUEL_DAY_FIGURES + METLAZUEL_ROW], c_figures[METLAZUEL_DAY_FIGURES + METLAZUEL_ROW];
@@ -29,9 +32,38 @@ static uint32_t roll(void)
 
 static void seal(void)
 {
-    unsigned crc = c_crc_words(file, IMAGE);
-    file[IMAGE] = (uint8_t)crc;
-    file[IMAGE + 1] = (uint8_t)(crc >> 8);
+    unsigned crc = c_crc_words(file, SEALED);
+    file[SEALED] = (uint8_t)crc;
+    file[SEALED + 1] = (uint8_t)(crc >> 8);
+}
+
+// Cell by cell, as document 02 has the image: for input alone.
+static void put_kind(uint8_t *to, size_t i, unsigned kind)
+{
+    to[HEADER + i / 4] = (uint8_t)((to[HEADER + i / 4] & ~(3u << 2 * (i % 4))) | kind << 2 * (i % 4));
+}
+
+static void columns_of(const uint8_t *from, uint8_t *to, size_t cells)
+{
+    memcpy(to, from, HEADER);
+    for (size_t i = 0; i < cells; i++) {
+        const uint8_t *row = from + HEADER + ROW_BYTES * i;
+        put_kind(to, i, row[0]);
+        for (size_t k = 0; k < 4; k++)
+            memcpy(to + HEADER + cells / 4 + 2 * (k * cells + i), row + 1 + 2 * k, 2);
+        to[HEADER + cells / 4 + 8 * cells + i] = row[ROW_LAPSES];
+    }
+}
+
+static void make_image(void)
+{
+    columns_of(file, image, CELLS);
+}
+
+// A cell's count in one of the image's columns.
+static uint8_t *count_of(size_t i, size_t column)
+{
+    return image + COUNTS + 2 * (column * CELLS + i);
 }
 
 // 62 days of 15 minutes from 2024-05-17, Ke 100, with the seasons followed: an eighth gaps, an eighth empty, the rest measured, as the last
@@ -41,18 +73,19 @@ static void make_file(void)
     static const uint8_t head[14] = {'G', 'E', 'L', 3, 0, 24, 5, 17, DAYS, 15, 100, 0, 1, 0};
     memset(file, 0, sizeof file);
     memcpy(file, head, sizeof head);
-    for (size_t i = 0; i < DAYS * SLOTS; i++) {
-        uint8_t *p = file + 14 + CELL * i;
-        unsigned kind = i + 1 < DAYS * SLOTS ? roll() % 8 : 2;
+    for (size_t i = 0; i < CELLS; i++) {
+        uint8_t *p = file + HEADER + ROW_BYTES * i;
+        unsigned kind = i + 1 < CELLS ? roll() % 8 : 2;
         p[0] = kind < 2 ? (uint8_t)kind : 2;
         if (p[0] == 2) {
             for (int k = 1; k < 9; k++)
                 p[k] = (uint8_t)roll();
             p[1] |= 1;
         }
-        p[9] = roll() % 4 == 0 ? (uint8_t)roll() : 0;
+        p[ROW_LAPSES] = roll() % 4 == 0 ? (uint8_t)roll() : 0;
     }
     seal();
+    make_image();
 }
 
 // A meter at address 1 with slices of 15 minutes, and a full store: 31 days of May in turn, so the last place holds 31 May, slot 95.
@@ -123,11 +156,11 @@ static void same_read(size_t n, size_t room)
 static void same_older(uint8_t version)
 {
     static uint8_t older[FULL];
-    size_t n = 14;
-    memcpy(older, file, 14);
+    size_t n = HEADER;
+    memcpy(older, file, HEADER);
     older[3] = version;
-    for (size_t i = 0; i < DAYS * SLOTS; i++, n += OLD_ROW)
-        memcpy(older + n, file + 14 + CELL * i, OLD_ROW);
+    for (size_t i = 0; i < CELLS; i++, n += OLD_ROW)
+        memcpy(older + n, file + HEADER + ROW_BYTES * i, OLD_ROW);
     unsigned crc = c_crc_words(older, n);
     older[n] = (uint8_t)crc;
     older[n + 1] = (uint8_t)(crc >> 8);
@@ -143,8 +176,8 @@ static void same_report_in(size_t n, size_t numbers, unsigned day, size_t room)
     uint32_t ours[METLAZUEL_ROW + 1], c[METLAZUEL_ROW + 1];
     memset(ours, 0xEE, sizeof ours);
     memset(c, 0xEE, sizeof c);
-    uint8_t a = metlazuel_day_report(file, n, figures, numbers, (uint8_t)day, ours, room);
-    uint8_t b = c_day_report(file, n, figures, numbers, (uint8_t)day, c, room);
+    uint8_t a = metlazuel_day_report(image, n, figures, numbers, (uint8_t)day, ours, room);
+    uint8_t b = c_day_report(image, n, figures, numbers, (uint8_t)day, c, room);
     if (a != b || memcmp(ours, c, sizeof c) != 0)
         differ("report");
     compared++;
@@ -275,27 +308,27 @@ static void same_write(size_t n, size_t room)
     size_t ours = 7, c = 7;
     memset(ours_out, 0xEE, sizeof ours_out);
     memset(c_out, 0xEE, sizeof c_out);
-    uint8_t a = metlazuel_write_file(file, n, ours_out, room, &ours), b = c_write_file(c_crc_fold, file, n, c_out, room, &c);
+    uint8_t a = metlazuel_write_file(image, n, ours_out, room, &ours), b = c_write_file(c_crc_fold, image, n, c_out, room, &c);
     if (a != b || ours != c || memcmp(ours_out, c_out, sizeof c_out) != 0)
         differ("write");
     compared++;
     refused += a != 0;
 }
 
-// A reply to an open ask, into two copies of the file's image and of its figures.
+// A reply to an open ask, into two copies of the image and of its figures.
 static void same_take_in(size_t n, size_t numbers, const uint8_t *open, size_t size, const uint8_t *reply, size_t bytes)
 {
     uint8_t a[5], b[5], ours = 7, c = 7;
     size_t ours_length = 99, c_length = 99;
     memcpy(a, open, sizeof a);
     memcpy(b, open, sizeof b);
-    memcpy(ours_out, file, IMAGE);
-    memcpy(c_out, file, IMAGE);
+    memcpy(ours_out, image, sizeof image);
+    memcpy(c_out, image, sizeof image);
     memcpy(ours_figures, figures, sizeof figures);
     memcpy(c_figures, figures, sizeof figures);
     uint8_t x = metlazuel_take(ours_out, n, ours_figures, numbers, a, size, reply, bytes, &ours, &ours_length);
     uint8_t y = c_take(c_crc_appendix, c_out, n, c_figures, numbers, b, size, reply, bytes, &c, &c_length);
-    if (x != y || ours != c || ours_length != c_length || memcmp(a, b, sizeof a) != 0 || memcmp(ours_out, c_out, IMAGE) != 0)
+    if (x != y || ours != c || ours_length != c_length || memcmp(a, b, sizeof a) != 0 || memcmp(ours_out, c_out, sizeof image) != 0)
         differ("take");
     if (memcmp(ours_figures, c_figures, sizeof figures) != 0)
         differ("take's figures");
@@ -312,13 +345,13 @@ static void same_take(const uint8_t *open, size_t size, const uint8_t *reply, si
 static void compare_figures(void)
 {
     static const uint32_t ends[] = {0, 1, UINT32_MAX - 1, UINT32_MAX};
-    uint8_t ask[5] = {1, 1, 30, 7, 0x55}, r[14] = {1, 3, 36, 0}, *cell = file + 14 + CELL * (30 * SLOTS + 7), was[CELL];
-    memcpy(was, cell, CELL);
+    static const size_t cell = 30 * SLOTS + 7;
+    uint8_t ask[5] = {1, 1, 30, 7, 0x55}, r[14] = {1, 3, 36, 0};
     for (unsigned kind = 0; kind < 3; kind++)
         for (unsigned counts = 0; counts < 3; counts++) {
-            memset(cell, 0, CELL);
-            cell[0] = (uint8_t)kind;
-            cell[1] = kind == 2;
+            put_kind(image, cell, kind);
+            for (size_t k = 0; k < 4; k++)
+                memset(count_of(cell, k), k == 0 && kind == 2, 2);
             memset(r + 4, 0, 8);
             r[4] = (uint8_t)counts;
             r[11] = counts == 2 ? 255 : 0;
@@ -335,7 +368,7 @@ static void compare_figures(void)
             for (size_t n = 0; n < 20; n++)
                 same_take_in(IMAGE - n, METLAZUEL_DAY_FIGURES, ask, 4, r, 14);
         }
-    memcpy(cell, was, CELL);
+    make_image();
     for (size_t few = 0; few < 10; few++) {
         same_report_in(IMAGE, METLAZUEL_DAY_FIGURES - few, 61, METLAZUEL_ROW);
         same_report_in(IMAGE, METLAZUEL_DAY_FIGURES - few, 62, METLAZUEL_ROW);
@@ -344,12 +377,57 @@ static void compare_figures(void)
     }
 }
 
+// A fresh log, of this header and in this room.
+static void same_fresh(const uint8_t *head, size_t room, size_t numbers)
+{
+    size_t ours = 7, c = 7;
+    uint16_t ke = (uint16_t)(head[10] | head[11] << 8);
+    memset(ours_out, 0xEE, sizeof ours_out);
+    memset(c_out, 0xEE, sizeof c_out);
+    memset(ours_figures, 0xEE, sizeof ours_figures);
+    memset(c_figures, 0xEE, sizeof c_figures);
+    uint8_t a = metlazuel_log_fresh(ours_out, room, ours_figures, numbers, head[5], head[6], head[7], head[8], head[9], ke, head[12], &ours);
+    uint8_t b = c_log_fresh(c_out, room, c_figures, numbers, head[5], head[6], head[7], head[8], head[9], ke, head[12], &c);
+    if (a != b || ours != c || memcmp(ours_out, c_out, sizeof c_out) != 0 || memcmp(ours_figures, c_figures, sizeof c_figures) != 0)
+        differ("fresh");
+    compared++;
+    refused += a != 0;
+}
+
+// Each value of each header byte, every number of days of both intervals at the two season nights, and less room than there is need of.
+static void compare_fresh(void)
+{
+    uint8_t head[HEADER];
+    memcpy(head, image, HEADER);
+    for (size_t less = 0; less < 10; less++) {
+        same_fresh(head, IMAGE - less, METLAZUEL_DAY_FIGURES);
+        same_fresh(head, IMAGE, METLAZUEL_DAY_FIGURES - less);
+    }
+    for (size_t i = 5; i < 13; i++) {
+        for (unsigned v = 0; v < 256; v++) {
+            head[i] = (uint8_t)v;
+            same_fresh(head, IMAGE, METLAZUEL_DAY_FIGURES);
+        }
+        head[i] = image[i];
+    }
+    for (head[8] = 1; head[8] <= DAYS; head[8]++)
+        for (head[6] = 3; head[6] <= 10; head[6] += 7)
+            for (head[12] = 0; head[12] < 2; head[12]++)
+                for (head[9] = 15; head[9] <= 30; head[9] += 15) {
+                    size_t cells = head[8] * (head[9] == 15 ? 96u : 48u), length = HEADER + cells / 4 + 9 * cells;
+                    same_fresh(head, length, METLAZUEL_ROW * head[8]);
+                    same_fresh(head, length - 1, METLAZUEL_ROW * head[8]);
+                    same_fresh(head, length, METLAZUEL_ROW * head[8] - 1);
+                }
+}
+
 // A year's logs of whole and half hours, filled slot by slot in an order of their own, with replies some of which are zeros or come again: each
 // answer is C's, and the figures are those of a walk.
 static void compare_filled(unsigned year, unsigned month, unsigned minutes)
 {
     unsigned slots = minutes == 15 ? 96 : 48, days = 31;
     size_t n = 0, cells = days * slots;
+    memset(ours_figures, 0, sizeof ours_figures);
     if (metlazuel_log_fresh(ours_out, FULL, ours_figures, METLAZUEL_DAY_FIGURES, (uint8_t)year, (uint8_t)month, 20, (uint8_t)days, (uint8_t)minutes, 100, 1, &n) != 0)
         differ("fresh");
     memcpy(c_out, ours_out, n);
@@ -375,25 +453,39 @@ static void compare_filled(unsigned year, unsigned month, unsigned minutes)
     same_walk(ours_out, n, ours_figures);
 }
 
-// A lapse of an open ask, over two copies of the file's image.
+// A lapse of an open ask, over two copies of the image.
 static void same_lapse(size_t n, const uint8_t *open, size_t size)
 {
     uint8_t a[5], b[5];
     memcpy(a, open, sizeof a);
     memcpy(b, open, sizeof b);
-    memcpy(ours_out, file, IMAGE);
-    memcpy(c_out, file, IMAGE);
+    memcpy(ours_out, image, sizeof image);
+    memcpy(c_out, image, sizeof image);
     uint8_t x = metlazuel_lapse(ours_out, n, a, size), y = c_lapse(c_out, n, b, size);
-    if (x != y || memcmp(a, b, sizeof a) != 0 || memcmp(ours_out, c_out, IMAGE) != 0)
+    if (x != y || memcmp(a, b, sizeof a) != 0 || memcmp(ours_out, c_out, sizeof image) != 0)
         differ("lapse");
     compared++;
     refused += x != 0;
 }
 
-// Each value of each byte of the ask, of a cell's lapses and of its kind, and other lengths.
+// A cell, read.
+static void same_cell(size_t n, unsigned day, unsigned slot)
+{
+    uint8_t kind[2] = {7, 7}, lapses[2] = {9, 9};
+    uint16_t counts[2][METLAZUEL_COUNTS] = {{1, 2, 3, 4}, {1, 2, 3, 4}};
+    uint8_t x = metlazuel_cell(image, n, (uint8_t)day, (uint8_t)slot, &kind[0], counts[0], &lapses[0]);
+    uint8_t y = c_cell(image, n, (uint8_t)day, (uint8_t)slot, &kind[1], counts[1], &lapses[1]);
+    if (x != y || kind[0] != kind[1] || lapses[0] != lapses[1] || memcmp(counts[0], counts[1], sizeof counts[0]) != 0)
+        differ("cell");
+    compared++;
+    refused += x != 0;
+}
+
+// Each value of each byte of the ask, of a cell's lapses and of the byte with its kind, and other lengths.
 static void compare_lapses(void)
 {
-    uint8_t ask[5] = {1, 1, 30, 7, 0x55}, *cell = file + 14 + CELL * (30 * SLOTS + 7), kind = cell[0], lapses = cell[9];
+    static const size_t cell = 30 * SLOTS + 7;
+    uint8_t ask[5] = {1, 1, 30, 7, 0x55}, *kinds = image + HEADER + cell / 4, *lapses = image + LAPSES + cell, kinds_were = *kinds;
     for (size_t i = 0; i < 4; i++) {
         uint8_t was = ask[i];
         for (unsigned v = 0; v < 256; v++) {
@@ -403,18 +495,77 @@ static void compare_lapses(void)
         ask[i] = was;
     }
     for (unsigned v = 0; v < 256; v++) {
-        cell[9] = (uint8_t)v;
+        *lapses = (uint8_t)v;
         same_lapse(IMAGE, ask, 4);
-        cell[0] = (uint8_t)v;
+        same_cell(IMAGE, 30, 7);
+        *kinds = (uint8_t)v;
         same_lapse(IMAGE, ask, 4);
-        cell[0] = kind;
+        same_cell(IMAGE, 30, 7);
+        *kinds = kinds_were;
     }
-    cell[9] = lapses;
+    make_image();
     for (size_t size = 3; size < 6; size++)
         same_lapse(IMAGE, ask, size);
     for (size_t n = 0; n < 20; n++) {
         same_lapse(n, ask, 4);
-        same_lapse(IMAGE - n, ask, 4);
+        same_lapse(IMAGE + 1 - n, ask, 4);
+    }
+}
+
+// Every cell, and days, slots and lengths that the log does not have.
+static void compare_cells(void)
+{
+    for (unsigned day = 0; day < 256; day++)
+        for (unsigned slot = 0; slot < 256; slot++)
+            same_cell(IMAGE, day, slot);
+    for (size_t n = 0; n < 20; n++) {
+        same_cell(n, 30, 7);
+        same_cell(IMAGE + 1 - n, 30, 7);
+    }
+}
+
+// All that goes by one cell of the image, with a reply with counts, one without, and the cell's own counts.
+static void same_about(size_t i)
+{
+    uint8_t ask[5] = {1, 1, (uint8_t)(i / SLOTS), (uint8_t)(i % SLOTS), 0x55}, r[14] = {1, 3, 36, 0};
+    same_cell(IMAGE, ask[2], ask[3]);
+    same_lapse(IMAGE, ask, 4);
+    same_report(IMAGE, ask[2], METLAZUEL_ROW);
+    for (int counts = 0; counts < 3; counts++) {
+        for (size_t k = 0; k < 4; k++)
+            memcpy(r + 4 + 2 * k, count_of(i, k), 2);
+        if (counts < 2)
+            memset(r + 4, counts, 8);
+        seal_frame(r, 14);
+        same_take(ask, 4, r, 14);
+    }
+}
+
+// Four cells that share a byte of kinds, each of them with each of the four kinds, and a byte of the counts of one column that is not zero, or none;
+// then single bytes and bits of the image changed, wherever they stand.
+static void compare_columns(void)
+{
+    for (size_t i = 30 * SLOTS + 8; i < 30 * SLOTS + 12; i++)
+        for (unsigned kind = 0; kind < 4; kind++)
+            for (size_t byte = 0; byte <= 8; byte++) {
+                put_kind(image, i, kind);
+                for (size_t k = 0; k < 4; k++)
+                    memset(count_of(i, k), 0, 2);
+                if (byte < 8)
+                    count_of(i, byte / 2)[byte % 2] = (uint8_t)(1u << (byte + i) % 8);
+                for (size_t near = i - 4; near <= i + 4; near++)
+                    same_about(near);
+                same_write(IMAGE, FULL);
+                make_image();
+            }
+    for (int k = 0; k < 2000; k++) {
+        size_t at = HEADER + roll() % (k % 4 == 0 ? CELLS / 4 : IMAGE - HEADER);
+        size_t i = at < COUNTS ? 4 * (at - HEADER) + roll() % 4 : at < LAPSES ? (at - COUNTS) / 2 % CELLS : at - LAPSES;
+        uint8_t was = image[at];
+        image[at] ^= (uint8_t)(k % 2 == 0 ? 1u << roll() % 8 : roll());
+        same_about(i);
+        same_write(IMAGE, FULL);
+        image[at] = was;
     }
 }
 
@@ -423,15 +574,17 @@ static void compare_log(void)
     uint8_t ask[5] = {1, 1, 30, 7, 0x55}, r[64] = {1, 3, 36, 0};
     for (size_t room = FULL - 2; room <= FULL; room++)
         same_write(IMAGE, room);
+    if (memcmp(c_out, file, FULL) != 0)
+        differ("a written file");
     for (size_t n = 0; n < 20; n++)
-        same_write(IMAGE - n, FULL);
-    for (size_t i = 0; i < 14; i++) {
-        uint8_t was = file[i];
+        same_write(IMAGE + 1 - n, FULL);
+    for (size_t i = 0; i < HEADER; i++) {
         for (unsigned v = 0; v < 256; v++) {
-            file[i] = (uint8_t)v;
+            image[i] = (uint8_t)v;
             same_write(IMAGE, FULL);
+            same_cell(IMAGE, 30, 7);
         }
-        file[i] = was;
+        image[i] = file[i];
     }
     // Each value of each byte of the ask and of the reply, for cells of each kind, with the counts that are there, others and none.
     for (unsigned slot = 0; slot < 24; slot++)
@@ -439,7 +592,7 @@ static void compare_log(void)
             ask[3] = (uint8_t)slot;
             memset(r + 4, counts == 1 ? 3 : 0, 8);
             if (counts == 2)
-                memcpy(r + 4, file + 14 + CELL * (30 * SLOTS + slot) + 1, 8);
+                memcpy(r + 4, file + HEADER + ROW_BYTES * (30 * SLOTS + slot) + 1, 8);
             seal_frame(r, 14);
             for (size_t size = 3; size < 6; size++)
                 same_take(ask, size, r, 14);
@@ -470,37 +623,40 @@ static void compare_log(void)
         same_take(ask, 4, r, n);
 }
 
-// The cells of the hour from 02:00 on, on a day of the log.
+// The rows of the hour from 02:00 on, on a day of the file.
 static uint8_t *hour_of(unsigned day)
 {
-    return file + 14 + CELL * (day * SLOTS + 8);
+    return file + HEADER + ROW_BYTES * (day * SLOTS + 8);
 }
 
 // A log in which the last Sunday of March or October is this day: its neighbours and slots, and its file with and without cells that are no
 // gaps in the hour, or have lapses, of every version, with and without seasons.
 static void compare_night(unsigned day)
 {
-    uint8_t ask[5] = {1, 1, (uint8_t)day, 0, 0x55}, r[14] = {1, 3, 36, 0, 9}, hour[4 * CELL];
+    uint8_t ask[5] = {1, 1, (uint8_t)day, 0, 0x55}, r[14] = {1, 3, 36, 0, 9}, hour[4 * ROW_BYTES];
     memcpy(hour, hour_of(day), sizeof hour);
     seal_frame(r, 14);
+    make_image();
     for (unsigned d = day == 0 ? 0 : day - 1; d <= day + 1; d++)
         same_report(IMAGE, d, METLAZUEL_ROW);
     for (ask[3] = 6; ask[3] < 14; ask[3]++) {
         same_take(ask, 4, r, 14);
         same_lapse(IMAGE, ask, 4);
+        same_cell(IMAGE, day, ask[3]);
     }
     // The cells as they are, gaps of which one has lapses, and gaps alone.
     for (int gaps = 0; gaps < 3; gaps++) {
         for (int seasons = 0; seasons < 2; seasons++) {
             file[12] = (uint8_t)seasons;
             seal();
+            make_image();
             same_read(FULL, FULL);
             same_write(IMAGE, FULL);
             same_older(1);
             same_older(2);
         }
         memset(hour_of(day), 0, sizeof hour);
-        hour_of(day)[2 * CELL + 9] = gaps == 0;
+        hour_of(day)[2 * ROW_BYTES + ROW_LAPSES] = gaps == 0;
     }
     memcpy(hour_of(day), hour, sizeof hour);
     seal();
@@ -525,18 +681,21 @@ static void compare_nights(void)
             }
     memcpy(file + 5, start, sizeof start);
     seal();
+    make_image();
 }
 
 static void compare(void)
 {
     same_read(FULL, IMAGE);
+    if (memcmp(c_out, image, IMAGE) != 0)
+        differ("an image read");
     same_read(FULL, FULL);
     same_read(FULL, IMAGE - 1);
     same_read(FULL + 1, FULL);
     for (size_t n = 0; n < 40; n++) {
         same_read(n, FULL);
         same_read(FULL - n, FULL);
-        same_report(IMAGE - n, 0, METLAZUEL_ROW + 1);
+        same_report(IMAGE + 1 - n, 0, METLAZUEL_ROW + 1);
         same_report(n, 0, METLAZUEL_ROW + 1);
         same_crc(n, n);
         same_crc(n, 8 * n);
@@ -545,44 +704,41 @@ static void compare(void)
         for (size_t room = METLAZUEL_ROW - 1; room <= METLAZUEL_ROW + 1; room++)
             same_report(IMAGE, day, room);
     // Each value of each header byte, under the old CRC and under a right one.
-    for (size_t i = 0; i < 14; i++) {
+    for (size_t i = 0; i < HEADER; i++) {
         uint8_t was = file[i];
         for (unsigned v = 0; v < 256; v++) {
-            file[i] = (uint8_t)v;
+            file[i] = image[i] = (uint8_t)v;
             same_read(FULL, FULL);
             same_report(IMAGE, 3, METLAZUEL_ROW);
             seal();
             same_read(FULL, FULL);
         }
-        file[i] = was;
+        file[i] = image[i] = was;
         seal();
     }
     // Every date, and every number of days at the end of the century.
-    uint8_t start[4];
-    memcpy(start, file + 5, 4);
     for (unsigned year = 0; year < 102; year++)
         for (unsigned month = 0; month < 14; month++)
             for (unsigned day = 0; day < 33; day++) {
-                file[5] = (uint8_t)year, file[6] = (uint8_t)month, file[7] = (uint8_t)day;
+                image[5] = (uint8_t)year, image[6] = (uint8_t)month, image[7] = (uint8_t)day;
                 same_report(IMAGE, 61, METLAZUEL_ROW);
             }
-    memcpy(file + 5, start, 4);
-    // A byte of a cell changed, under the old CRC and sealed again.
+    memcpy(image, file, HEADER);
+    // A byte of a row changed, under the old CRC and sealed again.
     for (int k = 0; k < 400; k++) {
-        size_t i = 14 + roll() % (IMAGE - 14), kind = 14 + CELL * (roll() % (DAYS * SLOTS));
+        size_t i = HEADER + roll() % (SEALED - HEADER), kind = HEADER + ROW_BYTES * (roll() % CELLS);
         uint8_t was = file[i], kind_was = file[kind];
         file[i] ^= (uint8_t)roll();
         same_read(FULL, FULL);
         file[kind] = (uint8_t)(roll() % 4);
         seal();
         same_read(FULL, FULL);
-        same_report(IMAGE, (unsigned)((kind - 14) / CELL / SLOTS), METLAZUEL_ROW);
         file[kind] = kind_was;
         file[i] = was;
         seal();
     }
     same_read(FULL, FULL);
-    same_crc(0, IMAGE);
+    same_crc(0, SEALED);
 }
 
 // ---- times
@@ -598,10 +754,10 @@ static volatile unsigned sink;
 static size_t length;
 static uint32_t row[METLAZUEL_ROW];
 
-static void ours_crc(void) { sink += metlazuel_crc16(file, IMAGE); }
-static void appendix_crc(void) { sink += c_crc_appendix(file, IMAGE); }
-static void words_crc(void) { sink += c_crc_words(file, IMAGE); }
-static void fold_crc(void) { sink += c_crc_fold(file, IMAGE); }
+static void ours_crc(void) { sink += metlazuel_crc16(file, SEALED); }
+static void appendix_crc(void) { sink += c_crc_appendix(file, SEALED); }
+static void words_crc(void) { sink += c_crc_words(file, SEALED); }
+static void fold_crc(void) { sink += c_crc_fold(file, SEALED); }
 static void ours_short(void) { sink += metlazuel_crc16(file, 14); }
 static void appendix_short(void) { sink += c_crc_appendix(file, 14); }
 static void fold_short(void) { sink += c_crc_fold(file, 14); }
@@ -614,21 +770,21 @@ static void ours_read(void)
 static void read_by(c_crc *crc) { sink += c_read_file(crc, file, FULL, c_out, FULL, c_figures, METLAZUEL_DAY_FIGURES, &length); }
 static void plain_read(void) { read_by(c_crc_appendix); }
 static void fold_read(void) { read_by(c_crc_fold); }
-static void ours_write(void) { sink += metlazuel_write_file(file, IMAGE, ours_out, FULL, &length); }
-static void plain_write(void) { sink += c_write_file(c_crc_appendix, file, IMAGE, c_out, FULL, &length); }
-static void fold_write(void) { sink += c_write_file(c_crc_fold, file, IMAGE, c_out, FULL, &length); }
+static void ours_write(void) { sink += metlazuel_write_file(image, IMAGE, ours_out, FULL, &length); }
+static void plain_write(void) { sink += c_write_file(c_crc_appendix, image, IMAGE, c_out, FULL, &length); }
+static void fold_write(void) { sink += c_write_file(c_crc_fold, image, IMAGE, c_out, FULL, &length); }
 
 // The same days with half the slots.
-enum { HALF = 14 + CELL * DAYS * SLOTS / 2 };
+enum { HALF = HEADER + CELLS / 2 / 4 + 9 * CELLS / 2 };
 
 static uint8_t half[HALF];
 static uint32_t half_figures[METLAZUEL_DAY_FIGURES];
 
-static void ours_report(void) { sink += metlazuel_day_report(file, IMAGE, figures, METLAZUEL_DAY_FIGURES, 30, row, METLAZUEL_ROW); }
+static void ours_report(void) { sink += metlazuel_day_report(image, IMAGE, figures, METLAZUEL_DAY_FIGURES, 30, row, METLAZUEL_ROW); }
 static void ours_half(void) { sink += metlazuel_day_report(half, HALF, half_figures, METLAZUEL_DAY_FIGURES, 30, row, METLAZUEL_ROW); }
-static void plain_walk(void) { sink += c_day_walk(file, IMAGE, 30, row, METLAZUEL_ROW); }
+static void plain_walk(void) { sink += c_day_walk(image, IMAGE, 30, row, METLAZUEL_ROW); }
 static void plain_half(void) { sink += c_day_walk(half, HALF, 30, row, METLAZUEL_ROW); }
-static void plain_report(void) { sink += c_day_report(file, IMAGE, figures, METLAZUEL_DAY_FIGURES, 30, row, METLAZUEL_ROW); }
+static void plain_report(void) { sink += c_day_report(image, IMAGE, figures, METLAZUEL_DAY_FIGURES, 30, row, METLAZUEL_ROW); }
 
 static uint8_t clock_frame[8] = {1, 3, 32, 0, 0, 0}, last_frame[8] = {1, 3, 36, 5, 31, 95}, absent_frame[8] = {1, 3, 36, 6, 31, 95};
 static uint8_t displayed_frame[8] = {1, 4, 36, 0, 0, 0};
@@ -655,21 +811,21 @@ static size_t received;
 
 static void make_reply(void)
 {
-    memcpy(taken + 4, file + IMAGE - CELL + 1, 8);
+    memcpy(taken + 4, file + SEALED - ROW_BYTES + 1, 8);
     seal_frame(taken, 14);
-    memcpy(lapsing, file, IMAGE);
+    memcpy(lapsing, image, IMAGE);
 }
 
 static void ours_again(void)
 {
     uint8_t ask[4] = {1, 1, DAYS - 1, SLOTS - 1};
-    sink += metlazuel_take(file, IMAGE, figures, METLAZUEL_DAY_FIGURES, ask, 4, taken, 14, &result, &received);
+    sink += metlazuel_take(image, IMAGE, figures, METLAZUEL_DAY_FIGURES, ask, 4, taken, 14, &result, &received);
 }
 
 static void again_by(c_crc *crc)
 {
     uint8_t ask[4] = {1, 1, DAYS - 1, SLOTS - 1};
-    sink += c_take(crc, file, IMAGE, figures, METLAZUEL_DAY_FIGURES, ask, 4, taken, 14, &result, &received);
+    sink += c_take(crc, image, IMAGE, figures, METLAZUEL_DAY_FIGURES, ask, 4, taken, 14, &result, &received);
 }
 
 static void plain_again(void) { again_by(c_crc_appendix); }
@@ -729,6 +885,22 @@ static void plain_lapse(void)
     sink += c_lapse(lapsing, IMAGE, ask, 4);
 }
 
+static uint8_t kind, lapses;
+static uint16_t counts[METLAZUEL_COUNTS];
+
+static void ours_cell(void) { sink += metlazuel_cell(image, IMAGE, DAYS - 1, SLOTS - 1, &kind, counts, &lapses); }
+static void plain_cell(void) { sink += c_cell(image, IMAGE, DAYS - 1, SLOTS - 1, &kind, counts, &lapses); }
+
+static void ours_fresh(void)
+{
+    sink += metlazuel_log_fresh(ours_out, FULL, ours_figures, METLAZUEL_DAY_FIGURES, 24, 5, 17, DAYS, 15, 100, 1, &length);
+}
+
+static void plain_fresh(void)
+{
+    sink += c_log_fresh(c_out, FULL, c_figures, METLAZUEL_DAY_FIGURES, 24, 5, 17, DAYS, 15, 100, 1, &length);
+}
+
 struct row {
     const char *what;
     void (*ours)(void), (*c)(void);
@@ -756,6 +928,8 @@ static const struct row rows[] = {
     ROW("reply taken again, C by 002's tables", ours_again, plain_again, 5000),
     ROW("reply taken again, C by the same fold", ours_again, fold_again, 5000),
     ROW("lapse of an ask", ours_lapse, plain_lapse, 5000),
+    ROW("cell read", ours_cell, plain_cell, 5000),
+    ROW("fresh log of 5,952 cells", ours_fresh, plain_fresh, 200),
     ROW("meter: the clock read", ours_clock, plain_clock, 5000),
     ROW("meter: a slice in the last of 2,976 places", ours_last, plain_last, 200),
     ROW("meter: a slice as displayed, in the first place", ours_displayed, plain_displayed, 5000),
@@ -848,12 +1022,14 @@ static void count(void)
 // The log of half the slots, and what both reports copy.
 static void make_figures(void)
 {
-    memcpy(half, file, 14);
-    half[9] = 30;
-    for (size_t i = 0; i < DAYS * SLOTS / 2; i++)
-        memcpy(half + 14 + CELL * i, file + 14 + 2 * CELL * i, CELL);
+    static uint8_t rows_of_half[HEADER + ROW_BYTES * CELLS / 2];
+    memcpy(rows_of_half, file, HEADER);
+    rows_of_half[9] = 30;
+    for (size_t i = 0; i < CELLS / 2; i++)
+        memcpy(rows_of_half + HEADER + ROW_BYTES * i, file + HEADER + 2 * ROW_BYTES * i, ROW_BYTES);
+    columns_of(rows_of_half, half, CELLS / 2);
     for (unsigned day = 0; day < DAYS; day++)
-        if (c_day_walk(file, IMAGE, (uint8_t)day, figures + METLAZUEL_ROW * day, METLAZUEL_ROW) != 0
+        if (c_day_walk(image, IMAGE, (uint8_t)day, figures + METLAZUEL_ROW * day, METLAZUEL_ROW) != 0
             || c_day_walk(half, HALF, (uint8_t)day, half_figures + METLAZUEL_ROW * day, METLAZUEL_ROW) != 0)
             exit(1);
 }
@@ -878,7 +1054,10 @@ int main(int words, char **word)
     compare();
     compare_log();
     compare_lapses();
+    compare_cells();
+    compare_columns();
     compare_figures();
+    compare_fresh();
     for (unsigned month = 3; month <= 10; month += 7) {
         compare_filled(24, month, 15);
         compare_filled(24, month, 30);

@@ -12,8 +12,8 @@
 #include <stddef.h>
 #include <stdint.h>
 
-// What is declared here, as major * 10000 + minor * 100 + patch: 6.0.0. What is there today stays as it is while the major number does.
-#define METLAZUEL_VERSION 60000
+// What is declared here, as major * 10000 + minor * 100 + patch: 7.0.0. What is there today stays as it is while the major number does.
+#define METLAZUEL_VERSION 70000
 
 #ifdef __cplusplus
 extern "C" {
@@ -61,10 +61,11 @@ enum {
     METLAZUEL_STORE_BYTES = 32736, // its store of slices
     METLAZUEL_REQUEST_BYTES = 8,   // a read request
     METLAZUEL_FRAME_BYTES = 64,    // the longest frame; a reply's output has at least so many
-    METLAZUEL_HEADER_BYTES = 14,   // a log's image: its header,
-    METLAZUEL_CELL_BYTES = 10,     //   and each of its cells
-    METLAZUEL_LOG_BYTES = METLAZUEL_HEADER_BYTES + 62 * 96 * METLAZUEL_CELL_BYTES, // the longest log's image, 62 days of 96 slots: 59,534
-    METLAZUEL_FILE_BYTES = METLAZUEL_LOG_BYTES + 2, // and its file, with a CRC
+    METLAZUEL_CELLS = 62 * 96,     // the cells of the longest log, 62 days of 96 slots: 5,952
+    METLAZUEL_HEADER_BYTES = 14,   // a log's header, in its image and in its file
+    METLAZUEL_LOG_BYTES = METLAZUEL_HEADER_BYTES + METLAZUEL_CELLS / 4 + 9 * METLAZUEL_CELLS, // the longest log's image: 55,070
+    METLAZUEL_FILE_CELL_BYTES = 10, // each cell of a file, which is longer than the image:
+    METLAZUEL_FILE_BYTES = METLAZUEL_HEADER_BYTES + METLAZUEL_FILE_CELL_BYTES * METLAZUEL_CELLS + 2, // the longest, with its CRC: 59,536
     METLAZUEL_COUNTS = 4,          // the counts of a cell, in 16-bit numbers: E+, E-, R+, R-
     METLAZUEL_ROW = 8,             // a day's report, in 32-bit numbers
     METLAZUEL_DAY_FIGURES = 62 * METLAZUEL_ROW, // the figures of the longest log, a row for each day, in 32-bit numbers: 496
@@ -132,9 +133,11 @@ enum metlazuel_kind {
     METLAZUEL_KIND_MEASURED = 2
 };
 
-// Where the parts of an image stand; numbers of two bytes have the lower one first. Cell I, of DAY * slots + SLOT, begins at
-// METLAZUEL_HEADER_BYTES + I * METLAZUEL_CELL_BYTES, and a day has 1440 / minutes slots. Reading is what they are for: an image that was
-// written by hand may be one that every call refuses.
+// Where the parts of an image stand; numbers of two bytes have the lower one first. A day has 1440 / minutes slots, a log days * slots cells, and slot SLOT of
+// day DAY is cell I, of DAY * slots + SLOT. Behind the header come all kinds, at two bits each, one of enum metlazuel_kind: four cells to a byte, the earlier
+// cell in the lower bits. Then come four columns of counts, two bytes each: E+ of all cells, E- of all, R+ and R-. Then come the lapses, one byte each. So the
+// kinds of all cells, which a radio may send before the rest, are the METLAZUEL_AT_COUNTS(cells, 0) first bytes, header and all. Reading is what these places
+// are for: an image that was written by hand may be one that every call refuses.
 enum {
     METLAZUEL_AT_MARK = 0,     // of the header: the letters GEL
     METLAZUEL_AT_VERSION = 3,  //   3, two bytes
@@ -145,12 +148,25 @@ enum {
     METLAZUEL_AT_MINUTES = 9,
     METLAZUEL_AT_KE = 10,      //   two bytes
     METLAZUEL_AT_SEASONS = 12, //   1 where the automatic seasons are followed, else 0; a zero byte behind it
-    METLAZUEL_AT_KIND = 0,     // of a cell: one of enum metlazuel_kind
-    METLAZUEL_AT_EPLUS = 1,    //   the counts, two bytes each
-    METLAZUEL_AT_EMINUS = 3,
-    METLAZUEL_AT_RPLUS = 5,
-    METLAZUEL_AT_RMINUS = 7,
-    METLAZUEL_AT_LAPSES = 9    //   how many asks for it lapsed, one byte
+    METLAZUEL_AT_KINDS = METLAZUEL_HEADER_BYTES
+};
+
+// Of a log with so many cells: the kind of cell i, 3 for none; where a column of counts begins (0 E+, 1 E-, 2 R+, 3 R-; that of cell i is 2 * i further
+// on); where the lapses begin (those of cell i are i further on); and the image's length.
+#define METLAZUEL_KIND_IN(image, i) (((image)[METLAZUEL_AT_KINDS + (i) / 4] >> 2 * ((i) % 4)) & 3)
+#define METLAZUEL_AT_COUNTS(cells, column) (METLAZUEL_AT_KINDS + (cells) / 4 + 2 * (cells) * (column))
+#define METLAZUEL_AT_LAPSES(cells) METLAZUEL_AT_COUNTS(cells, 4)
+#define METLAZUEL_IMAGE_BYTES(cells) (METLAZUEL_AT_LAPSES(cells) + (cells))
+
+// A file of version 3 is none of that: the same header, then cell after cell in METLAZUEL_FILE_CELL_BYTES each, then the CRC of all before it, two bytes. It is as
+// it was before images had columns. Cell I begins at METLAZUEL_HEADER_BYTES + I * METLAZUEL_FILE_CELL_BYTES.
+enum {
+    METLAZUEL_FILE_AT_KIND = 0,   // of a file's cell: one of enum metlazuel_kind
+    METLAZUEL_FILE_AT_EPLUS = 1,  //   the counts, two bytes each
+    METLAZUEL_FILE_AT_EMINUS = 3,
+    METLAZUEL_FILE_AT_RPLUS = 5,
+    METLAZUEL_FILE_AT_RMINUS = 7,
+    METLAZUEL_FILE_AT_LAPSES = 9  //   how many asks for it lapsed, one byte
 };
 
 // In a slot's place: there is no gap.
@@ -207,7 +223,7 @@ uint8_t metlazuel_day_report(const uint8_t *log, size_t n, const uint32_t *figur
 uint8_t metlazuel_write_file(const uint8_t *log, size_t n, uint8_t *out, size_t room, size_t *length);
 
 // A file of version 3, of version 2, which has no lapses, or of version 1, which follows no seasons either, read as a log to the front of out, the
-// image's length to *length: one byte a cell more than the cells of versions 1 and 2 have. Its figures, by a walk over all its cells, go to the front of
+// image's length to *length: METLAZUEL_IMAGE_BYTES of its cells, whichever version it was. Its figures, by a walk over all its cells, go to the front of
 // figures. FILE_MARK to FILE_CELL, TOO_SHORT (out or figures), else DONE. A refusal leaves out, figures and *length.
 uint8_t metlazuel_read_file(const uint8_t *file, size_t n, uint8_t *out, size_t room, uint32_t *figures, size_t numbers, size_t *length);
 

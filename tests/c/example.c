@@ -116,7 +116,7 @@ static void save(size_t n)
     expect("write_file", metlazuel_write_file(image, n, file, sizeof file, &length), METLAZUEL_DONE);
     expect("read_file", metlazuel_read_file(file, length, back, sizeof back, again, METLAZUEL_ROW - 1, &m), METLAZUEL_TOO_SHORT);
     expect("read_file", metlazuel_read_file(file, length, back, sizeof back, again, METLAZUEL_ROW, &m), METLAZUEL_DONE);
-    printf("file of %u bytes, CRC %04X, read back %s, its figures %s\n", (unsigned)length, metlazuel_crc16(file, n),
+    printf("file of %u bytes, CRC %04X, read back %s, its figures %s\n", (unsigned)length, metlazuel_crc16(file, length - 2),
            m == n && memcmp(back, image, n) == 0 ? "the same" : "another",
            memcmp(again, figures, METLAZUEL_ROW * sizeof *figures) == 0 ? "too" : "are others");
 }

@@ -4,7 +4,7 @@
 #include <string.h>
 #include "metlazuel.h"
 
-enum { METER = 7, DAYS = 62, MINUTES = 15, KE = 0x1234, SEASONS = 1, PASSWORD_BYTES = 8 };
+enum { METER = 7, DAYS = 62, MINUTES = 15, SLOTS = 96, KE = 0x1234, SEASONS = 1, PASSWORD_BYTES = 8 };
 
 static uint8_t record[METLAZUEL_RECORD_BYTES], store[METLAZUEL_STORE_BYTES + 1];
 static uint8_t image[METLAZUEL_LOG_BYTES], file[METLAZUEL_FILE_BYTES];
@@ -24,6 +24,13 @@ static unsigned two_bytes(const uint8_t *at)
     return at[0] + 256u * at[1];
 }
 
+// Another kind of a cell: the three others of its byte stay.
+static void put_kind(uint8_t *log, size_t i, uint8_t kind)
+{
+    uint8_t *at = log + METLAZUEL_AT_KINDS + i / 4;
+    *at = (uint8_t)((*at & ~(3 << i % 4 * 2)) | (kind << i % 4 * 2));
+}
+
 // The longest log: 62 days of 96 slots, and its file.
 static void longest_log(void)
 {
@@ -36,7 +43,7 @@ static void longest_log(void)
               == METLAZUEL_TOO_SHORT);
     check("a log's room", metlazuel_log_fresh(image, sizeof image, figures, METLAZUEL_DAY_FIGURES, 24, 5, 17, DAYS, MINUTES, KE, SEASONS, &n)
                               == METLAZUEL_DONE);
-    check("a log's length", n == METLAZUEL_LOG_BYTES);
+    check("a log's length", n == METLAZUEL_LOG_BYTES && n == METLAZUEL_IMAGE_BYTES(METLAZUEL_CELLS) && METLAZUEL_CELLS == DAYS * SLOTS);
     check("a shorter file's room", metlazuel_write_file(image, n, file, sizeof file - 1, &length) == METLAZUEL_TOO_SHORT);
     check("a file's room", metlazuel_write_file(image, n, file, sizeof file, &length) == METLAZUEL_DONE);
     check("a file's length", length == METLAZUEL_FILE_BYTES);
@@ -105,10 +112,10 @@ static uint8_t take(uint8_t *ask, const uint8_t *reply, size_t n, uint8_t *resul
 static void cell_bytes(void)
 {
     uint8_t ask[METLAZUEL_ASK_BYTES + 1] = {0}, frame[METLAZUEL_REQUEST_BYTES], reply[METLAZUEL_FRAME_BYTES], result, kind, lapses;
-    const uint8_t *cell = image + METLAZUEL_HEADER_BYTES + 3 * METLAZUEL_CELL_BYTES;
+    const uint8_t *cell = file + METLAZUEL_HEADER_BYTES + 3 * METLAZUEL_FILE_CELL_BYTES;
     uint16_t counts[METLAZUEL_COUNTS];
     size_t length;
-    check("a gap's byte", cell[METLAZUEL_AT_KIND] == METLAZUEL_KIND_GAP);
+    check("a gap's bits", METLAZUEL_KIND_IN(image, 3) == METLAZUEL_KIND_GAP);
     check("a gap", metlazuel_cell(image, sizeof image, 0, 3, &kind, counts, &lapses) == METLAZUEL_DONE && kind == METLAZUEL_KIND_GAP
                        && lapses == 0);
     check("a longer ask", metlazuel_ask(image, sizeof image, ask, sizeof ask, METER, 0, 3, frame, sizeof frame) == METLAZUEL_UNSOUND);
@@ -124,11 +131,15 @@ static void cell_bytes(void)
                          == METLAZUEL_DONE);
     check("a reply with fewer figures", take_with(METLAZUEL_DAY_FIGURES - 1, ask, reply, length, &result) == METLAZUEL_TOO_SHORT && ask[0] == 1);
     check("a reply taken", take(ask, reply, length, &result) == METLAZUEL_DONE);
-    check("a measured cell's byte", cell[METLAZUEL_AT_KIND] == METLAZUEL_KIND_MEASURED);
-    check("E+", two_bytes(cell + METLAZUEL_AT_EPLUS) == 1);
-    check("E-", two_bytes(cell + METLAZUEL_AT_EMINUS) == 2);
-    check("R+", two_bytes(cell + METLAZUEL_AT_RPLUS) == 3);
-    check("R-", two_bytes(cell + METLAZUEL_AT_RMINUS) == 0x0504);
+    check("a measured cell's bits", METLAZUEL_KIND_IN(image, 3) == METLAZUEL_KIND_MEASURED && image[METLAZUEL_AT_KINDS] == 2 << 6);
+    for (int i = 0; i < METLAZUEL_COUNTS; i++)
+        check("its columns", two_bytes(image + METLAZUEL_AT_COUNTS(METLAZUEL_CELLS, i) + 2 * 3) == (i < 3 ? i + 1u : 0x0504));
+    check("its file", metlazuel_write_file(image, sizeof image, file, sizeof file, &length) == METLAZUEL_DONE);
+    check("its kind there", cell[METLAZUEL_FILE_AT_KIND] == METLAZUEL_KIND_MEASURED);
+    check("E+", two_bytes(cell + METLAZUEL_FILE_AT_EPLUS) == 1);
+    check("E-", two_bytes(cell + METLAZUEL_FILE_AT_EMINUS) == 2);
+    check("R+", two_bytes(cell + METLAZUEL_FILE_AT_RPLUS) == 3);
+    check("R-", two_bytes(cell + METLAZUEL_FILE_AT_RMINUS) == 0x0504);
     check("a measured cell", metlazuel_cell(image, sizeof image, 0, 3, &kind, counts, &lapses) == METLAZUEL_DONE
                                  && kind == METLAZUEL_KIND_MEASURED && counts[0] == 1 && counts[1] == 2 && counts[2] == 3
                                  && counts[METLAZUEL_COUNTS - 1] == 0x0504 && lapses == 0);
@@ -138,14 +149,13 @@ static void cell_bytes(void)
 static void lapses_byte(void)
 {
     uint8_t ask[METLAZUEL_ASK_BYTES + 1] = {0}, frame[METLAZUEL_REQUEST_BYTES], kind, lapses = 0;
-    const uint8_t *cell = image + METLAZUEL_HEADER_BYTES + 3 * METLAZUEL_CELL_BYTES;
     uint16_t counts[METLAZUEL_COUNTS];
     for (unsigned i = 1; i <= 256; i++) {
         check("an ask", metlazuel_ask(image, sizeof image, ask, METLAZUEL_ASK_BYTES, METER, 0, 3, frame, sizeof frame) == METLAZUEL_DONE);
         check("a longer ask", metlazuel_lapse(image, sizeof image, ask, sizeof ask) == METLAZUEL_UNSOUND && ask[0] == 1);
         check("a shorter log", metlazuel_lapse(image, sizeof image - 1, ask, METLAZUEL_ASK_BYTES) == METLAZUEL_UNSOUND && ask[0] == 1);
         check("a lapse", metlazuel_lapse(image, sizeof image, ask, METLAZUEL_ASK_BYTES) == METLAZUEL_DONE && ask[0] == 0);
-        check("its byte", cell[METLAZUEL_AT_LAPSES] == (i < 255 ? i : 255));
+        check("its byte", image[METLAZUEL_AT_LAPSES(METLAZUEL_CELLS) + 3] == (i < 255 ? i : 255));
     }
     check("a cell's lapses", metlazuel_cell(image, sizeof image, 0, 3, &kind, counts, &lapses) == METLAZUEL_DONE
                                  && kind == METLAZUEL_KIND_MEASURED && counts[0] == 1 && lapses == 255);
@@ -163,7 +173,7 @@ static void empty_cell(void)
     check("an ask", metlazuel_ask(image, sizeof image, ask, sizeof ask, METER, 0, 4, frame, sizeof frame) == METLAZUEL_DONE);
     check("a reply", exchange(frame, sizeof frame - 2, reply, &length) == METLAZUEL_DONE);
     check("a reply taken", take(ask, reply, length, &result) == METLAZUEL_DONE);
-    check("an empty cell's byte", image[METLAZUEL_HEADER_BYTES + 4 * METLAZUEL_CELL_BYTES + METLAZUEL_AT_KIND] == METLAZUEL_KIND_EMPTY);
+    check("an empty cell's bits", METLAZUEL_KIND_IN(image, 4) == METLAZUEL_KIND_EMPTY && image[METLAZUEL_AT_KINDS + 1] == 1);
     check("an empty cell", metlazuel_cell(image, sizeof image, 0, 4, &kind, counts, &lapses) == METLAZUEL_DONE && kind == METLAZUEL_KIND_EMPTY);
 }
 
@@ -179,7 +189,7 @@ static void day_figures(void)
     check("a reply", exchange(frame, sizeof frame - 2, reply, &length) == METLAZUEL_DONE);
     figures[0] = 0;
     check("a reply with no gap left", take(ask, reply, length, &result) == METLAZUEL_UNSOUND && ask[0] == 1 && figures[1] == 1);
-    check("its cell's byte", image[METLAZUEL_HEADER_BYTES + 5 * METLAZUEL_CELL_BYTES + METLAZUEL_AT_KIND] == METLAZUEL_KIND_GAP);
+    check("its cell's bits", METLAZUEL_KIND_IN(image, 5) == METLAZUEL_KIND_GAP);
     check("a report of other figures", metlazuel_day_report(image, sizeof image, figures, METLAZUEL_DAY_FIGURES, 0, row, METLAZUEL_ROW) == METLAZUEL_DONE
                                            && row[0] == 0 && row[1] == 1);
     figures[0] = 94;
@@ -200,9 +210,9 @@ static void walk(uint8_t *log, size_t n)
 static void gaps(void)
 {
     uint8_t slot = 1;
-    for (size_t i = 0; i < 96; i++)
+    for (size_t i = 0; i < SLOTS; i++)
         if (i != 3)
-            image[METLAZUEL_HEADER_BYTES + i * METLAZUEL_CELL_BYTES + METLAZUEL_AT_KIND] = METLAZUEL_KIND_EMPTY;
+            put_kind(image, i, METLAZUEL_KIND_EMPTY);
     check("no gap", metlazuel_next_gap(image, sizeof image, 0, 0, &slot) == METLAZUEL_DONE && slot == METLAZUEL_NO_GAP);
     check("a gap of the next day", metlazuel_next_gap(image, sizeof image, 1, 5, &slot) == METLAZUEL_DONE && slot == 5);
     check("a slot past the day", metlazuel_next_gap(image, sizeof image, 1, 96, &slot) == METLAZUEL_DONE && slot == METLAZUEL_NO_GAP);
@@ -224,22 +234,19 @@ static void report_row(void)
 static size_t season_day(uint8_t *day, uint8_t month, uint8_t date)
 {
     size_t n = 0;
-    uint8_t *cells = day + METLAZUEL_HEADER_BYTES;
-    check("a season day", metlazuel_log_fresh(day, METLAZUEL_HEADER_BYTES + 96 * METLAZUEL_CELL_BYTES, figures, METLAZUEL_ROW, 24, month, date, 1,
-                                              MINUTES, KE, SEASONS, &n)
+    check("a season day", metlazuel_log_fresh(day, METLAZUEL_IMAGE_BYTES(SLOTS), figures, METLAZUEL_ROW, 24, month, date, 1, MINUTES, KE, SEASONS, &n)
                               == METLAZUEL_DONE);
-    for (size_t i = 0; i < 96; i++)
-        cells[i * METLAZUEL_CELL_BYTES + METLAZUEL_AT_KIND] = METLAZUEL_KIND_EMPTY;
-    cells[11 * METLAZUEL_CELL_BYTES + METLAZUEL_AT_KIND] = METLAZUEL_KIND_MEASURED;
-    cells[11 * METLAZUEL_CELL_BYTES + METLAZUEL_AT_EPLUS] = 9;
+    for (size_t i = 0; i < SLOTS; i++)
+        put_kind(day, i, i == 11 ? METLAZUEL_KIND_MEASURED : METLAZUEL_KIND_EMPTY);
+    day[METLAZUEL_AT_COUNTS(SLOTS, 0) + 2 * 11] = 9;
     return n;
 }
 
 // On the last Sunday of March slots 8 to 11 of 15 minutes do not exist, and a cell that is no gap there, or has lapses, cannot be written out.
 static void march(void)
 {
-    uint8_t day[METLAZUEL_HEADER_BYTES + 96 * METLAZUEL_CELL_BYTES], out[sizeof day + 2], kind, lapses, slot;
-    uint8_t *gone = day + METLAZUEL_HEADER_BYTES + 8 * METLAZUEL_CELL_BYTES;
+    uint8_t day[METLAZUEL_IMAGE_BYTES(SLOTS)], out[METLAZUEL_HEADER_BYTES + SLOTS * METLAZUEL_FILE_CELL_BYTES + 2], kind, lapses, slot;
+    uint8_t *gone = out + METLAZUEL_HEADER_BYTES + 8 * METLAZUEL_FILE_CELL_BYTES;
     uint16_t counts[METLAZUEL_COUNTS];
     uint32_t row[METLAZUEL_ROW];
     size_t n = season_day(day, 3, 31), length;
@@ -249,28 +256,30 @@ static void march(void)
                                        && metlazuel_cell(day, n, 0, 12, &kind, counts, &lapses) == METLAZUEL_DONE);
     check("a fresh March", figures[0] == 92 && figures[METLAZUEL_ROW - 1] == 0);
     check("no file of it", metlazuel_write_file(day, n, out, sizeof out, &length) == METLAZUEL_UNSOUND);
-    memset(gone, 0, 4 * METLAZUEL_CELL_BYTES);
-    gone[METLAZUEL_AT_LAPSES] = 1;
+    for (size_t i = 8; i < 12; i++)
+        put_kind(day, i, METLAZUEL_KIND_GAP);
+    day[METLAZUEL_AT_COUNTS(SLOTS, 0) + 2 * 11] = 0;
+    day[METLAZUEL_AT_LAPSES(SLOTS) + 8] = 1;
     check("no file of its lapses", metlazuel_write_file(day, n, out, sizeof out, &length) == METLAZUEL_UNSOUND);
-    gone[METLAZUEL_AT_LAPSES] = 0;
+    day[METLAZUEL_AT_LAPSES(SLOTS) + 8] = 0;
     check("no gap in no slot", metlazuel_next_gap(day, n, 0, 0, &slot) == METLAZUEL_DONE && slot == METLAZUEL_NO_GAP);
     walk(day, n);
     check("a report of March", metlazuel_day_report(day, n, figures, METLAZUEL_ROW, 0, row, METLAZUEL_ROW) == METLAZUEL_DONE && row[0] == 0
                                    && row[1] == 92 && row[2] == 0 && row[3] == 0 && row[METLAZUEL_ROW - 1] == 0);
     check("a file of it", metlazuel_write_file(day, n, out, sizeof out, &length) == METLAZUEL_DONE && length == sizeof out);
-    out[METLAZUEL_HEADER_BYTES + 8 * METLAZUEL_CELL_BYTES + METLAZUEL_AT_KIND] = METLAZUEL_KIND_EMPTY;
-    seal(out, n);
+    gone[METLAZUEL_FILE_AT_KIND] = METLAZUEL_KIND_EMPTY;
+    seal(out, sizeof out - 2);
     check("a file's cell of no slot", metlazuel_read_file(out, sizeof out, day, sizeof day, figures, METLAZUEL_ROW, &length) == METLAZUEL_FILE_CELL);
-    out[METLAZUEL_HEADER_BYTES + 8 * METLAZUEL_CELL_BYTES + METLAZUEL_AT_KIND] = METLAZUEL_KIND_GAP;
-    out[METLAZUEL_HEADER_BYTES + 8 * METLAZUEL_CELL_BYTES + METLAZUEL_AT_LAPSES] = 1;
-    seal(out, n);
+    gone[METLAZUEL_FILE_AT_KIND] = METLAZUEL_KIND_GAP;
+    gone[METLAZUEL_FILE_AT_LAPSES] = 1;
+    seal(out, sizeof out - 2);
     check("a file's lapses of no slot", metlazuel_read_file(out, sizeof out, day, sizeof day, figures, METLAZUEL_ROW, &length) == METLAZUEL_FILE_CELL);
 }
 
 // On the last Sunday of October they come twice, and the measured one is told so.
 static void october(void)
 {
-    uint8_t day[METLAZUEL_HEADER_BYTES + 96 * METLAZUEL_CELL_BYTES];
+    uint8_t day[METLAZUEL_IMAGE_BYTES(SLOTS)];
     uint32_t row[METLAZUEL_ROW];
     size_t n = season_day(day, 10, 27);
     check("a fresh October", figures[0] == 96 && figures[METLAZUEL_ROW - 1] == 0);
@@ -471,15 +480,15 @@ static void older_file(uint8_t version, uint8_t seasons)
     memcpy(older, file, METLAZUEL_HEADER_BYTES);
     older[METLAZUEL_AT_VERSION] = version;
     older[METLAZUEL_AT_SEASONS] = seasons;
-    for (size_t i = 0; i < DAYS * 96; i++, n += METLAZUEL_AT_LAPSES)
-        memcpy(older + n, file + METLAZUEL_HEADER_BYTES + i * METLAZUEL_CELL_BYTES, METLAZUEL_AT_LAPSES);
+    for (size_t i = 0; i < METLAZUEL_CELLS; i++, n += METLAZUEL_FILE_AT_LAPSES)
+        memcpy(older + n, file + METLAZUEL_HEADER_BYTES + i * METLAZUEL_FILE_CELL_BYTES, METLAZUEL_FILE_AT_LAPSES);
     n = seal(older, n);
     check("an older file in less room",
           metlazuel_read_file(older, n, image, sizeof image - 1, figures, METLAZUEL_DAY_FIGURES, &length) == METLAZUEL_TOO_SHORT);
     check("an older file", metlazuel_read_file(older, n, image, sizeof image, figures, METLAZUEL_DAY_FIGURES, &length) == METLAZUEL_DONE
                                && length == sizeof image);
     check("its log", image[METLAZUEL_AT_VERSION] == 3 && image[METLAZUEL_AT_SEASONS] == seasons
-                         && image[METLAZUEL_HEADER_BYTES + METLAZUEL_AT_LAPSES] == 0);
+                         && image[METLAZUEL_AT_LAPSES(METLAZUEL_CELLS)] == 0);
 }
 
 static void file_answers(void)
@@ -494,8 +503,8 @@ static void file_answers(void)
     damaged_file("version 2 with lapses", METLAZUEL_AT_VERSION, 2, 1, METLAZUEL_FILE_LENGTH);
     damaged_file("a file's CRC", METLAZUEL_HEADER_BYTES, METLAZUEL_KIND_EMPTY, 0, METLAZUEL_FILE_CRC);
     damaged_file("a file's cell", METLAZUEL_HEADER_BYTES, METLAZUEL_KIND_MEASURED, 1, METLAZUEL_FILE_CELL);
-    damaged_file("a file with lapses", METLAZUEL_HEADER_BYTES + METLAZUEL_AT_LAPSES, 7, 1, METLAZUEL_DONE);
-    check("its lapses", image[METLAZUEL_HEADER_BYTES + METLAZUEL_AT_LAPSES] == 7);
+    damaged_file("a file with lapses", METLAZUEL_HEADER_BYTES + METLAZUEL_FILE_AT_LAPSES, 7, 1, METLAZUEL_DONE);
+    check("its lapses", image[METLAZUEL_AT_LAPSES(METLAZUEL_CELLS)] == 7);
     check("the file itself", metlazuel_read_file(file, sizeof file, image, sizeof image, figures, METLAZUEL_DAY_FIGURES, &length) == METLAZUEL_DONE);
     older_file(2, SEASONS);
     older_file(1, 0);

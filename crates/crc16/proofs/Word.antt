@@ -11,7 +11,7 @@ use Rattle.case_laws.proofs.Test.{everyBelow}
 use Rattle.crc16.specs.Crc.{times, bitStep, polynomial}
 use Rattle.crc16.proofs.Linear.{Linear, linear-id, linear-compose, linear-times, linear-xor, linear-shl, linear-shr, linear-low, linear-bit}
 use Rattle.crc16.proofs.Linear.{linear-parityIn, onesIn-low, linear-bitStep, linear-agree-test, xor-assoc, xor-exchange}
-use Rattle.crc16.specs.Word.{register, up, byX64, byX128, belowX30, belowX15}
+use Rattle.crc16.specs.Word.{register, up, byX64, byX128, outOfX128, belowX30, belowX15}
 use Rattle.crc16.proofs.WordLaws.{linear-register, times-add, times-same}
 
 -- ---- the computed test
@@ -100,10 +100,7 @@ more-word = more 64 linear-outWord linear-id refl refl
 
 -- ---- 128 bits more, of two words: what falls out of the first comes into the second, and what falls out of the second into the first
 
-abbrev out : ℕ → ℕ
-out a = bitXor (bitXor (up 41 a) (up 48 a)) (up 55 a)
-
-linear-out : Linear out
+linear-out : Linear outOfX128
 linear-out = linear-xor (linear-xor (linear-up 41) (linear-up 48)) (linear-up 55)
 
 linear-byX128 : Linear byX128
@@ -119,7 +116,7 @@ module _ {f g : ℕ → ℕ} (lf : Linear f) (lg : Linear g) where
       ∙ tested 64 n (linear-xor (linear-compose (linear-times 64 linear-quick) lf) lg) linear-id 64 t a h
 
 part-first : (a : ℕ) → a < 2 ^ 64
-    → register (bitXor (register (byX128 a)) (byX128 (out a))) ≡ register (register (register (register a)))
+    → register (bitXor (register (byX128 a)) (byX128 (outOfX128 a))) ≡ register (register (register (register a)))
 unfolding everyBelow times register
 part-first a h =
     part linear-byX128 (linear-compose linear-byX128 linear-out) 256 refl a h
@@ -127,44 +124,38 @@ part-first a h =
     ∙ times-add 128 64 bitStep (register a)
     ∙ times-add 64 64 bitStep (register (register a))
 
-part-second : (a : ℕ) → a < 2 ^ 64 → register (bitXor (register (out a)) (byX128 a)) ≡ register (register (register a))
+part-second : (a : ℕ) → a < 2 ^ 64 → register (bitXor (register (outOfX128 a)) (byX128 a)) ≡ register (register (register a))
 unfolding everyBelow times register
 part-second a h =
     part linear-out linear-byX128 192 refl a h ∙ times-add 128 64 bitStep a ∙ times-add 64 64 bitStep (register a)
-
--- three shifts of two words at once are those of each apart
-pub shifts-apart : (a b c x y z : ℕ)
-    → bitXor (bitXor (bitXor a x) (bitXor b y)) (bitXor c z) ≡ bitXor (bitXor (bitXor a b) c) (bitXor (bitXor x y) z)
-shifts-apart a b c x y z =
-    ap (λ (m : ℕ). bitXor m (bitXor c z)) (xor-exchange a x b y) ∙ xor-exchange (bitXor a b) (bitXor x y) c z
 
 apart-2 : (a b : ℕ) → register (register (bitXor a b)) ≡ bitXor (register (register a)) (register (register b))
 apart-2 a b = ap register (linear-register .apart a b) ∙ linear-register .apart (register a) (register b)
 
 pub more-pair : (f s first second : ℕ) → f < 2 ^ 64 → s < 2 ^ 64
-    → register (bitXor (register (bitXor (bitXor (byX128 f) (out s)) first)) (bitXor (byX128 (bitXor (out f) s)) second))
+    → register (bitXor (register (bitXor (bitXor (byX128 f) (outOfX128 s)) first)) (bitXor (byX128 (bitXor (outOfX128 f) s)) second))
     ≡ register (bitXor (register (bitXor (register (bitXor (register f) s)) first)) second)
 more-pair f s first second hf hs =
     let came = bitXor (register first) second in
-    let firsts : register (bitXor (bitXor (byX128 f) (out s)) first)
-    ≡ bitXor (bitXor (register (byX128 f)) (register (out s))) (register first) =
-    linear-register .apart (bitXor (byX128 f) (out s)) first
-    ∙ ap (λ (x : ℕ). bitXor x (register first)) (linear-register .apart (byX128 f) (out s)) in
+    let firsts : register (bitXor (bitXor (byX128 f) (outOfX128 s)) first)
+    ≡ bitXor (bitXor (register (byX128 f)) (register (outOfX128 s))) (register first) =
+    linear-register .apart (bitXor (byX128 f) (outOfX128 s)) first
+    ∙ ap (λ (x : ℕ). bitXor x (register first)) (linear-register .apart (byX128 f) (outOfX128 s)) in
     let sorted : register
     (bitXor
-    (bitXor (bitXor (register (byX128 f)) (register (out s))) (register first))
-    (bitXor (bitXor (byX128 (out f)) (byX128 s)) second))
+    (bitXor (bitXor (register (byX128 f)) (register (outOfX128 s))) (register first))
+    (bitXor (bitXor (byX128 (outOfX128 f)) (byX128 s)) second))
     ≡ bitXor
-    (bitXor (register (bitXor (register (byX128 f)) (byX128 (out f)))) (register (bitXor (register (out s)) (byX128 s))))
+    (bitXor (register (bitXor (register (byX128 f)) (byX128 (outOfX128 f)))) (register (bitXor (register (outOfX128 s)) (byX128 s))))
     (register came) =
     ap register
-    (xor-exchange (bitXor (register (byX128 f)) (register (out s))) (register first) (bitXor (byX128 (out f)) (byX128 s)) second
-    ∙ ap (λ (x : ℕ). bitXor x came) (xor-exchange (register (byX128 f)) (register (out s)) (byX128 (out f)) (byX128 s)))
+    (xor-exchange (bitXor (register (byX128 f)) (register (outOfX128 s))) (register first) (bitXor (byX128 (outOfX128 f)) (byX128 s)) second
+    ∙ ap (λ (x : ℕ). bitXor x came) (xor-exchange (register (byX128 f)) (register (outOfX128 s)) (byX128 (outOfX128 f)) (byX128 s)))
     ∙ linear-register .apart
-    (bitXor (bitXor (register (byX128 f)) (byX128 (out f))) (bitXor (register (out s)) (byX128 s)))
+    (bitXor (bitXor (register (byX128 f)) (byX128 (outOfX128 f))) (bitXor (register (outOfX128 s)) (byX128 s)))
     came
     ∙ ap (λ (x : ℕ). bitXor x (register came))
-    (linear-register .apart (bitXor (register (byX128 f)) (byX128 (out f))) (bitXor (register (out s)) (byX128 s))) in
+    (linear-register .apart (bitXor (register (byX128 f)) (byX128 (outOfX128 f))) (bitXor (register (outOfX128 s)) (byX128 s))) in
     let before : register (register (register (bitXor (register f) s)))
     ≡ bitXor (register (register (register (register f)))) (register (register (register s))) =
     ap register (apart-2 (register f) s) ∙ linear-register .apart (register (register (register f))) (register (register s)) in
@@ -173,7 +164,7 @@ more-pair f s first second hf hs =
     ap (λ (x : ℕ). register (bitXor x second)) (linear-register .apart (register (bitXor (register f) s)) first)
     ∙ ap register (xor-assoc (register (register (bitXor (register f) s))) (register first) second)
     ∙ linear-register .apart (register (register (bitXor (register f) s))) came in
-    ap₂ (λ (x y : ℕ). register (bitXor x (bitXor y second))) firsts (linear-byX128 .apart (out f) s)
+    ap₂ (λ (x y : ℕ). register (bitXor x (bitXor y second))) firsts (linear-byX128 .apart (outOfX128 f) s)
     ∙ sorted
     ∙ ap₂ (λ (x y : ℕ). bitXor (bitXor x y) (register came)) (part-first f hf) (part-second s hs)
     ∙ sym (after ∙ ap (λ (x : ℕ). bitXor x (register came)) before)

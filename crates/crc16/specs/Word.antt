@@ -27,6 +27,10 @@ byX64 z = bitXor (bitXor (z / 2 ^ 19) (z / 2 ^ 8)) (z / 2 ^ 5)
 abbrev pub byX128 : ℕ → ℕ
 byX128 z = bitXor (bitXor (z / 2 ^ 23) (z / 2 ^ 16)) (z / 2 ^ 9)
 
+-- and what of it falls out
+abbrev pub outOfX128 : ℕ → ℕ
+outOfX128 z = bitXor (bitXor (up 41 z) (up 48 z)) (up 55 z)
+
 -- modulo Q, x ^ 30 is x ^ 2 + 1
 abbrev pub belowX30 : ℕ → ℕ
 belowX30 a = bitXor (bitXor (up 34 (a / 2 ^ 34)) (up 30 a)) (up 30 a / 2 ^ 2)

@@ -9,7 +9,7 @@ ghost use Prim.Native.Nat.{_≤_};
 ghost use lib.ListN.{length, drop};
 ghost use Rattle.words.specs.Number.{number, bytesOf};
 ghost use Rattle.crc16.specs.Crc.{byteStep, crcFrom, crcOf};
-ghost use Rattle.crc16.specs.Word.{register, pairRegister, byX64, byX128, belowX30, belowX15};
+ghost use Rattle.crc16.specs.Word.{register, pairRegister, byX64, byX128, outOfX128, belowX30, belowX15};
 
 // Stands for the register's start, FFFF hex.
 const START: u64 = 0x0F14;
@@ -61,17 +61,21 @@ fn by_x128(z: u64) -> u64
     (z >> 23) ^ (z >> 16) ^ (z >> 9)
 }
 
-// Sixteen bytes more: the two words go by x^128 as one number of 128 bits, and what falls out of the first comes into the second.
+// What falls out of z x^128, which goes into the other word.
+fn out_of_x128(z: u64) -> u64
+    ensures { λ r. ⌜ r ≡ outOfX128 z ⌝ }
+{
+    (z << 41) ^ (z << 48) ^ (z << 55)
+}
+
+// Sixteen bytes more: the two words go by x^128 as one number of 128 bits, and what falls out of the first comes into the second. Each word's shifts
+// stand together: a shift of both at once is one instruction, and a slow one on some processors.
 fn pair_more(p: Pair, first: u64, second: u64) -> Pair
     ensures { λ r. ⌜ pairRegister (r .first) (r .second) ≡ crcFrom (crcFrom (pairRegister (p .first) (p .second)) (bytesOf 8 first)) (bytesOf 8 second) ⌝ }
 {
-    let out = (p.first << 41) ^ (p.first << 48) ^ (p.first << 55);
-    let a = (p.first >> 23) ^ (p.second << 41);
-    let b = (p.first >> 16) ^ (p.second << 48);
-    let c = (p.first >> 9) ^ (p.second << 55);
     Pair {
-        first: a ^ b ^ c ^ first,
-        second: by_x128(out ^ p.second) ^ second,
+        first: by_x128(p.first) ^ out_of_x128(p.second) ^ first,
+        second: by_x128(out_of_x128(p.first) ^ p.second) ^ second,
     }
 }
 

@@ -75,6 +75,17 @@ few-figures h out figs l = simp (lt-leb _ _ l) (go (isHeader h))
     go true = refl
     go false = refl
 
+-- it was made of a header
+pub fresh-header : (h : Header) (out y : List ℕ) (n : ℕ) → outcome (Done n) y ≡ freshOf h out → isHeader h ≡ true
+unfolding freshOf
+fresh-header h out y n p = go (isHeader h) refl p
+  where
+    go : (a : Bool) → isHeader h ≡ a
+        → outcome (Done n) y ≡ cond a (cond (leb (lengthOf h) (length out)) (outcome (Done (lengthOf h)) (written out 0 (freshImage h))) (outcome TooShort out)) (outcome OutOfRange out)
+        → isHeader h ≡ true
+    go true e q = e
+    go false e q = absurd (omega (arith, ap (λ (o : Outcome FreshAnswer (List ℕ)). freshNumber (o .result)) q))
+
 -- ---- what was made
 
 -- an image that was written stands at the front
@@ -130,5 +141,5 @@ fresh-made h out figs left n p =
       image = ap (take n) given ∙ take-at (freshImage h) (drop (lengthOf h) out) n (length-freshImage h ∙ k);
       figures = sym figures ∙ filled-front h allGaps figs many;
       same-length = sym (ap length figures) ∙ length-written figs 0 (allFigures h allGaps);
-      right = subst (Right h (cellAt (freshImage h))) figures (fresh-right h (cellAt (freshImage h)) figs many (fresh-gaps h));
+      right = subst (Right h (cellAt (freshImage h))) figures (fresh-right h (cellAt (freshImage h)) figs many (λ i l. fresh-gaps h i (a .0) l));
     }

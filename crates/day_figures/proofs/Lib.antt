@@ -1,5 +1,6 @@
 pub mod TalliesLaws
 pub mod FiguresLaws
 pub mod RowsLaws
+pub mod SumsLaws
 pub mod FreshLaws
 pub mod PutLaws

@@ -1,6 +1,7 @@
 pub mod Tallies
 pub mod Figures
 pub mod Rows
+pub mod Sums
 pub mod Both
 pub mod Fresh
 pub mod Put

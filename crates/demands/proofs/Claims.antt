@@ -127,6 +127,7 @@ demand-3 = record {
   log = history.log;
   answers = history.answers;
   ask-left = history.ask-left;
+  others = history.others;
   elsewhere = history.elsewhere;
   as-long = history.as-long;
   polled = history.polled;

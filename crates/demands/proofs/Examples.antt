@@ -7,12 +7,13 @@ use Rattle.words.specs.Place.{numberAt, written}
 use Rattle.frame.specs.Sealing.{framed, crcFits}
 use Rattle.reader.specs.Form.{formOf, lengthFor, functionFor, headOf}
 use Rattle.request.specs.Request.{requestFrame}
-use Rattle.log.specs.Cell.{noCounts, kindBytes, countsBytes, cellBytes, kindFits, cellBy, kindCell, cellOf}
+use Rattle.log.specs.Cell.{noCounts, kindFits, cellBy, kindCell}
 use Rattle.log.specs.Fresh.{gaps, freshImage}
 use Rattle.log.specs.Header as log
 use Rattle.slots.specs.Day.{isMinutes, slotsOf}
 use Rattle.log.specs.Header.{cellsOf, daysRight, isHeader, dateBytes, headerBytesAs, headerAt, markRight, versionRight, fieldsRight, headerOf, fittedTo, soundOf}
-use Rattle.log.specs.Image.{cellAt, putCell, applied, cellsBytes, imageOf}
+use Rattle.log.specs.Pair.{pairOf, packed, putPair}
+use Rattle.log.specs.Image.{cellsAt, readAmong, cellAt, putKind, putCounts, putCellAmong, putCell, applied, kindsBytes, columnBytes, lapsesBytes, cellsBytes, imageOf}
 use Rattle.season_nights.specs.Night.{missing, doubled}
 use Rattle.log.specs.Interval.{nightOn, exists, comesTwice, intervalOf}
 use Rattle.day_figures.specs.Tallies as figure-row
@@ -42,7 +43,8 @@ pub together : all examples ≡ true
 unfolding all examples framed bytesOf requestFrame crcOf crcFrom byteStep eightBits times bitStep lastSunday dateOf dateAt countOff dayNumber starts
     lengthOf daysInMonth monthLengths leap runOf step Ask.asked Take.taken Take.decided Take.updated Take.putWith Take.updateOf Take.sameCounts rowOf formOf lengthFor functionFor headOf
     crcFits numberAt number written isDate isMinutes slotsOf cellsOf log.lengthOf daysRight isHeader dateBytes headerBytesAs headerAt markRight
-    versionRight fieldsRight headerOf fittedTo soundOf noCounts kindBytes countsBytes cellBytes kindFits cellBy kindCell cellOf cellAt putCell applied cellsBytes imageOf
+    versionRight fieldsRight headerOf fittedTo soundOf noCounts kindFits cellBy kindCell pairOf packed putPair cellsAt readAmong cellAt putKind putCounts putCellAmong putCell
+    applied kindsBytes columnBytes lapsesBytes cellsBytes imageOf
     missing nightOn exists intervalOf gaps freshImage verdictOf verdictBy changeVerdict checked passed argumentFits telemetryFits isTelemetry parameterByte functionOf
     parameterOf firstOf dataFits telemetryOf telemetryBytes fresh quietSecond
     figuresOf rowAt putRow comesTwice doubled changeOf movedBy cellRow rowFits netFits netRow talliesIn figure-row.rowOf

@@ -21,10 +21,12 @@ use Rattle.log.proofs.FreshLaws.{length-gaps, gap-at}
 use Rattle.log.specs.Header.{version, isHeader, cellsOf, lengthOf, soundOf}
 use Rattle.log.specs.Image.{applied, imageOf, cellAt, AllCells, LapsesFit}
 use Rattle.log.proofs.ImageLaws.{image-alike, sound-image, bytes-image}
+use Rattle.log.specs.declared.image.Change.{Change}
 use Rattle.log.specs.declared.image.Change.the-variants as change
 use Rattle.log.specs.View.{View, viewOf}
 use Rattle.log.proofs.ViewLaws as layout
-use Rattle.log.proofs.ViewLaws.{viewBy, view-image, length-applied}
+use Rattle.log.proofs.ViewLaws.{Holds, At, viewBy, view-image, others-stay, length-applied}
+use Rattle.log.specs.Pair.{pairOf}
 use Rattle.log.specs.declared.cell.Cell.{Cell}
 use Rattle.log.specs.declared.cell.Cell.the-variants.{Gap, Empty, Measured}
 use Rattle.log.specs.declared.cell.CellAnswer.{CellAnswer}
@@ -35,11 +37,12 @@ use Rattle.day_figures.specs.Fresh.{freshWith}
 use Rattle.day_figures.specs.Rows.{figuresOf, Right, allFigures, allGaps}
 use Rattle.day_figures.proofs.FreshLaws.{fresh-made, fresh-both}
 use Rattle.logger.specs.Take as Take
-use Rattle.logger.proofs.TakeLaws.{Step, decided-ways}
+use Rattle.logger.proofs.TakeLaws.{Step, decided-ways, decided-holds}
 use Rattle.logger.specs.Lapse as Lapse
-use Rattle.logger.proofs.LapseLaws.{lapsing-ways}
+use Rattle.logger.proofs.LapseLaws.{lapsing-ways, lapsing-holds}
 use Rattle.logger.specs.declared.no_reply.LapseDecision.{LapseDecision}
-use Rattle.logger.specs.Book.{Call, ask, lapse, reply, Answer, Book, isZero, counts, firstOf, byFirst, afresh, cameFirst, startBook, bookStep, runOf, bookRun, workedOut, cutAt255, lapsesOut, AllBytes}
+use Rattle.logger.specs.Book.{Call, ask, lapse, reply, Answer, Book, isZero, counts, firstOf, byFirst, afresh, cameFirst, startBook, bookStep, runOf, bookRun}
+use Rattle.logger.specs.Book.{workedOut, cutAt255, lapsesOut, CallBytes, AllBytes}
 use Rattle.logger.proofs.BookLaws.{Fitting, length-workedOut, workedOut-at}
 use Rattle.logger.specs.Run.{State, step, run}
 use Rattle.logger.proofs.StepLaws.{stateOf, Sane, step-agrees, step-sane}
@@ -53,7 +56,7 @@ use Rattle.logfile.proofs.FileLaws as logs
 use Rattle.logfile.proofs.RowLaws.{NoneBefore}
 use Rattle.logfile.proofs.FileLaws.{IsLog, known-today, seasons-today, lapses-today, accepted, image-front}
 use Rattle.polling.specs.Reached.{Polled}
-use Rattle.demands.specs.Demand3.{Start, begin, ran, booked, logAfresh, Elsewhere}
+use Rattle.demands.specs.Demand3.{Start, begin, ran, booked, logAfresh, OtherCell, Elsewhere, SameCell}
 
 -- ---- a list of calls
 
@@ -138,29 +141,66 @@ start-state h cells lapses figs e k f =
 
 -- ---- what a call leaves alone
 
-byte-stays : (s : State) (y : List ℕ) (j : ℕ) → Elsewhere s j → byteAt (Take.taken (both (s .log) (s .figures)) (s .held) y .left .log) j ≡ byteAt (s .log) j
+bits-stay : (s : State) (y : List ℕ) (q j : ℕ) → j < 4 → Elsewhere s q j
+    → pairOf (byteAt (Take.taken (both (s .log) (s .figures)) (s .held) y .left .log) q) j ≡ pairOf (byteAt (s .log) q) j
 unfolding Take.taken applied
-byte-stays s y j k =
-    decided-ways (λ (o : Step). byteAt (applied (o .result .change) (s .log)) j ≡ byteAt (s .log) j) (viewOf (s .log)) (s .figures) (s .held) y (record {
+bits-stay s y q j l k =
+    decided-ways (λ (o : Step). pairOf (byteAt (applied (o .result .change) (s .log)) q) j ≡ pairOf (byteAt (s .log) q) j) (viewOf (s .log)) (s .figures) (s .held) y
+    (record {
       kept-open = λ a n. refl;
       closed = λ a n. refl;
-      put = λ h i old c e o g is done. layout.elsewhere (s .log) (change.Put i c) i j refl (k h i e o);
+      put = λ h i old c e o g is done. layout.elsewhere (s .log) h (change.Put i c) i q j e refl l (k h i e o);
     })
 
-lapse-stays : (s : State) (j : ℕ) → Elsewhere s j → byteAt (Lapse.lapsed (s .log) (s .held) .left) j ≡ byteAt (s .log) j
+lapse-stays : (s : State) (q j : ℕ) → j < 4 → Elsewhere s q j → pairOf (byteAt (Lapse.lapsed (s .log) (s .held) .left) q) j ≡ pairOf (byteAt (s .log) q) j
 unfolding Lapse.lapsed applied
-lapse-stays s j k =
-    lapsing-ways (λ (d : LapseDecision). byteAt (applied (d .change) (s .log)) j ≡ byteAt (s .log) j) (viewOf (s .log)) (s .held) (record {
+lapse-stays s q j l k =
+    lapsing-ways (λ (d : LapseDecision). pairOf (byteAt (applied (d .change) (s .log)) q) j ≡ pairOf (byteAt (s .log) q) j) (viewOf (s .log)) (s .held) (record {
       none = λ e. refl;
       refused = λ a n. refl;
-      counted = λ h i e o. layout.elsewhere (s .log) (change.Lapses i (Lapse.oneMore (viewOf (s .log) .lapses i))) i j refl (k h i e o);
+      counted = λ h i e o. layout.elsewhere (s .log) h (change.Lapses i (Lapse.oneMore (viewOf (s .log) .lapses i))) i q j e refl l (k h i e o);
     })
 
-pub elsewhere : (s : State) (c : Call) (j : ℕ) → Elsewhere s j → byteAt (step s c .left .log) j ≡ byteAt (s .log) j
+pub elsewhere : (s : State) (c : Call) (q j : ℕ) → j < 4 → Elsewhere s q j → pairOf (byteAt (step s c .left .log) q) j ≡ pairOf (byteAt (s .log) q) j
 unfolding step
-elsewhere s (ask address day slot out) j k = refl
-elsewhere s lapse j k = lapse-stays s j k
-elsewhere s (reply y) j k = byte-stays s y j k
+elsewhere s (ask address day slot out) q j l k = refl
+elsewhere s lapse q j l k = lapse-stays s q j l k
+elsewhere s (reply y) q j l k = bits-stay s y q j l k
+
+-- a change of one cell that the log can hold leaves every other
+same-cell : (s : List ℕ) (ch : Change) (i j : ℕ) → Holds (viewOf s) ch → At ch i → (j ≡ i → ⊥) → SameCell (applied ch s) s j
+same-cell s ch i j k a ne = let w = others-stay s ch i j k a ne in record { cell = w .0; lapses = w .1 }
+
+unchanged : (s : List ℕ) (j : ℕ) → SameCell (applied change.None s) s j
+unfolding applied
+unchanged s j = record { cell = refl; lapses = refl }
+
+reply-others : (s : State) (y : List ℕ) (j : ℕ) → Bytes y → OtherCell s j → SameCell (Take.taken (both (s .log) (s .figures)) (s .held) y .left .log) (s .log) j
+unfolding Take.taken
+reply-others s y j b k =
+    decided-ways (λ (o : Step). Holds (viewOf (s .log)) (o .result .change) → SameCell (applied (o .result .change) (s .log)) (s .log) j)
+    (viewOf (s .log)) (s .figures) (s .held) y (record {
+      kept-open = λ a n x. unchanged (s .log) j;
+      closed = λ a n x. unchanged (s .log) j;
+      put = λ h i old c e o g is done x. same-cell (s .log) (change.Put i c) i j x refl (k h i e o);
+    })
+    (decided-holds (viewOf (s .log)) (s .figures) (s .held) y b)
+
+lapse-others : (s : State) (j : ℕ) → OtherCell s j → SameCell (Lapse.lapsed (s .log) (s .held) .left) (s .log) j
+unfolding Lapse.lapsed
+lapse-others s j k =
+    lapsing-ways (λ (d : LapseDecision). Holds (viewOf (s .log)) (d .change) → SameCell (applied (d .change) (s .log)) (s .log) j) (viewOf (s .log)) (s .held) (record {
+      none = λ e x. unchanged (s .log) j;
+      refused = λ a n x. unchanged (s .log) j;
+      counted = λ h i e o x. same-cell (s .log) (change.Lapses i (Lapse.oneMore (viewOf (s .log) .lapses i))) i j x refl (k h i e o);
+    })
+    (lapsing-holds (viewOf (s .log)) (s .held))
+
+pub others : (s : State) (c : Call) (j : ℕ) → CallBytes c → OtherCell s j → SameCell (step s c .left .log) (s .log) j
+unfolding step
+others s (ask address day slot out) j b k = record { cell = refl; lapses = refl }
+others s lapse j b k = lapse-others s j k
+others s (reply y) j b k = reply-others s y j b k
 
 pub as-long : (s : State) (c : Call) → length (step s c .left .log) ≡ length (s .log)
 unfolding step Take.taken Lapse.lapsed

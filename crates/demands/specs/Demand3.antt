@@ -17,6 +17,7 @@ use Rattle.words.specs.Place.{byteAt}
 use Rattle.log.specs.Fresh.{freshImage}
 use Rattle.log.specs.declared.fresh.FreshAnswer.the-variants as made
 use Rattle.log.specs.Header.{isHeader, cellsOf, lengthOf, soundOf}
+use Rattle.log.specs.Pair.{pairOf}
 use Rattle.log.specs.Image.{OutsideCell, imageOf, AllCells, LapsesFit}
 use Rattle.log.specs.Interval.{existsAt}
 use Rattle.log.specs.declared.cell.Cell.{Cell}
@@ -30,7 +31,7 @@ use Rattle.day_figures.specs.Rows.{figuresOf, Right, allFigures, allGaps}
 use Rattle.logfile.specs.File.{fileBytes}
 use Rattle.logfile.specs.Read.{readFile}
 use Rattle.logfile.specs.declared.read.ReadAnswer.the-variants as read
-use Rattle.logger.specs.Book.{Call, Answer, Book, startBook, bookRun, workedOut, lapsesOut, AllBytes}
+use Rattle.logger.specs.Book.{Call, Answer, Book, startBook, bookRun, workedOut, lapsesOut, CallBytes, AllBytes}
 use Rattle.logger.specs.Held.{OpenFor}
 use Rattle.logger.specs.Run.{State, state, step, run}
 use Rattle.logger.specs.declared.held.OpenAsk.the-variants.{Closed}
@@ -69,9 +70,18 @@ logAfresh start calls =
     let book = booked start calls .left in
     imageOf (start .header) (workedOut (book .kept) 0 (cellsOf (start .header))) (lapsesOut (book .lapses))
 
--- byte j lies outside the cell whose ask is open, if one is
-abbrev pub Elsewhere : State → ℕ → Type 0
-Elsewhere s j = (h : Header) (i : ℕ) → soundOf (s .log) ≡ Sound h → OpenFor h (s .held) i → OutsideCell i j
+-- cell j is another than the one whose ask is open, if one is
+abbrev pub OtherCell : State → ℕ → Type 0
+OtherCell s j = (h : Header) (i : ℕ) → soundOf (s .log) ≡ Sound h → OpenFor h (s .held) i → j ≡ i → ⊥
+
+-- pair j of byte q's bits is none of those that hold it
+abbrev pub Elsewhere : State → ℕ → ℕ → Type 0
+Elsewhere s q j = (h : Header) (i : ℕ) → soundOf (s .log) ≡ Sound h → OpenFor h (s .held) i → OutsideCell (cellsOf h) i q j
+
+-- what is seen of cell j, and how many asks for it lapsed, is the same in two logs
+pub record SameCell (s t : List ℕ) (j : ℕ) : Type 0 where
+  pub cell : viewOf s .cell j ≡ viewOf t .cell j
+  pub lapses : viewOf s .lapses j ≡ viewOf t .lapses j
 
 pub record Demand3 : Type 0 where
   -- "Take a fresh log, or one read from a file": what `fresh_log` and `read_file` say is done stands at the front of the lent bytes and, with the lent
@@ -92,8 +102,10 @@ pub record Demand3 : Type 0 where
   -- "Every answer, and the ask left open, are those of document 01's plain book."
   pub answers : (b : Both) (start : Start b) (calls : List Call) → AllBytes calls → ran b calls .result ≡ booked start calls .result
   pub ask-left : (b : Both) (start : Start b) (calls : List Call) → AllBytes calls → ran b calls .left .held ≡ booked start calls .left .held
-  -- "None of these calls alters a byte of the log outside the cell whose ask was open before the call."
-  pub elsewhere : (s : State) (c : Call) (j : ℕ) → Elsewhere s j → byteAt (step s c .left .log) j ≡ byteAt (s .log) j
+  -- "None of these calls alters a byte of the log outside the cell whose ask was open before the call", which "then speaks of cells, and of the bits that
+  -- hold them" (document 02, CR 9): of a byte of kinds the three other pairs of bits stay too
+  pub others : (s : State) (c : Call) (j : ℕ) → CallBytes c → OtherCell s j → SameCell (step s c .left .log) (s .log) j
+  pub elsewhere : (s : State) (c : Call) (q j : ℕ) → j < 4 → Elsewhere s q j → pairOf (byteAt (step s c .left .log) q) j ≡ pairOf (byteAt (s .log) q) j
   pub as-long : (s : State) (c : Call) → length (step s c .left .log) ≡ length (s .log)
   -- what the program `poll` promises (`polling/specs/Reached.antt`), whatever the line carried
   pub polled : (b : Both) (start : Start b) (c : Both) (p : Polled b c) → c .log ≡ logAfresh start (p .reached .calls)

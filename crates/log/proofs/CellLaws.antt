@@ -13,8 +13,9 @@ use Rattle.words.specs.Place.{byteAt, numberAt}
 use Rattle.case_laws.proofs.Test.{both, chosen}
 use Rattle.words.proofs.NumberLaws.{bytes-bytesOf}
 use Rattle.log.proofs.ByteLaws.{run, take-run, two, low, high, bytes-nil, bytes-cons, bytes-append}
-use Rattle.log.specs.Cell.{countsSize, cellSize, cellBytes, noCounts, isCell, kindBytes, countsBytes, kindFits, cellBy}
-use Rattle.log.specs.Cell.{kindCell, kindNames, cellOf, knownCell, ifGood, CountsFit, CellFits, IsCell}
+use Rattle.log.specs.Cell.{kindOf, e+Of, e-Of, r+Of, r-Of}
+use Rattle.log.specs.Cell.{countsSize, cellSize, cellBytes, noCounts, isCell, kindBytes, countsBytes, kindFits}
+use Rattle.log.specs.Cell.{cellBy, kindCell, kindNames, cellOf, ifGood, CountsFit, CellFits, IsCell}
 use Rattle.log.specs.declared.cell.Cell.{Cell}
 use Rattle.log.specs.declared.cell.Cell.the-variants.{Gap, Empty, Measured}
 use Rattle.log.specs.declared.cell.CellAnswer.{CellAnswer}
@@ -72,39 +73,56 @@ cellOf-bytes Empty i = refl
 cellOf-bytes (Measured e+ e- r+ r-) i =
     simp (low-high e+ (i .fits .e-plus), low-high e- (i .fits .e-minus), low-high r+ (i .fits .r-plus), low-high r- (i .fits .r-minus), not-true (noCounts e+ e- r+ r-) (i .right))
 
+-- and from its kind and its counts
+pub kindCell-of : (c : Cell) → isCell c ≡ true → kindCell (kindOf c) (e+Of c) (e-Of c) (r+Of c) (r-Of c) ≡ Good c
+unfolding kindCell kindFits cellBy isCell noCounts
+kindCell-of Gap i = refl
+kindCell-of Empty i = refl
+kindCell-of (Measured e+ e- r+ r-) i = simp (not-true (noCounts e+ e- r+ r-) i)
+
 -- ---- from the bytes to the cell and back
 
 -- what is known of a cell that was read as a kind and four counts
-record Kind (kind e+ e- r+ r- : ℕ) (c : Cell) : Type 0 where
-  right : isCell c ≡ true
-  fits : CountsFit e+ e- r+ r- → CellFits c
-  bytes : countsBytes c ≡ kindBytes kind e+ e- r+ r-
+pub record Kind (kind e+ e- r+ r- : ℕ) (c : Cell) : Type 0 where
+  pub right : isCell c ≡ true
+  pub fits : CountsFit e+ e- r+ r- → CellFits c
+  pub bytes : countsBytes c ≡ kindBytes kind e+ e- r+ r-
+  pub kind-is : kind ≡ kindOf c
+  pub e+-is : e+ ≡ e+Of c
+  pub e--is : e- ≡ e-Of c
+  pub r+-is : r+ ≡ r+Of c
+  pub r--is : r- ≡ r-Of c
 
 pub bad≢good : (c : Cell) → Bad ≡ Good c → ⊥
 bad≢good c p = let z : _≡_ {A = ℕ} 0 1 = cc in omega arith
 
 module _ (kind e+ e- r+ r- : ℕ) where
-  no-kind : (c : Cell) (k : ℕ) → kind ≡ k → noCounts e+ e- r+ r- ≡ true → isCell c ≡ true → CellFits c → countsBytes c ≡ kindBytes k 0 0 0 0 → Kind kind e+ e- r+ r- c
-  unfolding noCounts
-  no-kind c k e z right fits bytes =
+  no-kind : (c : Cell) → kind ≡ kindOf c → noCounts e+ e- r+ r- ≡ true → isCell c ≡ true → CellFits c
+      → 0 ≡ e+Of c → 0 ≡ e-Of c → 0 ≡ r+Of c → 0 ≡ r-Of c → Kind kind e+ e- r+ r- c
+  unfolding noCounts countsBytes
+  no-kind c e z right fits f g h i =
       let a = both _ _ z in
       let b = both _ _ (a .0) in
       let d = both _ _ (b .0) in
-      record { right = right; fits = λ f. fits; bytes = bytes ∙ sym (simp (e, eqb-true e+ 0 (d .0), eqb-true e- 0 (d .1), eqb-true r+ 0 (b .1), eqb-true r- 0 (a .1))) }
+      let p = eqb-true e+ 0 (d .0) ∙ f in
+      let q = eqb-true e- 0 (d .1) ∙ g in
+      let r = eqb-true r+ 0 (b .1) ∙ h in
+      let t = eqb-true r- 0 (a .1) ∙ i in
+      record { right = right; fits = λ k. fits; bytes = λ x. sym (λ y. kindBytes (e y) (p y) (q y) (r y) (t y)) x; kind-is = e; e+-is = p; e--is = q; r+-is = r; r--is = t }
 
   fit-kind : (n : Bool) → noCounts e+ e- r+ r- ≡ n → kindFits kind n ≡ true → Kind kind e+ e- r+ r- (cellBy kind e+ e- r+ r-)
   unfolding kindFits cellBy isCell countsBytes
   fit-kind true z p = go (eqb kind 0) refl (eqb kind 1) refl
     where
       go : (g : Bool) → eqb kind 0 ≡ g → (m : Bool) → eqb kind 1 ≡ m → Kind kind e+ e- r+ r- (cond g Gap (cond m Empty (Measured e+ e- r+ r-)))
-      go true k m _ = no-kind Gap 0 (eqb-true kind 0 k) z refl tt refl
-      go false _ true k = no-kind Empty 1 (eqb-true kind 1 k) z refl tt refl
+      go true k m _ = no-kind Gap (eqb-true kind 0 k) z refl tt refl refl refl refl
+      go false _ true k = no-kind Empty (eqb-true kind 1 k) z refl tt refl refl refl refl
       go false k false l = absurd (omega (arith, ltb-true kind 2 p, eqb-false kind 0 k, eqb-false kind 1 l))
   fit-kind false z p =
       let e : kind ≡ 2 = eqb-true kind 2 p in
-      rw e (record { right = ap not z; fits = λ f. f; bytes = refl })
+      rw e (record { right = ap not z; fits = λ f. f; bytes = refl; kind-is = refl; e+-is = refl; e--is = refl; r+-is = refl; r--is = refl })
 
-  kind-of : (c : Cell) → kindCell kind e+ e- r+ r- ≡ Good c → Kind kind e+ e- r+ r- c
+  pub kind-of : (c : Cell) → kindCell kind e+ e- r+ r- ≡ Good c → Kind kind e+ e- r+ r- c
   unfolding kindCell
   kind-of c p =
       let n = noCounts e+ e- r+ r- in
@@ -139,21 +157,11 @@ pub fits-named : (kind e+ e- r+ r- : ℕ) (n : Bool) → kindFits kind n ≡ tru
 unfolding kindNames
 fits-named kind e+ e- r+ r- n p = simp (lt-ltb kind 3 (fits-below kind n p))
 
--- bytes that are a cell name it by their kind
-pub known-good : (bs : List ℕ) (c : Cell) → cellOf bs ≡ Good c → knownCell bs ≡ Good c
-unfolding cellOf knownCell kindCell
-known-good bs c p =
-    let kind = byteAt bs 0 in
-    let n = noCounts (numberAt bs 1 2) (numberAt bs 3 2) (numberAt bs 5 2) (numberAt bs 7 2) in
-    let a = chosen (eqb (length bs) countsSize) (kindCell kind (numberAt bs 1 2) (numberAt bs 3 2) (numberAt bs 5 2) (numberAt bs 7 2)) Bad p (bad≢good c) in
-    let b = chosen (kindFits kind n) (Good (cellBy kind (numberAt bs 1 2) (numberAt bs 3 2) (numberAt bs 5 2) (numberAt bs 7 2))) Bad (a .1) (bad≢good c) in
-    simp (a .0) (fits-named kind _ _ _ _ n (b .0) ∙ b .1)
-
 -- what is read as a cell is one
 pub good-right : (bs : List ℕ) (c : Cell) → cellOf bs ≡ Good c → isCell c ≡ true
 good-right bs c p = nine-of bs c p .kind .right
 
-two-below : (bs : List ℕ) (i : ℕ) → Bytes bs → numberAt bs i 2 < 65536
+pub two-below : (bs : List ℕ) (i : ℕ) → Bytes bs → numberAt bs i 2 < 65536
 two-below bs i h = omega (arith, two bs i, h i, h (i + 1))
 
 pub good-is-cell : (bs : List ℕ) (c : Cell) → Bytes bs → cellOf bs ≡ Good c → IsCell c

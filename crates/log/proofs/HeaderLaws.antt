@@ -13,7 +13,7 @@ use Rattle.words.specs.Number.{number, bytesOf, Bytes}
 use Rattle.words.specs.Place.{byteAt, numberAt}
 use Rattle.words.proofs.NumberLaws.{bytes-bytesOf}
 use Rattle.case_laws.proofs.Test.{both, chosen}
-use Rattle.slots.specs.Day.{isMinutes}
+use Rattle.slots.specs.Day.{isMinutes, slotsOf}
 use Rattle.calendar.specs.Count.{starts}
 use Rattle.calendar.specs.Date as date
 use Rattle.calendar.specs.Date.{leap, monthLengths, daysInMonth, daysBefore, monthNumber, isDate, dayNumber, dateOn, daysLater, dateOf, centuryDays}
@@ -22,7 +22,6 @@ use Rattle.calendar.proofs.DateLaws.{ranges, month-length, date-lies}
 use Rattle.calendar.specs.declared.date.Date.{Date}
 use Rattle.calendar.specs.declared.date.DateAnswer.{DateAnswer}
 use Rattle.calendar.specs.declared.date.DateAnswer.the-variants.{On, NotADate, OutOfRange}
-use Rattle.log.specs.Cell.{cellSize}
 use Rattle.log.specs.Header.{headerSize, daysMost, cellsMost, imageMost, version, ifSound, cellsOf, lengthOf, daysRight, isHeader, dateBytes, headerBytesAs, headerBytes, headerAt}
 use Rattle.log.specs.Header.{markRight, versionAt, versionRight, fieldsRight, headerOf, fittedTo, soundOf}
 use Rattle.log.proofs.ByteLaws.{run, take-run, low, high, low-of, high-of, bytes-nil, bytes-cons, bytes-append}
@@ -37,6 +36,20 @@ unfolding cellsOf
 cells-at-most h d =
     let k : h .days ≤ 255 = omega arith in
     mul-le-mul k (slots-at-most (h .minutes))
+
+-- "Every day has 48 or 96 slots", or none: the kinds of a log's cells fill their bytes
+days-fours : (d m : ℕ) → d * slotsOf m % 4 ≡ 0
+unfolding slotsOf isMinutes
+days-fours d m = go (eqb m 15) refl (eqb m 30) refl
+  where
+    go : (a : Bool) → eqb m 15 ≡ a → (b : Bool) → eqb m 30 ≡ b → d * slotsOf m % 4 ≡ 0
+    go true e b f = rw (eqb-true m 15 e) (omega arith)
+    go false e true f = rw (eqb-true m 30 f) (omega arith)
+    go false e false f = rw (e, f) (omega arith)
+
+pub cells-fours : (h : Header) → cellsOf h % 4 ≡ 0
+unfolding cellsOf
+cells-fours h = days-fours (h .days) (h .minutes)
 
 -- ---- what a header keeps to
 
@@ -277,6 +290,11 @@ header-front v s h bytes mark right l long = take-run headerSize 0 s long ∙ he
 pub sound-long : (s : List ℕ) (h : Header) → soundOf s ≡ Sound h → headerSize ≤ length s
 unfolding lengthOf
 sound-long s h p = omega (arith, sound-log s h p .size)
+
+-- an image has room for its header
+pub header-in : (h : Header) → headerSize ≤ lengthOf h
+unfolding lengthOf
+header-in h = omega arith
 
 -- no right header has more cells, or a longer image
 pub cells-most : (h : Header) → isHeader h ≡ true → cellsOf h ≤ cellsMost

@@ -1,26 +1,35 @@
 -- What follows from the definition of an image: what is read after a put, there and elsewhere; what a put keeps; and that an image is
 -- that of its header and its cells.
-use Prim.Native.Nat.{ℕ, zero, suc, _+_, _*_, _-_, _≤_, _<_}
+use Prim.Native.Nat.{ℕ, zero, suc, _+_, _*_, _-_, _/_, _%_, _≤_, _<_}
 use native.Mathlib.Nat.{add-zero, zero-add}
 use native.Mathlib.Omega.{arith}
 use mathlib.Core.Path.{_≡_, refl, sym, ap, ap₂, _∙_}
-use mathlib.Core.Bool.{Bool, true, false}
+use mathlib.Core.Bool.{Bool, true, false, cond}
 use mathlib.Core.List.{List, [], _∷_, _++_, map, append-assoc}
-use mathlib.Core.Logic.{inl, inr}
+use mathlib.Core.Logic.{_⊎_, inl, inr}
 use lib.Dec.{ltb, eqb}
-use lib.ListN.{length, getD, take, drop, length-append, length-take, length-drop, take-append-drop, drop-of-length-le, List·getD-eq-default}
-use lib.Seq.{take-at, take-append-le, drop-nil, drop-cons, drop-drop, drop-append-le, drop-append-add, getD-drop, getD-append-seam}
-use borrow.Author.Tests.{ltb-true, ltb-false, ne-eqb}
-use Rattle.words.specs.Number.{Bytes}
+use lib.ListN.{length, getD, take, drop, set, length-append, drop-of-length-le, List·getD-append}
+use lib.Seq.{getD-append-add, getD-take}
+use borrow.Author.Tests.{ltb-true, lt-ltb}
+use Rattle.case_laws.proofs.Test.{chosen}
+use Rattle.words.specs.Number.{bytesOf, Bytes}
 use Rattle.words.specs.Place.{byteAt, numberAt, written}
-use Rattle.words.proofs.PlaceLaws.{onward, length-written, part-kept, part-written, byteAt-kept, byteAt-written, numberAt-kept}
-use Rattle.words.proofs.Part.{written-part, written-rest}
-use Rattle.log.proofs.ByteLaws.{bytes-part, bytes-nil, bytes-append}
-use Rattle.log.specs.Header.{headerSize, version, cellsOf, lengthOf, isHeader, headerBytes, headerAt, markRight, versionRight, fieldsRight, headerOf, soundOf}
-use Rattle.log.proofs.HeaderLaws.{length-headerBytes, bytes-header, sound-bytes, sound-log, sound-front}
-use Rattle.log.specs.Cell.{countsSize, cellSize, cellOf, knownCell, countsBytes, cellBytes, IsCell}
-use Rattle.log.proofs.CellLaws.{length-countsBytes, length-cellBytes, bytes-cellBytes, cellOf-bytes, known-good, good-bytes, good-is-cell}
-use Rattle.log.specs.Image.{cellStart, lapsesPlace, cellAt, knownAt, lapsesAt, putCell, putLapses, putWhole, putCells, cellsBytes, imageOf, AllCells, LapsesFit}
+use Rattle.words.proofs.NumberLaws.{bytes-bytesOf}
+use Rattle.words.proofs.PlaceLaws.{length-written, byteAt-kept, numberAt-kept, numberAt-front, numberAt-behind, numberAt-behind-bytes, byteAt-written, written-fits}
+use Rattle.words.proofs.Part.{written-part}
+use Rattle.log.proofs.ByteLaws.{bytes-nil, bytes-cons, bytes-append}
+use Rattle.log.specs.Header.{headerSize, version, sizeFor, cellsOf, lengthOf, isHeader, headerBytes, headerAt, markRight, versionRight, fieldsRight, headerOf, soundOf}
+use Rattle.log.proofs.HeaderLaws.{cells-fours, header-ranges, length-headerBytes, bytes-header, headerAt-bytes, sound-bytes, sound-log, sound-front}
+use Rattle.log.specs.Cell.{kindOf, e+Of, e-Of, r+Of, r-Of, kindCell, kindNames, kindFits, noCounts, cellBy, CountsFit, IsCell}
+use Rattle.log.proofs.CellLaws.{Kind, kindCell-of, kind-of, bad≢good, fits-named, two-below}
+use Rattle.log.specs.Pair.{pairOf, packed}
+use Rattle.log.proofs.PairLaws.{packed-at, packed-byte, pair-byte}
+use Rattle.log.specs.Image.{kindPlace, countPlace, lapsesPlace, kindAt, countAt, cellsAt, readAmong, cellAmong, lapsesAmong, cellAt, lapsesAt}
+use Rattle.log.specs.Image.{putKind, putCounts, putCellAmong, putLapsesAmong, putCell, putLapses, OutsideCell, of-lapses}
+use Rattle.log.specs.Image.{kindsBytes, columnBytes, lapsesBytes, cellsBytes, imageOf, AllCells, LapsesFit}
+use Rattle.log.proofs.ColumnLaws.{Room, room-kept, Parts, partsAt, partsOf, lapsed, cellFrom, kind-four, counts-fit, byte-stays, parts-there, parts-elsewhere, outside-stays}
+use Rattle.log.proofs.ColumnLaws.{Off, before-off, behind-off, byte-lapses, front-lapses, lapses-there, lapses-elsewhere, length-putCellAmong, length-putLapsesAmong}
+use Rattle.log.proofs.ColumnLaws.{same-cell, same-front, same-lapses, cell-in, lapses-in-log, none-past, no-lapses-past, same-bytes}
 use Rattle.log.specs.View.{seenFrom}
 use Rattle.log.specs.declared.header.Header.{Header}
 use Rattle.log.specs.declared.header.Lent.the-variants.{Sound}
@@ -30,17 +39,6 @@ use Rattle.log.specs.declared.cell.CellAnswer.{CellAnswer}
 use Rattle.log.specs.declared.cell.CellAnswer.the-variants.{Good, Bad}
 
 -- ---- what a put keeps
-
-pub length-putCell : (s : List ℕ) (i : ℕ) (c : Cell) → length (putCell s i c) ≡ length s
-unfolding putCell
-length-putCell s i c = length-written s (cellStart i) (countsBytes c)
-
-pub length-putLapses : (s : List ℕ) (i n : ℕ) → length (putLapses s i n) ≡ length s
-unfolding putLapses
-length-putLapses s i n = length-written s (lapsesPlace i) (n ∷ [])
-
-pub length-putWhole : (s : List ℕ) (i : ℕ) (c : Cell) (n : ℕ) → length (putWhole s i c n) ≡ length s
-length-putWhole s i c n = length-putLapses (putCell s i c) i n ∙ length-putCell s i c
 
 -- what is written behind the header leaves it, and the length
 module _ (s : List ℕ) (a : ℕ) (bs : List ℕ) (l : headerSize ≤ a) where
@@ -57,266 +55,575 @@ module _ (s : List ℕ) (a : ℕ) (bs : List ℕ) (l : headerSize ≤ a) where
       let ke = number-kept 10 (omega arith) in
       simp (byte-kept 5 (omega arith), byte-kept 6 (omega arith), day, byte-kept 8 (omega arith), byte-kept 9 (omega arith), ke, byte-kept 12 (omega arith))
 
+  cellsAt-kept : cellsAt (written s a bs) ≡ cellsAt s
+  unfolding cellsAt
+  cellsAt-kept = ap cellsOf headerAt-kept
+
   soundOf-kept : soundOf (written s a bs) ≡ soundOf s
   unfolding soundOf markRight versionRight headerOf fieldsRight
   soundOf-kept =
       simp (byte-kept 0 (omega arith), byte-kept 1 (omega arith), byte-kept 2 (omega arith), number-kept 3 (omega arith), headerAt-kept, byte-kept 13 (omega arith), length-written)
 
+-- so does every put: it writes behind the header alone
+module _ {A : Type 0} (f : List ℕ → A) (kept : (s : List ℕ) (a : ℕ) (bs : List ℕ) → headerSize ≤ a → f (written s a bs) ≡ f s) (n : ℕ) (s : List ℕ) (i : ℕ) where
+  put-keeps : (c : Cell) → f (putCellAmong n s i c) ≡ f s
+  unfolding putCellAmong putCounts putKind
+  put-keeps c = go (ltb i n)
+    where
+      go : (b : Bool) → f (cond b (putCounts n (putKind s i (kindOf c)) i (e+Of c) (e-Of c) (r+Of c) (r-Of c)) s) ≡ f s
+      go true =
+          kept _ (countPlace n (3 * n + i)) _ (omega arith)
+          ∙ kept _ (countPlace n (2 * n + i)) _ (omega arith)
+          ∙ kept _ (countPlace n (n + i)) _ (omega arith)
+          ∙ kept _ (countPlace n i) _ (omega arith)
+          ∙ kept s (kindPlace i) _ (omega arith)
+      go false = refl
+
+  lapses-keep : (x : ℕ) → f (putLapsesAmong n s i x) ≡ f s
+  unfolding putLapsesAmong
+  lapses-keep x = go (ltb i n)
+    where
+      go : (b : Bool) → f (cond b (written s (lapsesPlace n i) (x ∷ [])) s) ≡ f s
+      go true = kept s (lapsesPlace n i) (x ∷ []) (omega arith)
+      go false = refl
+
+pub length-putCell : (s : List ℕ) (i : ℕ) (c : Cell) → length (putCell s i c) ≡ length s
+unfolding putCell
+length-putCell s i c = length-putCellAmong (cellsAt s) s i c
+
+pub length-putLapses : (s : List ℕ) (i n : ℕ) → length (putLapses s i n) ≡ length s
+unfolding putLapses
+length-putLapses s i n = length-putLapsesAmong (cellsAt s) s i n
+
 -- the header and the length stay, whatever the index
 pub soundOf-putCell : (s : List ℕ) (i : ℕ) (c : Cell) → soundOf (putCell s i c) ≡ soundOf s
 unfolding putCell
-soundOf-putCell s i c = soundOf-kept s (cellStart i) (countsBytes c) (omega arith)
+soundOf-putCell s i c = put-keeps soundOf soundOf-kept (cellsAt s) s i c
 
 pub soundOf-putLapses : (s : List ℕ) (i n : ℕ) → soundOf (putLapses s i n) ≡ soundOf s
 unfolding putLapses
-soundOf-putLapses s i n = soundOf-kept s (lapsesPlace i) (n ∷ []) (omega arith)
+soundOf-putLapses s i n = lapses-keep soundOf soundOf-kept (cellsAt s) s i n
+
+pub cellsAt-putCell : (s : List ℕ) (i : ℕ) (c : Cell) → cellsAt (putCell s i c) ≡ cellsAt s
+unfolding putCell
+cellsAt-putCell s i c = put-keeps cellsAt cellsAt-kept (cellsAt s) s i c
+
+pub cellsAt-putLapses : (s : List ℕ) (i n : ℕ) → cellsAt (putLapses s i n) ≡ cellsAt s
+unfolding putLapses
+cellsAt-putLapses s i n = lapses-keep cellsAt cellsAt-kept (cellsAt s) s i n
+
+-- ---- bytes whose header says n cells
+
+module _ (s : List ℕ) (n : ℕ) (e : cellsAt s ≡ n) where
+  pub cellAt-among : (i : ℕ) → cellAt s i ≡ cellAmong n s i
+  unfolding cellAt
+  cellAt-among i = ap (λ (k : ℕ). cellAmong k s i) e
+
+  pub lapsesAt-among : (i : ℕ) → lapsesAt s i ≡ lapsesAmong n s i
+  unfolding lapsesAt
+  lapsesAt-among i = ap (λ (k : ℕ). lapsesAmong k s i) e
+
+  pub putCell-among : (i : ℕ) (c : Cell) → putCell s i c ≡ putCellAmong n s i c
+  unfolding putCell
+  putCell-among i c = ap (λ (k : ℕ). putCellAmong k s i c) e
+
+  pub putLapses-among : (i x : ℕ) → putLapses s i x ≡ putLapsesAmong n s i x
+  unfolding putLapses
+  putLapses-among i x = ap (λ (k : ℕ). putLapsesAmong k s i x) e
+
+-- a log's header says so
+pub cells-at : (s : List ℕ) (h : Header) → soundOf s ≡ Sound h → cellsAt s ≡ cellsOf h
+unfolding cellsAt
+cells-at s h p = ap cellsOf (sound-log s h p .header)
+
+-- and it has their room
+pub room-of : (s : List ℕ) (h : Header) → soundOf s ≡ Sound h → Room s (cellsOf h)
+unfolding lengthOf
+room-of s h p = record { fours = cells-fours h; size = omega (arith, sound-log s h p .size) }
 
 -- ---- what is read
 
--- cell i lies in a log that has so many
-pub cell-within : (s : List ℕ) (h : Header) (i : ℕ) → soundOf s ≡ Sound h → i < cellsOf h → cellStart i + cellSize ≤ length s
-unfolding lengthOf
-cell-within s h i p l = omega (arith, sound-log s h p .size)
+pub cellAt-past : (s : List ℕ) (i : ℕ) → cellsAt s ≤ i → cellAt s i ≡ Bad
+unfolding cellAt
+cellAt-past s i l = none-past kindCell (cellsAt s) s i l
 
--- past the end there is no cell, by its kind neither, and no lapse
-short : (s : List ℕ) (i : ℕ) → length s < cellStart i + countsSize → eqb (length (take countsSize (drop (cellStart i) s))) countsSize ≡ false
-short s i h =
-    let e : length (take countsSize (drop (cellStart i) s)) < countsSize = simp (length-take, length-drop) (omega arith) in
-    ne-eqb (length (take countsSize (drop (cellStart i) s))) countsSize (λ q. omega arith)
+pub lapsesAt-past : (s : List ℕ) (i : ℕ) → cellsAt s ≤ i → lapsesAt s i ≡ 0
+unfolding lapsesAt
+lapsesAt-past s i l = no-lapses-past (cellsAt s) s i l
 
-pub cellAt-past : (s : List ℕ) (i : ℕ) → length s < cellStart i + countsSize → cellAt s i ≡ Bad
-unfolding cellAt cellOf
-cellAt-past s i h = simp (short s i h)
+-- a cell that is read is one of the log's
+pub good-below : (f : ℕ → ℕ → ℕ → ℕ → ℕ → CellAnswer) (n : ℕ) (s : List ℕ) (i : ℕ) (c : Cell) → readAmong f n s i ≡ Good c
+    → (i < n) × (f (kindAt s i) (countAt n s i) (countAt n s (n + i)) (countAt n s (2 * n + i)) (countAt n s (3 * n + i)) ≡ Good c)
+unfolding readAmong
+good-below f n s i c p =
+    let a = chosen (ltb i n) (f (kindAt s i) (countAt n s i) (countAt n s (n + i)) (countAt n s (2 * n + i)) (countAt n s (3 * n + i))) Bad p (bad≢good c) in
+    (ltb-true i n (a .0), a .1)
 
-pub knownAt-past : (s : List ℕ) (i : ℕ) → length s < cellStart i + countsSize → knownAt s i ≡ Bad
-unfolding knownAt knownCell
-knownAt-past s i h = simp (short s i h)
+-- ---- what is read after a put, in a log
 
--- a good cell is the one that its kind names
-pub knownAt-good : (s : List ℕ) (i : ℕ) (c : Cell) → cellAt s i ≡ Good c → knownAt s i ≡ Good c
-unfolding cellAt knownAt
-knownAt-good s i c p = known-good (take countsSize (drop (cellStart i) s)) c p
+module _ (s : List ℕ) (h : Header) (p : soundOf s ≡ Sound h) (i : ℕ) (l : i < cellsOf h) where
+  n : ℕ
+  n = cellsOf h
 
-pub lapsesAt-past : (s : List ℕ) (i : ℕ) → length s ≤ lapsesPlace i → lapsesAt s i ≡ 0
-lapsesAt-past s i h = List·getD-eq-default s 0 {n = lapsesPlace i} h
+  same : cellsAt s ≡ n
+  unfolding n
+  same = cells-at s h p
 
-pub cellAt-put : (s : List ℕ) (i : ℕ) (c : Cell) → IsCell c → cellStart i + cellSize ≤ length s → cellAt (putCell s i c) i ≡ Good c
-unfolding cellAt putCell
-cellAt-put s i c k h =
-    ap (λ (n : ℕ). cellOf (take n (drop (cellStart i) (written s (cellStart i) (countsBytes c))))) (sym (length-countsBytes c))
-    ∙ ap cellOf (part-written s (cellStart i) (countsBytes c) (omega (arith, length-countsBytes c)))
-    ∙ cellOf-bytes c k
+  room : Room s n
+  unfolding n
+  room = room-of s h p
 
--- every other cell stays
-pub cellAt-put-other : (s : List ℕ) (i j : ℕ) (c : Cell) → (j ≡ i → ⊥) → cellAt (putCell s i c) j ≡ cellAt s j
-unfolding cellAt putCell
-cellAt-put-other s i j c ne = ap cellOf (go (ltb j i) refl)
+  below : i < n
+  unfolding n
+  below = l
+
+  module _ (c : Cell) where
+    cell-of : (j : ℕ) → cellAt (putCell s i c) j ≡ cellAmong n (putCellAmong n s i c) j
+    cell-of j = cellAt-among (putCell s i c) n (cellsAt-putCell s i c ∙ same) j ∙ ap (λ (t : List ℕ). cellAmong n t j) (putCell-among s n same i c)
+
+    pub cellAt-put : IsCell c → cellAt (putCell s i c) i ≡ Good c
+    cellAt-put k =
+        cell-of i ∙ cell-in n (putCellAmong n s i c) i below ∙ ap cellFrom (parts-there n s room i below c (k .fits)) ∙ kindCell-of c (k .right)
+
+    -- every other cell stays
+    pub cellAt-put-other : (j : ℕ) → (j ≡ i → ⊥) → cellAt (putCell s i c) j ≡ cellAt s j
+    cellAt-put-other j ne =
+        cell-of j ∙ same-cell n (putCellAmong n s i c) s j (λ m. parts-elsewhere n s room i below c j m ne) ∙ sym (cellAt-among s n same j)
+
+    -- and so do all lapses
+    pub lapsesAt-put : (j : ℕ) → lapsesAt (putCell s i c) j ≡ lapsesAt s j
+    lapsesAt-put j =
+        lapsesAt-among (putCell s i c) n (cellsAt-putCell s i c ∙ same) j
+        ∙ ap (λ (t : List ℕ). lapsesAmong n t j) (putCell-among s n same i c)
+        ∙ same-lapses n (putCellAmong n s i c) s j
+        (λ m. byte-stays n s room i below c (lapsesPlace n j) (behind-off n i (lapsesPlace n j) below (omega arith)) (λ e. omega (arith, room .fours, below)))
+        ∙ sym (lapsesAt-among s n same j)
+
+  module _ (x : ℕ) where
+    lapses-of : (j : ℕ) → lapsesAt (putLapses s i x) j ≡ lapsesAmong n (putLapsesAmong n s i x) j
+    lapses-of j = lapsesAt-among (putLapses s i x) n (cellsAt-putLapses s i x ∙ same) j ∙ ap (λ (t : List ℕ). lapsesAmong n t j) (putLapses-among s n same i x)
+
+    -- lapses that are put are there, and no other lapses and no cell change
+    pub lapsesAt-lapses : lapsesAt (putLapses s i x) i ≡ x
+    lapsesAt-lapses =
+        lapses-of i ∙ lapses-in-log n (putLapsesAmong n s i x) i below ∙ ap (λ (q : Parts). q .lapses) (lapses-there n s room i below x)
+
+    pub lapsesAt-lapses-other : (j : ℕ) → (j ≡ i → ⊥) → lapsesAt (putLapses s i x) j ≡ lapsesAt s j
+    lapsesAt-lapses-other j ne =
+        lapses-of j
+        ∙ same-lapses n (putLapsesAmong n s i x) s j (λ m. ap (λ (q : Parts). q .lapses) (lapses-elsewhere n s room i below x j m ne))
+        ∙ sym (lapsesAt-among s n same j)
+
+    pub cellAt-lapses : (j : ℕ) → cellAt (putLapses s i x) j ≡ cellAt s j
+    cellAt-lapses j =
+        cellAt-among (putLapses s i x) n (cellsAt-putLapses s i x ∙ same) j
+        ∙ ap (λ (t : List ℕ). cellAmong n t j) (putLapses-among s n same i x)
+        ∙ same-front n (putLapsesAmong n s i x) s j (front-lapses n s room i below x j)
+        ∙ sym (cellAt-among s n same j)
+
+-- ---- bytes stay bytes
+
+bytes-set : (s : List ℕ) (i b : ℕ) → Bytes s → b < 256 → Bytes (set s i b)
+bytes-set [] i b k l j = k j
+bytes-set (x ∷ s) zero b k l zero = l
+bytes-set (x ∷ s) zero b k l (suc j) = k (suc j)
+bytes-set (x ∷ s) (suc i) b k l zero = k 0
+bytes-set (x ∷ s) (suc i) b k l (suc j) = bytes-set s i b (λ m. k (suc m)) l j
+
+pub bytes-written : (s : List ℕ) (i : ℕ) (bs : List ℕ) → Bytes s → Bytes bs → Bytes (written s i bs)
+unfolding written
+bytes-written s i [] k l = k
+bytes-written s i (b ∷ bs) k l = bytes-written (set s i b) (suc i) bs (bytes-set s i b k (l 0)) (λ j. l (suc j))
+
+pub bytes-putCell : (s : List ℕ) (i : ℕ) (c : Cell) → Bytes s → Bytes (putCell s i c)
+unfolding putCell putCellAmong putCounts putKind
+bytes-putCell s i c k = go (cellsAt s) (ltb i (cellsAt s))
   where
-    go : (b : Bool) → ltb j i ≡ b
-        → take countsSize (drop (cellStart j) (written s (cellStart i) (countsBytes c))) ≡ take countsSize (drop (cellStart j) s)
-    go true e = part-kept s (cellStart i) (countsBytes c) (cellStart j) countsSize (inl (omega (arith, ltb-true j i e)))
-    go false e =
-        let n : i < j = omega (arith, ltb-false j i e, ne) in
-        part-kept s (cellStart i) (countsBytes c) (cellStart j) countsSize (inr (omega (arith, length-countsBytes c)))
+    one : (n : ℕ) (t : List ℕ) (m x : ℕ) → Bytes t → Bytes (written t (countPlace n m) (bytesOf 2 x))
+    one n t m x b = bytes-written t (countPlace n m) (bytesOf 2 x) b (bytes-bytesOf 2 x)
 
--- and so do all lapses
-pub lapsesAt-put : (s : List ℕ) (i j : ℕ) (c : Cell) → lapsesAt (putCell s i c) j ≡ lapsesAt s j
-unfolding putCell
-lapsesAt-put s i j c = go (ltb j i) refl
+    kinds : Bytes (putKind s i (kindOf c))
+    kinds = bytes-written s (kindPlace i) _ k (bytes-cons _ [] (pair-byte (byteAt s (kindPlace i)) (i % 4) (kindOf c) (kind-four c)) bytes-nil)
+
+    go : (n : ℕ) (b : Bool) → Bytes (cond b (putCounts n (putKind s i (kindOf c)) i (e+Of c) (e-Of c) (r+Of c) (r-Of c)) s)
+    go n true = one n _ (3 * n + i) (r-Of c) (one n _ (2 * n + i) (r+Of c) (one n _ (n + i) (e-Of c) (one n _ i (e+Of c) kinds)))
+    go n false = k
+
+pub bytes-putLapses : (s : List ℕ) (i x : ℕ) → Bytes s → x < 256 → Bytes (putLapses s i x)
+unfolding putLapses putLapsesAmong
+bytes-putLapses s i x k l = go (ltb i (cellsAt s))
   where
-    go : (b : Bool) → ltb j i ≡ b → byteAt (written s (cellStart i) (countsBytes c)) (lapsesPlace j) ≡ byteAt s (lapsesPlace j)
-    go true e = byteAt-kept s (cellStart i) (countsBytes c) (lapsesPlace j) (inl (omega (arith, ltb-true j i e)))
-    go false e = byteAt-kept s (cellStart i) (countsBytes c) (lapsesPlace j) (inr (omega (arith, ltb-false j i e, length-countsBytes c)))
-
--- lapses that are put are there, and no other lapses and no cell change
-pub lapsesAt-lapses : (s : List ℕ) (i n : ℕ) → cellStart i + cellSize ≤ length s → lapsesAt (putLapses s i n) i ≡ n
-unfolding putLapses
-lapsesAt-lapses s i n h =
-    ap (byteAt (written s (lapsesPlace i) (n ∷ []))) (sym (add-zero (lapsesPlace i))) ∙ byteAt-written s (lapsesPlace i) (n ∷ []) 0 (omega arith) (omega arith)
-
-pub lapsesAt-lapses-other : (s : List ℕ) (i j n : ℕ) → (j ≡ i → ⊥) → lapsesAt (putLapses s i n) j ≡ lapsesAt s j
-unfolding putLapses
-lapsesAt-lapses-other s i j n ne = go (ltb j i) refl
-  where
-    go : (b : Bool) → ltb j i ≡ b → byteAt (written s (lapsesPlace i) (n ∷ [])) (lapsesPlace j) ≡ byteAt s (lapsesPlace j)
-    go true e = byteAt-kept s (lapsesPlace i) (n ∷ []) (lapsesPlace j) (inl (omega (arith, ltb-true j i e)))
-    go false e =
-        let m : i < j = omega (arith, ltb-false j i e, ne) in
-        byteAt-kept s (lapsesPlace i) (n ∷ []) (lapsesPlace j) (inr (omega arith))
-
-pub cellAt-lapses : (s : List ℕ) (i j n : ℕ) → cellAt (putLapses s i n) j ≡ cellAt s j
-unfolding cellAt putLapses
-cellAt-lapses s i j n = ap cellOf (go (ltb i j) refl)
-  where
-    go : (b : Bool) → ltb i j ≡ b
-        → take countsSize (drop (cellStart j) (written s (lapsesPlace i) (n ∷ []))) ≡ take countsSize (drop (cellStart j) s)
-    go true e = part-kept s (lapsesPlace i) (n ∷ []) (cellStart j) countsSize (inr (omega (arith, ltb-true i j e)))
-    go false e = part-kept s (lapsesPlace i) (n ∷ []) (cellStart j) countsSize (inl (omega (arith, ltb-false i j e)))
+    go : (b : Bool) → Bytes (cond b (written s (lapsesPlace (cellsAt s) i) (x ∷ [])) s)
+    go true = bytes-written s (lapsesPlace (cellsAt s) i) (x ∷ []) k (bytes-cons x [] l bytes-nil)
+    go false = k
 
 -- ---- the image of a header, its cells and their lapses
 
-module _ (lapses : ℕ → ℕ) where
-  pub length-cellsBytes : (i : ℕ) (cs : List Cell) → length (cellsBytes i cs lapses) ≡ cellSize * length cs
-  unfolding cellsBytes
-  length-cellsBytes i [] = refl
-  length-cellsBytes i (c ∷ cs) =
-      length-append (cellBytes c (lapses i)) (cellsBytes (suc i) cs lapses) ∙ omega (arith, length-cellBytes c (lapses i), length-cellsBytes (suc i) cs)
+pub length-kindsBytes : (cs : List Cell) → length (kindsBytes cs) ≡ length cs / 4
+unfolding kindsBytes
+length-kindsBytes [] = refl
+length-kindsBytes (a ∷ []) = refl
+length-kindsBytes (a ∷ b ∷ []) = refl
+length-kindsBytes (a ∷ b ∷ c ∷ []) = refl
+length-kindsBytes (a ∷ b ∷ c ∷ d ∷ cs) = ap suc (length-kindsBytes cs) ∙ omega arith
 
-  pub length-imageOf : (h : Header) (cs : List Cell) → length (imageOf h cs lapses) ≡ headerSize + cellSize * length cs
+pub length-columnBytes : (f : Cell → ℕ) (cs : List Cell) → length (columnBytes f cs) ≡ 2 * length cs
+unfolding columnBytes bytesOf
+length-columnBytes f [] = refl
+length-columnBytes f (c ∷ cs) = ap (λ (n : ℕ). suc (suc n)) (length-columnBytes f cs) ∙ omega arith
+
+pub length-lapsesBytes : (i : ℕ) (cs : List Cell) (lapses : ℕ → ℕ) → length (lapsesBytes i cs lapses) ≡ length cs
+unfolding lapsesBytes
+length-lapsesBytes i [] lapses = refl
+length-lapsesBytes i (c ∷ cs) lapses = ap suc (length-lapsesBytes (suc i) cs lapses)
+
+-- four kinds, by their places in a byte
+abbrev kindIn : Cell → Cell → Cell → Cell → ℕ → ℕ
+kindIn a b c d m = kindOf (getD (a ∷ b ∷ c ∷ d ∷ []) m Gap)
+
+four : (a b c d : Cell) (m : ℕ) → m < 4 → pairOf (packed (kindOf a) (kindOf b) (kindOf c) (kindOf d)) m ≡ kindIn a b c d m
+four a b c d m l = packed-at (kindIn a b c d) (λ k. kind-four (getD (a ∷ b ∷ c ∷ d ∷ []) k Gap)) m l
+
+-- what is read of each part
+kinds-at : (cs : List Cell) (rest : List ℕ) (i : ℕ) → i < length cs → length cs % 4 ≡ 0 → pairOf (byteAt (kindsBytes cs ++ rest) (i / 4)) (i % 4) ≡ kindOf (getD cs i Gap)
+unfolding kindsBytes
+kinds-at [] rest i l m = absurd (omega arith)
+kinds-at (a ∷ []) rest i l m = absurd (omega arith)
+kinds-at (a ∷ b ∷ []) rest i l m = absurd (omega arith)
+kinds-at (a ∷ b ∷ c ∷ []) rest i l m = absurd (omega arith)
+kinds-at (a ∷ b ∷ c ∷ d ∷ cs) rest zero l m = four a b c d 0 (omega arith)
+kinds-at (a ∷ b ∷ c ∷ d ∷ cs) rest (suc zero) l m = four a b c d 1 (omega arith)
+kinds-at (a ∷ b ∷ c ∷ d ∷ cs) rest (suc (suc zero)) l m = four a b c d 2 (omega arith)
+kinds-at (a ∷ b ∷ c ∷ d ∷ cs) rest (suc (suc (suc zero))) l m = four a b c d 3 (omega arith)
+kinds-at (a ∷ b ∷ c ∷ d ∷ cs) rest (suc (suc (suc (suc i)))) l m =
+    let e : suc (suc (suc (suc i))) / 4 ≡ suc (i / 4) = omega arith in
+    let f : suc (suc (suc (suc i))) % 4 ≡ i % 4 = omega arith in
+    rw (e, f) (kinds-at cs rest i (omega arith) (omega arith))
+
+column-at : (f : Cell → ℕ) (cs : List Cell) (rest : List ℕ) (i : ℕ) → i < length cs → numberAt (columnBytes f cs ++ rest) (2 * i) 2 ≡ f (getD cs i Gap) % 65536
+unfolding columnBytes
+column-at f [] rest i l = absurd (omega arith)
+column-at f (c ∷ cs) rest zero l =
+    ap (λ (x : List ℕ). numberAt x 0 2) (append-assoc (bytesOf 2 (f c)) (columnBytes f cs) rest) ∙ numberAt-front 2 (f c) (columnBytes f cs ++ rest)
+column-at f (c ∷ cs) rest (suc i) l =
+    let e : 2 * suc i ≡ 2 + 2 * i = omega arith in
+    ap₂ (λ (x : List ℕ) (k : ℕ). numberAt x k 2) (append-assoc (bytesOf 2 (f c)) (columnBytes f cs) rest) e
+    ∙ numberAt-behind-bytes 2 (f c) (columnBytes f cs ++ rest) (2 * i) 2
+    ∙ column-at f cs rest i (omega arith)
+
+lapses-at : (k : ℕ) (cs : List Cell) (lapses : ℕ → ℕ) (rest : List ℕ) (i : ℕ) → i < length cs → byteAt (lapsesBytes k cs lapses ++ rest) i ≡ lapses (k + i)
+unfolding lapsesBytes
+lapses-at k [] lapses rest i l = absurd (omega arith)
+lapses-at k (c ∷ cs) lapses rest zero l = ap lapses (sym (add-zero k))
+lapses-at k (c ∷ cs) lapses rest (suc i) l =
+    let e : suc k + i ≡ k + suc i = omega arith in
+    lapses-at (suc k) cs lapses rest i (omega arith) ∙ ap lapses e
+
+-- behind some bytes
+behind-number : (xs ys : List ℕ) (k q p : ℕ) → length xs ≡ k → p ≡ k + q → numberAt (xs ++ ys) p 2 ≡ numberAt ys q 2
+behind-number xs ys k q p e f = ap (λ (m : ℕ). numberAt (xs ++ ys) m 2) (f ∙ ap (λ (m : ℕ). m + q) (sym e)) ∙ numberAt-behind xs ys q 2
+
+behind-byte : (xs ys : List ℕ) (k q p : ℕ) → length xs ≡ k → p ≡ k + q → byteAt (xs ++ ys) p ≡ byteAt ys q
+behind-byte xs ys k q p e f = ap (byteAt (xs ++ ys)) (f ∙ ap (λ (m : ℕ). m + q) (sym e)) ∙ getD-append-add xs ys q 0
+
+small : (x : ℕ) → x < 65536 → x % 65536 ≡ x
+small x l = omega arith
+
+append-nil : (xs : List ℕ) → xs ++ [] ≡ xs
+append-nil [] = refl
+append-nil (x ∷ xs) = ap (λ (l : List ℕ). x ∷ l) (append-nil xs)
+
+module _ (lapses : ℕ → ℕ) where
+  pub length-cellsBytes : (cs : List Cell) → length (cellsBytes cs lapses) ≡ length cs / 4 + 8 * length cs + length cs
+  unfolding cellsBytes
+  length-cellsBytes cs =
+      simp length-append
+      (omega (arith, length-kindsBytes cs, length-columnBytes e+Of cs, length-columnBytes e-Of cs, length-columnBytes r+Of cs, length-columnBytes r-Of cs, length-lapsesBytes 0 cs lapses))
+
+  pub length-imageOf : (h : Header) (cs : List Cell) → length (imageOf h cs lapses) ≡ sizeFor (length cs)
   unfolding imageOf
-  length-imageOf h cs = length-append (headerBytes h) (cellsBytes 0 cs lapses) ∙ omega (arith, length-headerBytes version h, length-cellsBytes 0 cs)
+  length-imageOf h cs = length-append (headerBytes h) (cellsBytes cs lapses) ∙ omega (arith, length-headerBytes version h, length-cellsBytes cs)
 
   -- it is bytes
-  bytes-cells : LapsesFit lapses → (i : ℕ) (cs : List Cell) → Bytes (cellsBytes i cs lapses)
-  unfolding cellsBytes
-  bytes-cells k i [] = bytes-nil
-  bytes-cells k i (c ∷ cs) =
-      bytes-append (cellBytes c (lapses i)) (cellsBytes (suc i) cs lapses) (bytes-cellBytes c (lapses i) (k i)) (bytes-cells k (suc i) cs)
+  bytes-kinds : (cs : List Cell) → Bytes (kindsBytes cs)
+  unfolding kindsBytes
+  bytes-kinds [] = bytes-nil
+  bytes-kinds (a ∷ []) = bytes-nil
+  bytes-kinds (a ∷ b ∷ []) = bytes-nil
+  bytes-kinds (a ∷ b ∷ c ∷ []) = bytes-nil
+  bytes-kinds (a ∷ b ∷ c ∷ d ∷ cs) = bytes-cons _ (kindsBytes cs) (packed-byte (kindIn a b c d) (λ m. kind-four (getD (a ∷ b ∷ c ∷ d ∷ []) m Gap))) (bytes-kinds cs)
+
+  bytes-column : (f : Cell → ℕ) (cs : List Cell) → Bytes (columnBytes f cs)
+  unfolding columnBytes
+  bytes-column f [] = bytes-nil
+  bytes-column f (c ∷ cs) = bytes-append (bytesOf 2 (f c)) (columnBytes f cs) (bytes-bytesOf 2 (f c)) (bytes-column f cs)
+
+  bytes-lapses : LapsesFit lapses → (i : ℕ) (cs : List Cell) → Bytes (lapsesBytes i cs lapses)
+  unfolding lapsesBytes
+  bytes-lapses k i [] = bytes-nil
+  bytes-lapses k i (c ∷ cs) = bytes-cons (lapses i) (lapsesBytes (suc i) cs lapses) (k i) (bytes-lapses k (suc i) cs)
 
   pub bytes-image : (h : Header) (cs : List Cell) → LapsesFit lapses → isHeader h ≡ true → Bytes (imageOf h cs lapses)
-  unfolding imageOf
-  bytes-image h cs k e = bytes-append (headerBytes h) (cellsBytes 0 cs lapses) (bytes-header version h e) (bytes-cells k 0 cs)
+  unfolding imageOf cellsBytes
+  bytes-image h cs k e =
+      let z = lapsesBytes 0 cs lapses in
+      let d = columnBytes r-Of cs ++ z in
+      let c = columnBytes r+Of cs ++ d in
+      let b = columnBytes e-Of cs ++ c in
+      let a = columnBytes e+Of cs ++ b in
+      bytes-append (headerBytes h) (kindsBytes cs ++ a) (bytes-header version h e)
+      (bytes-append (kindsBytes cs) a (bytes-kinds cs)
+      (bytes-append (columnBytes e+Of cs) b (bytes-column e+Of cs)
+      (bytes-append (columnBytes e-Of cs) c (bytes-column e-Of cs)
+      (bytes-append (columnBytes r+Of cs) d (bytes-column r+Of cs)
+      (bytes-append (columnBytes r-Of cs) z (bytes-column r-Of cs) (bytes-lapses k 0 cs))))))
 
   -- it is a log
   pub sound-image : (h : Header) (cs : List Cell) → isHeader h ≡ true → length cs ≡ cellsOf h → soundOf (imageOf h cs lapses) ≡ Sound h
   unfolding imageOf lengthOf
-  sound-image h cs e l = sound-bytes h (cellsBytes 0 cs lapses) e (length-imageOf h cs ∙ ap (λ (n : ℕ). headerSize + cellSize * n) l)
+  sound-image h cs e l = sound-bytes h (cellsBytes cs lapses) e (length-imageOf h cs ∙ ap (λ (n : ℕ). sizeFor n) l)
 
-  drop-cell : (i : ℕ) (c : Cell) (cs : List Cell) (n : ℕ) → drop (cellSize + n) (cellsBytes i (c ∷ cs) lapses) ≡ drop n (cellsBytes (suc i) cs lapses)
-  unfolding cellsBytes
-  drop-cell i c cs n =
-      let first = cellBytes c (lapses i) in
-      let others = cellsBytes (suc i) cs lapses in
-      ap (λ (k : ℕ). drop (k + n) (first ++ others)) (sym (length-cellBytes c (lapses i))) ∙ drop-append-add first others n
+  -- it is its parts in a row, with whatever lies behind it
+  abbrev from-lapses : List Cell → List ℕ → List ℕ
+  from-lapses cs rest = lapsesBytes 0 cs lapses ++ rest
 
-  drop-cells : (i : ℕ) (cs : List Cell) (j : ℕ) → drop (cellSize * j) (cellsBytes i cs lapses) ≡ cellsBytes (i + j) (drop j cs) lapses
-  unfolding cellsBytes
-  drop-cells i cs zero = ap (λ (k : ℕ). cellsBytes k cs lapses) (sym (add-zero i))
-  drop-cells i [] (suc j) = drop-nil {A = ℕ} (cellSize * suc j)
-  drop-cells i (c ∷ cs) (suc j) =
-      let e : cellSize * suc j ≡ cellSize + cellSize * j = omega arith in
-      let f : suc i + j ≡ i + suc j = omega arith in
-      ap (λ (n : ℕ). drop n (cellsBytes i (c ∷ cs) lapses)) e
-      ∙ drop-cell i c cs (cellSize * j)
-      ∙ drop-cells (suc i) cs j
-      ∙ ap (λ (k : ℕ). cellsBytes k (drop j cs) lapses) f
+  abbrev from-r- : List Cell → List ℕ → List ℕ
+  from-r- cs rest = columnBytes r-Of cs ++ from-lapses cs rest
 
-  -- behind the header the cells' bytes follow
-  drop-header : (h : Header) (cs : List Cell) (n : ℕ) → drop (headerSize + n) (imageOf h cs lapses) ≡ drop n (cellsBytes 0 cs lapses)
-  unfolding imageOf
-  drop-header h cs n =
-      ap (λ (k : ℕ). drop (k + n) (headerBytes h ++ cellsBytes 0 cs lapses)) (sym (length-headerBytes version h))
-      ∙ drop-append-add (headerBytes h) (cellsBytes 0 cs lapses) n
+  abbrev from-r+ : List Cell → List ℕ → List ℕ
+  from-r+ cs rest = columnBytes r+Of cs ++ from-r- cs rest
 
-  -- from its i-th cell on
-  from-cell : (h : Header) (cs : List Cell) (i : ℕ) → i < length cs
-      → drop (cellStart i) (imageOf h cs lapses) ≡ countsBytes (getD cs i Gap) ++ (lapses i ∷ cellsBytes (suc i) (drop (suc i) cs) lapses)
-  unfolding cellsBytes cellBytes
-  from-cell h cs i l =
-      drop-header h cs (cellSize * i)
-      ∙ drop-cells 0 cs i
-      ∙ ap₂ (λ (k : ℕ) (x : List Cell). cellsBytes k x lapses) (zero-add i) (drop-cons cs i Gap l)
-      ∙ append-assoc (countsBytes (getD cs i Gap)) (lapses i ∷ []) (cellsBytes (suc i) (drop (suc i) cs) lapses)
+  abbrev from-e- : List Cell → List ℕ → List ℕ
+  from-e- cs rest = columnBytes e-Of cs ++ from-r+ cs rest
 
-  -- its i-th cell is the i-th cell, with its lapses
-  pub cellAt-image : (h : Header) (cs : List Cell) (i : ℕ) → i < length cs → IsCell (getD cs i Gap) → cellAt (imageOf h cs lapses) i ≡ Good (getD cs i Gap)
-  unfolding cellAt
-  cellAt-image h cs i l k =
-      let c = getD cs i Gap in
-      ap (λ (x : List ℕ). cellOf (take countsSize x)) (from-cell h cs i l)
-      ∙ ap cellOf (take-at (countsBytes c) (lapses i ∷ cellsBytes (suc i) (drop (suc i) cs) lapses) countsSize (length-countsBytes c))
-      ∙ cellOf-bytes c k
+  abbrev from-e+ : List Cell → List ℕ → List ℕ
+  from-e+ cs rest = columnBytes e+Of cs ++ from-e- cs rest
 
-  -- what stands behind it is no part of its cells
-  pub cellAt-front : (h : Header) (cs : List Cell) (rest : List ℕ) (i : ℕ) → i < length cs → cellAt (imageOf h cs lapses ++ rest) i ≡ cellAt (imageOf h cs lapses) i
-  unfolding cellAt
-  cellAt-front h cs rest i l =
-      let s = imageOf h cs lapses in
-      let size : length s ≡ headerSize + cellSize * length cs = length-imageOf h cs in
-      let left : length (drop (cellStart i) s) ≡ length s - cellStart i = length-drop (cellStart i) s in
-      ap (λ (x : List ℕ). cellOf (take countsSize x)) (drop-append-le (cellStart i) s rest (omega (arith, size, l)))
-      ∙ ap cellOf (take-append-le countsSize (drop (cellStart i) s) rest (omega (arith, size, l, left)))
+  in-a-row : (h : Header) (cs : List Cell) (rest : List ℕ) → imageOf h cs lapses ++ rest ≡ headerBytes h ++ (kindsBytes cs ++ from-e+ cs rest)
+  unfolding imageOf cellsBytes
+  in-a-row h cs rest =
+      let z = lapsesBytes 0 cs lapses in
+      let d = columnBytes r-Of cs ++ z in
+      let c = columnBytes r+Of cs ++ d in
+      let b = columnBytes e-Of cs ++ c in
+      let a = columnBytes e+Of cs ++ b in
+      append-assoc (headerBytes h) (kindsBytes cs ++ a) rest
+      ∙ ap (λ (x : List ℕ). headerBytes h ++ x) (append-assoc (kindsBytes cs) a rest
+      ∙ ap (λ (x : List ℕ). kindsBytes cs ++ x) (append-assoc (columnBytes e+Of cs) b rest
+      ∙ ap (λ (x : List ℕ). columnBytes e+Of cs ++ x) (append-assoc (columnBytes e-Of cs) c rest
+      ∙ ap (λ (x : List ℕ). columnBytes e-Of cs ++ x) (append-assoc (columnBytes r+Of cs) d rest
+      ∙ ap (λ (x : List ℕ). columnBytes r+Of cs ++ x) (append-assoc (columnBytes r-Of cs) z rest)))))
 
-  pub lapsesAt-image : (h : Header) (cs : List Cell) (i : ℕ) → i < length cs → lapsesAt (imageOf h cs lapses) i ≡ lapses i
-  lapsesAt-image h cs i l =
-      let c = getD cs i Gap in
-      let rest = lapses i ∷ cellsBytes (suc i) (drop (suc i) cs) lapses in
-      sym (getD-drop (cellStart i) (imageOf h cs lapses) countsSize 0)
-      ∙ ap (λ (x : List ℕ). byteAt x countsSize) (from-cell h cs i l)
-      ∙ ap (byteAt (countsBytes c ++ rest)) (sym (length-countsBytes c))
-      ∙ getD-append-seam (countsBytes c) (lapses i) (cellsBytes (suc i) (drop (suc i) cs) lapses) 0
+  module _ (h : Header) (cs : List Cell) (rest : List ℕ) (i : ℕ) (l : i < length cs) where
+    kind-in : length cs % 4 ≡ 0 → kindAt (imageOf h cs lapses ++ rest) i ≡ kindOf (getD cs i Gap)
+    kind-in m =
+        ap (λ (x : List ℕ). pairOf (byteAt x (kindPlace i)) (i % 4)) (in-a-row h cs rest)
+        ∙ ap (λ (b : ℕ). pairOf b (i % 4)) (behind-byte (headerBytes h) (kindsBytes cs ++ from-e+ cs rest) headerSize (i / 4) (kindPlace i) (length-headerBytes version h) refl)
+        ∙ kinds-at cs (from-e+ cs rest) i l m
+
+    from-counts : (m : ℕ) → countAt (length cs) (imageOf h cs lapses ++ rest) m ≡ numberAt (from-e+ cs rest) (2 * m) 2
+    from-counts m =
+        ap (λ (x : List ℕ). numberAt x (countPlace (length cs) m) 2) (in-a-row h cs rest)
+        ∙ behind-number (headerBytes h) (kindsBytes cs ++ from-e+ cs rest) headerSize (length cs / 4 + 2 * m) (countPlace (length cs) m) (length-headerBytes version h) (omega arith)
+        ∙ behind-number (kindsBytes cs) (from-e+ cs rest) (length cs / 4) (2 * m) (length cs / 4 + 2 * m) (length-kindsBytes cs) refl
+
+    e+-in : countAt (length cs) (imageOf h cs lapses ++ rest) i ≡ e+Of (getD cs i Gap) % 65536
+    e+-in = from-counts i ∙ column-at e+Of cs (from-e- cs rest) i l
+
+    e--in : countAt (length cs) (imageOf h cs lapses ++ rest) (length cs + i) ≡ e-Of (getD cs i Gap) % 65536
+    e--in =
+        from-counts (length cs + i)
+        ∙ behind-number (columnBytes e+Of cs) (from-e- cs rest) (2 * length cs) (2 * i) (2 * (length cs + i)) (length-columnBytes e+Of cs) (omega arith)
+        ∙ column-at e-Of cs (from-r+ cs rest) i l
+
+    r+-in : countAt (length cs) (imageOf h cs lapses ++ rest) (2 * length cs + i) ≡ r+Of (getD cs i Gap) % 65536
+    r+-in =
+        from-counts (2 * length cs + i)
+        ∙ behind-number (columnBytes e+Of cs) (from-e- cs rest) (2 * length cs) (2 * (length cs + i)) (2 * (2 * length cs + i)) (length-columnBytes e+Of cs) (omega arith)
+        ∙ behind-number (columnBytes e-Of cs) (from-r+ cs rest) (2 * length cs) (2 * i) (2 * (length cs + i)) (length-columnBytes e-Of cs) (omega arith)
+        ∙ column-at r+Of cs (from-r- cs rest) i l
+
+    r--in : countAt (length cs) (imageOf h cs lapses ++ rest) (3 * length cs + i) ≡ r-Of (getD cs i Gap) % 65536
+    r--in =
+        from-counts (3 * length cs + i)
+        ∙ behind-number (columnBytes e+Of cs) (from-e- cs rest) (2 * length cs) (2 * (2 * length cs + i)) (2 * (3 * length cs + i)) (length-columnBytes e+Of cs) (omega arith)
+        ∙ behind-number (columnBytes e-Of cs) (from-r+ cs rest) (2 * length cs) (2 * (length cs + i)) (2 * (2 * length cs + i)) (length-columnBytes e-Of cs) (omega arith)
+        ∙ behind-number (columnBytes r+Of cs) (from-r- cs rest) (2 * length cs) (2 * i) (2 * (length cs + i)) (length-columnBytes r+Of cs) (omega arith)
+        ∙ column-at r-Of cs (from-lapses cs rest) i l
+
+    lapses-in : byteAt (imageOf h cs lapses ++ rest) (lapsesPlace (length cs) i) ≡ lapses i
+    lapses-in =
+        let n = length cs in
+        ap (λ (x : List ℕ). byteAt x (lapsesPlace n i)) (in-a-row h cs rest)
+        ∙ behind-byte (headerBytes h) (kindsBytes cs ++ from-e+ cs rest) headerSize (n / 4 + 8 * n + i) (lapsesPlace n i) (length-headerBytes version h) (omega arith)
+        ∙ behind-byte (kindsBytes cs) (from-e+ cs rest) (n / 4) (8 * n + i) (n / 4 + 8 * n + i) (length-kindsBytes cs) (omega arith)
+        ∙ behind-byte (columnBytes e+Of cs) (from-e- cs rest) (2 * n) (6 * n + i) (8 * n + i) (length-columnBytes e+Of cs) (omega arith)
+        ∙ behind-byte (columnBytes e-Of cs) (from-r+ cs rest) (2 * n) (4 * n + i) (6 * n + i) (length-columnBytes e-Of cs) (omega arith)
+        ∙ behind-byte (columnBytes r+Of cs) (from-r- cs rest) (2 * n) (2 * n + i) (4 * n + i) (length-columnBytes r+Of cs) (omega arith)
+        ∙ behind-byte (columnBytes r-Of cs) (from-lapses cs rest) (2 * n) i (2 * n + i) (length-columnBytes r-Of cs) refl
+        ∙ lapses-at 0 cs lapses rest i l
+        ∙ ap lapses (zero-add i)
+
+    -- its i-th cell is the i-th cell, with its lapses
+    pub image-parts : length cs % 4 ≡ 0 → IsCell (getD cs i Gap) → partsAt (length cs) (imageOf h cs lapses ++ rest) i ≡ partsOf (getD cs i Gap) (lapses i)
+    image-parts m is =
+        let f = counts-fit (getD cs i Gap) (is .fits) in
+        let k = kind-in m in
+        let e₁ = e+-in ∙ small (e+Of (getD cs i Gap)) (f .e-plus) in
+        let e₂ = e--in ∙ small (e-Of (getD cs i Gap)) (f .e-minus) in
+        let e₃ = r+-in ∙ small (r+Of (getD cs i Gap)) (f .r-plus) in
+        let e₄ = r--in ∙ small (r-Of (getD cs i Gap)) (f .r-minus) in
+        let x = lapses-in in
+        λ t. record { kind = k t; e+ = e₁ t; e- = e₂ t; r+ = e₃ t; r- = e₄ t; lapses = x t }
+
+  -- read
+  module _ (h : Header) (cs : List Cell) (e : isHeader h ≡ true) (count : length cs ≡ cellsOf h) where
+    says : cellsAt (imageOf h cs lapses) ≡ length cs
+    says = cells-at (imageOf h cs lapses) h (sound-image h cs e count) ∙ sym count
+
+    fours : length cs % 4 ≡ 0
+    fours = ap (λ (n : ℕ). n % 4) count ∙ cells-fours h
+
+    pub says-front : (rest : List ℕ) → cellsAt (imageOf h cs lapses ++ rest) ≡ length cs
+    unfolding imageOf cellsAt
+    says-front rest =
+        ap (λ (x : List ℕ). cellsOf (headerAt x)) (append-assoc (headerBytes h) (cellsBytes cs lapses) rest)
+        ∙ ap cellsOf (headerAt-bytes version h (cellsBytes cs lapses ++ rest) (header-ranges h e .ke-to))
+        ∙ sym count
+
+    -- what stands behind it is no part of its cells
+    pub cellAt-front : (rest : List ℕ) (i : ℕ) → i < length cs → IsCell (getD cs i Gap) → cellAt (imageOf h cs lapses ++ rest) i ≡ Good (getD cs i Gap)
+    cellAt-front rest i l is =
+        cellAt-among (imageOf h cs lapses ++ rest) (length cs) (says-front rest) i
+        ∙ cell-in (length cs) (imageOf h cs lapses ++ rest) i l
+        ∙ ap cellFrom (image-parts h cs rest i l fours is)
+        ∙ kindCell-of (getD cs i Gap) (is .right)
+
+    pub cellAt-image : (i : ℕ) → i < length cs → IsCell (getD cs i Gap) → cellAt (imageOf h cs lapses) i ≡ Good (getD cs i Gap)
+    cellAt-image i l is = ap (λ (s : List ℕ). cellAt s i) (sym (append-nil (imageOf h cs lapses))) ∙ cellAt-front [] i l is
+
+    pub lapsesAt-image : (i : ℕ) → i < length cs → lapsesAt (imageOf h cs lapses) i ≡ lapses i
+    lapsesAt-image i l =
+        lapsesAt-among (imageOf h cs lapses) (length cs) says i
+        ∙ lapses-in-log (length cs) (imageOf h cs lapses) i l
+        ∙ ap (λ (s : List ℕ). byteAt s (lapsesPlace (length cs) i)) (sym (append-nil (imageOf h cs lapses)))
+        ∙ lapses-in h cs [] i l
 
 -- only the lapses of its own indices matter
-pub lapses-alike : (a b : ℕ → ℕ) (i : ℕ) (cs : List Cell) → ((j : ℕ) → i ≤ j → j < i + length cs → a j ≡ b j) → cellsBytes i cs a ≡ cellsBytes i cs b
-unfolding cellsBytes
+lapses-alike : (a b : ℕ → ℕ) (i : ℕ) (cs : List Cell) → ((j : ℕ) → i ≤ j → j < i + length cs → a j ≡ b j) → lapsesBytes i cs a ≡ lapsesBytes i cs b
+unfolding lapsesBytes
 lapses-alike a b i [] k = refl
 lapses-alike a b i (c ∷ cs) k =
-    ap₂ (λ (n : ℕ) (x : List ℕ). cellBytes c n ++ x) (k i (omega arith) (omega arith)) (lapses-alike a b (suc i) cs (λ j l m. k j (omega arith) (omega arith)))
+    ap₂ (λ (n : ℕ) (x : List ℕ). n ∷ x) (k i (omega arith) (omega arith)) (lapses-alike a b (suc i) cs (λ j l m. k j (omega arith) (omega arith)))
 
 pub image-alike : (h : Header) (cs : List Cell) (a b : ℕ → ℕ) → ((j : ℕ) → j < length cs → a j ≡ b j) → imageOf h cs a ≡ imageOf h cs b
-unfolding imageOf
-image-alike h cs a b k = ap (λ (x : List ℕ). headerBytes h ++ x) (lapses-alike a b 0 cs (λ j l m. k j (omega arith)))
+unfolding imageOf cellsBytes
+image-alike h cs a b k =
+    let e = lapses-alike a b 0 cs (λ j l m. k j (omega arith)) in
+    ap (λ (x : List ℕ). headerBytes h ++ (kindsBytes cs ++ (columnBytes e+Of cs ++ (columnBytes e-Of cs ++ (columnBytes r+Of cs ++ (columnBytes r-Of cs ++ x)))))) e
 
--- cells put one behind the other
-putCells-written : (s : List ℕ) (i : ℕ) (cs : List Cell) (lapses : ℕ → ℕ) → putCells s i cs lapses ≡ written s (cellStart i) (cellsBytes i cs lapses)
-unfolding putCells putCell putLapses cellsBytes cellBytes written
-putCells-written s i [] lapses = refl
-putCells-written s i (c ∷ cs) lapses =
-    let n = lapses i in
-    let w : putWhole s i c n ≡ written s (cellStart i) (countsBytes c ++ (n ∷ [])) =
-    onward s _ _ (cellStart i) (lapsesPlace i) (countsBytes c) (n ∷ []) refl refl (ap (λ (k : ℕ). cellStart i + k) (length-countsBytes c)) in
-    let e : cellStart i + length (countsBytes c ++ (n ∷ [])) ≡ cellStart (suc i) = omega (arith, length-append (countsBytes c) (n ∷ []), length-countsBytes c) in
-    putCells-written (putWhole s i c n) (suc i) cs lapses
-    ∙ onward s _ _ (cellStart i) (cellStart (suc i)) (countsBytes c ++ (n ∷ [])) (cellsBytes (suc i) cs lapses) w refl e
+-- ---- cells put one behind the other
 
--- a header, and behind it all the cells that it says, are the image
-pub image-put : (s t u : List ℕ) (h : Header) (cs : List Cell) (lapses : ℕ → ℕ) → t ≡ written s 0 (headerBytes h) → u ≡ putCells t 0 cs lapses
+-- its first bytes are the header's
+image-head : (h : Header) (cs : List Cell) (lapses : ℕ → ℕ) (rest : List ℕ) (q : ℕ) → q < headerSize → byteAt (imageOf h cs lapses ++ rest) q ≡ byteAt (headerBytes h) q
+image-head h cs lapses rest q l =
+    let more = kindsBytes cs ++ from-e+ lapses cs rest in
+    ap (λ (x : List ℕ). byteAt x q) (in-a-row lapses h cs rest) ∙ List·getD-append (headerBytes h) more 0 q (omega (arith, length-headerBytes version h))
+
+-- bytes with a header, with all the cells that it says and their lapses, and behind them what was there: however they were laid, they are the image
+pub image-laid : (s u : List ℕ) (h : Header) (cs : List Cell) (lapses : ℕ → ℕ) → Bytes s → Bytes u → isHeader h ≡ true → length cs ≡ cellsOf h → AllCells cs
+    → LapsesFit lapses → lengthOf h ≤ length s → length u ≡ length s
+    → ((q : ℕ) → q < headerSize → byteAt u q ≡ byteAt (headerBytes h) q)
+    → ((q : ℕ) → lengthOf h ≤ q → byteAt u q ≡ byteAt s q)
+    → ((i : ℕ) → i < length cs → partsAt (length cs) u i ≡ partsOf (getD cs i Gap) (lapses i))
     → u ≡ written s 0 (imageOf h cs lapses)
-unfolding imageOf
-image-put s t u h cs lapses p q =
-    onward s t u 0 headerSize (headerBytes h) (cellsBytes 0 cs lapses) p (q ∙ putCells-written t 0 cs lapses)
-    (zero-add (length (headerBytes h)) ∙ length-headerBytes version h)
+unfolding lengthOf
+image-laid s u h cs lapses bs bu right count each fit room long head behind parts =
+    let image = imageOf h cs lapses in
+    let v = written s 0 image in
+    let n = length cs in
+    let size : length image ≡ sizeFor n = length-imageOf lapses h cs in
+    let enough : sizeFor n ≤ length s = rw (sym count) at room in
+    let front : v ≡ image ++ drop (0 + length image) s = written-fits s 0 image (omega (arith, size)) in
+    let four : n % 4 ≡ 0 = ap (λ (k : ℕ). k % 4) count ∙ cells-fours h in
+    same-bytes u v bu (bytes-written s 0 image bs (bytes-image lapses h cs fit right)) n four
+    (λ i l. parts i l ∙ sym (ap (λ (x : List ℕ). partsAt n x i) front ∙ image-parts lapses h cs (drop (0 + length image) s) i l four (each i l)))
+    (long ∙ sym (length-written s 0 image))
+    (λ q l. head q l ∙ sym (ap (λ (x : List ℕ). byteAt x q) front ∙ image-head h cs lapses (drop (0 + length image) s) q l))
+    (λ q l. behind q (rw (sym count) l) ∙ sym (byteAt-kept s 0 image q (inr (omega (arith, size)))))
+
+-- bytes written over all of a list
+over : (s bs : List ℕ) → length bs ≡ length s → written s 0 bs ≡ bs
+over s bs e =
+    written-fits s 0 bs (omega arith)
+    ∙ ap (λ (x : List ℕ). bs ++ x) (drop-of-length-le s {i = 0 + length bs} (omega arith))
+    ∙ append-nil bs
 
 -- ---- a log is the image of its header, its cells and their lapses
+
+-- what is seen one after the other, one by one
+seen-one : (cell : ℕ → CellAnswer) (k n : ℕ) (cs : List Cell) → seenFrom cell k n ≡ map Good cs
+    → (length cs ≡ n) × ((i : ℕ) → i < n → cell (k + i) ≡ Good (getD cs i Gap))
+unfolding seenFrom
+seen-one cell k zero [] p = (refl, λ i l. absurd (omega arith))
+seen-one cell k zero (c ∷ cs) p = let z : _≡_ {A = ℕ} 0 1 = cc in absurd (omega arith)
+seen-one cell k (suc n) [] p = let z : _≡_ {A = ℕ} 0 1 = cc in absurd (omega arith)
+seen-one cell k (suc n) (c ∷ cs) p =
+    let first : cell k ≡ Good c = cc in
+    let others : seenFrom cell (suc k) n ≡ map Good cs = cc in
+    let w = seen-one cell (suc k) n cs others in
+    (ap suc (w .0), each first (w .1))
+  where
+    each : cell k ≡ Good c → ((i : ℕ) → i < n → cell (suc k + i) ≡ Good (getD cs i Gap)) → (i : ℕ) → i < suc n → cell (k + i) ≡ Good (getD (c ∷ cs) i Gap)
+    each first others zero l = ap cell (add-zero k) ∙ first
+    each first others (suc i) l =
+        let e : suc k + i ≡ k + suc i = omega arith in
+        sym (ap cell e) ∙ others i (omega arith)
 
 module _ (s : List ℕ) (bytes : Bytes s) where
   -- a cell that is read is one
   pub read-is-cell : (i : ℕ) (c : Cell) → cellAt s i ≡ Good c → IsCell c
   unfolding cellAt
-  read-is-cell i c p = good-is-cell (take countsSize (drop (cellStart i) s)) c (bytes-part s (cellStart i) countsSize bytes) p
+  read-is-cell i c p =
+      let n = cellsAt s in
+      let k = kind-of _ _ _ _ _ c (good-below kindCell n s i c p .1) in
+      let f : CountsFit (countAt n s i) (countAt n s (n + i)) (countAt n s (2 * n + i)) (countAt n s (3 * n + i)) =
+      record { e-plus = two-below s _ bytes; e-minus = two-below s _ bytes; r-plus = two-below s _ bytes; r-minus = two-below s _ bytes } in
+      record { right = k .right; fits = k .fits f }
 
-  cell-read : (i : ℕ) (c : Cell) → cellStart i + cellSize ≤ length s → cellAt s i ≡ Good c
-      → drop (cellStart i) s ≡ cellBytes c (lapsesAt s i) ++ drop (cellStart (suc i)) s
-  unfolding cellAt cellBytes
-  cell-read i c l p =
-      let e : lapsesPlace i + 1 ≡ cellStart (suc i) = omega arith in
-      let f : suc (lapsesPlace i) ≡ cellStart (suc i) = omega arith in
-      sym (take-append-drop countsSize (drop (cellStart i) s))
-      ∙ ap₂ (λ (a b : List ℕ). a ++ b)
-      (sym (good-bytes (take countsSize (drop (cellStart i) s)) c (bytes-part s (cellStart i) countsSize bytes) p))
-      (drop-drop countsSize (cellStart i) s ∙ drop-cons s (lapsesPlace i) 0 (omega arith) ∙ ap (λ (n : ℕ). lapsesAt s i ∷ drop n s) f)
-      ∙ sym (append-assoc (countsBytes c) (lapsesAt s i ∷ []) (drop (cellStart (suc i)) s))
-
-  cells-read : (n i : ℕ) (cs : List Cell) → length s ≡ headerSize + cellSize * (i + n) → seenFrom (cellAt s) i n ≡ map Good cs
-      → drop (cellStart i) s ≡ cellsBytes i cs (lapsesAt s)
-  unfolding seenFrom cellsBytes
-  cells-read zero i [] l p = drop-of-length-le s {i = cellStart i} (omega arith)
-  cells-read zero i (c ∷ cs) l p = let z : _≡_ {A = ℕ} 0 1 = cc in absurd (omega arith)
-  cells-read (suc n) i [] l p = let z : _≡_ {A = ℕ} 0 1 = cc in absurd (omega arith)
-  cells-read (suc n) i (c ∷ cs) l p =
-      let first : cellAt s i ≡ Good c = cc in
-      let others : seenFrom (cellAt s) (suc i) n ≡ map Good cs = cc in
-      cell-read i c (omega arith) first ∙ ap (λ (x : List ℕ). cellBytes c (lapsesAt s i) ++ x) (cells-read n (suc i) cs (l ∙ omega arith) others)
-
-  pub image-of-log : (h : Header) (cs : List Cell) → soundOf s ≡ Sound h → seenFrom (cellAt s) 0 (cellsOf h) ≡ map Good cs → s ≡ imageOf h cs (lapsesAt s)
-  unfolding imageOf lengthOf
-  image-of-log h cs p q =
-      let l = sound-log s h p in
-      sym (take-append-drop headerSize s)
-      ∙ ap₂ (λ (a b : List ℕ). a ++ b) (sound-front s h bytes p) (cells-read (cellsOf h) 0 cs (l .size ∙ omega arith) q)
+  read-parts : (n i : ℕ) (c : Cell) → cellAmong n s i ≡ Good c → partsAt n s i ≡ partsOf c (byteAt s (lapsesPlace n i))
+  read-parts n i c p =
+      let k = kind-of _ _ _ _ _ c (good-below kindCell n s i c p .1) in
+      λ t. record { kind = k .kind-is t; e+ = k .e+-is t; e- = k .e--is t; r+ = k .r+-is t; r- = k .r--is t; lapses = byteAt s (lapsesPlace n i) }
 
   pub lapses-fit : LapsesFit (lapsesAt s)
-  lapses-fit i = bytes (lapsesPlace i)
+  unfolding lapsesAt lapsesAmong
+  lapses-fit i = go (cellsAt s) (ltb i (cellsAt s))
+    where
+      go : (n : ℕ) (b : Bool) → cond b (byteAt s (lapsesPlace n i)) 0 < 256
+      go n true = bytes (lapsesPlace n i)
+      go n false = omega arith
+
+  pub image-of-log : (h : Header) (cs : List Cell) → soundOf s ≡ Sound h → seenFrom (cellAt s) 0 (cellsOf h) ≡ map Good cs → s ≡ imageOf h cs (lapsesAt s)
+  unfolding lengthOf
+  image-of-log h cs p q =
+      let w = seen-one (cellAt s) 0 (cellsOf h) cs q in
+      let l = sound-log s h p in
+      let lapses = lapsesAt s in
+      let n = length cs in
+      let count : n ≡ cellsOf h = w .0 in
+      let four : n % 4 ≡ 0 = ap (λ (k : ℕ). k % 4) count ∙ cells-fours h in
+      let says : cellsAt s ≡ n = cells-at s h p ∙ sym count in
+      let seen : (i : ℕ) → i < n → cellAt s i ≡ Good (getD cs i Gap) = λ i m. rw zero-add at (w .1 i (rw (sym count) m)) in
+      let each : AllCells cs = λ i m. read-is-cell i (getD cs i Gap) (seen i m) in
+      let size : length s ≡ sizeFor n = l .size ∙ ap (λ (k : ℕ). sizeFor k) (sym count) in
+      let head : (j : ℕ) → j < headerSize → byteAt s j ≡ byteAt (headerBytes h) j =
+      λ j m. sym (getD-take headerSize s j 0 m) ∙ ap (λ (x : List ℕ). byteAt x j) (sound-front s h bytes p) in
+      let parts : (i : ℕ) → i < n → partsAt n s i ≡ partsOf (getD cs i Gap) (lapses i) =
+      λ i m. read-parts n i (getD cs i Gap) (sym (cellAt-among s n says i) ∙ seen i m)
+      ∙ ap (partsOf (getD cs i Gap)) (sym (lapsesAt-among s n says i ∙ lapses-in-log n s i m)) in
+      image-laid s s h cs lapses bytes bytes (l .ranges) count each lapses-fit (omega (arith, l .size)) refl head (λ j m. refl) parts
+      ∙ over s (imageOf h cs lapses) (length-imageOf lapses h cs ∙ sym size)
 
 -- ---- what `&mut s[a..a + k]` and `&mut s[a..]` leave of s where bytes were written to the front of the part
 
@@ -325,7 +632,3 @@ module _ (s : List ℕ) (a : ℕ) (bs part : List ℕ) where
   part-put k l p =
       let fits : 0 + length bs ≤ k = omega arith in
       ap (λ (x : List ℕ). take a s ++ (x ++ drop k (drop a s))) p ∙ written-part a k s 0 bs fits ∙ ap (λ (n : ℕ). written s n bs) (add-zero a)
-
-  pub rest-put : part ≡ written (take (length s - a) (drop a s)) 0 bs → take a s ++ (part ++ drop (length s - a) (drop a s)) ≡ written s a bs
-  rest-put p =
-      ap (λ (x : List ℕ). take a s ++ (x ++ drop (length s - a) (drop a s))) p ∙ written-rest a s 0 bs ∙ ap (λ (n : ℕ). written s n bs) (add-zero a)

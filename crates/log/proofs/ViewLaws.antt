@@ -6,24 +6,23 @@ use native.Mathlib.Omega.{arith}
 use mathlib.Core.Path.{_≡_, refl, sym, ap, ap₂, subst, _∙_, fun-ext}
 use mathlib.Core.Bool.{Bool, true, false, cond, false≢true}
 use mathlib.Core.List.{List, [], _∷_, map}
-use mathlib.Core.Logic.{inl, inr}
 use lib.Dec.{eqb, ltb}
 use lib.ListN.{length, getD, take, drop, set, length-set}
 use lib.Seq.{drop-cons, getD-set-same, getD-set-other}
-use borrow.Author.Tests.{ltb-true, ltb-false, eqb-true, eqb-false}
+use borrow.Author.Tests.{ltb-true, ltb-false, eqb-true, eqb-false, ne-eqb}
 use Rattle.words.specs.Number.{Bytes}
-use Rattle.words.specs.Place.{Apart, byteAt, written}
-use Rattle.words.proofs.PlaceLaws.{byteAt-kept}
-use Rattle.log.specs.Header.{cellsOf, lengthOf, isHeader, soundOf}
-use Rattle.log.specs.Cell.{countsBytes, IsCell}
-use Rattle.log.specs.Image.{cellStart, lapsesPlace, OutsideCell, cellAt, lapsesAt, putCell, putLapses, applied, imageOf, allGood, goods, AllCells, LapsesFit}
+use Rattle.words.specs.Place.{byteAt}
+use Rattle.log.specs.Header.{cellsOf, isHeader, soundOf}
+use Rattle.log.specs.Cell.{IsCell}
+use Rattle.log.specs.Pair.{pairOf}
+use Rattle.log.specs.Image.{lapsesPlace, cellsAt, cellAt, lapsesAt, putCellAmong, putLapsesAmong, putCell, putLapses, OutsideCell, of-lapses, applied, imageOf}
+use Rattle.log.specs.Image.{allGood, goods, AllCells, LapsesFit}
 use Rattle.log.specs.View.{View, viewOf, seenFrom, seenWhere}
-use Rattle.log.proofs.CellLaws.{length-countsBytes, bytes-cell, bad≢good}
-use Rattle.log.proofs.HeaderLaws.{sound-log}
-use Rattle.log.proofs.ByteLaws.{bytes-nil, bytes-cons}
-use Rattle.log.proofs.ImageLaws.{length-putCell, length-putLapses, soundOf-putCell, soundOf-putLapses, cell-within, cellAt-past, lapsesAt-past}
-use Rattle.log.proofs.ImageLaws.{cellAt-put, cellAt-put-other, lapsesAt-put, lapsesAt-lapses, lapsesAt-lapses-other, cellAt-lapses}
-use Rattle.log.proofs.ImageLaws.{read-is-cell, length-imageOf, bytes-image, sound-image, cellAt-image, lapsesAt-image, image-alike, image-of-log}
+use Rattle.log.proofs.CellLaws.{bad≢good}
+use Rattle.log.proofs.ColumnLaws.{outside-stays, byte-lapses}
+use Rattle.log.proofs.ImageLaws.{length-putCell, length-putLapses, soundOf-putCell, soundOf-putLapses, putCell-among, putLapses-among, cells-at, room-of, cellAt-past, lapsesAt-past}
+use Rattle.log.proofs.ImageLaws.{cellAt-put, cellAt-put-other, lapsesAt-put, lapsesAt-lapses, lapsesAt-lapses-other, cellAt-lapses, bytes-putCell, bytes-putLapses}
+use Rattle.log.proofs.ImageLaws.{read-is-cell, bytes-image, sound-image, cellAt-image, lapsesAt-image, image-alike, image-of-log}
 use Rattle.log.specs.declared.header.Header.{Header}
 use Rattle.log.specs.declared.header.Lent.{Lent}
 use Rattle.log.specs.declared.header.Lent.the-variants.{Sound, Unsound}
@@ -61,35 +60,35 @@ seen-of : (s : List ℕ) (h : Header) → soundOf s ≡ Sound h → viewOf s ≡
 seen-of s h p = rw p
 
 -- two views with the same cells and the same lapses are one
-same-view : (h : Header) {a b : ℕ → CellAnswer} {m n : ℕ → ℕ} → ((j : ℕ) → a j ≡ b j) → ((j : ℕ) → m j ≡ n j)
+pub same-view : (h : Header) {a b : ℕ → CellAnswer} {m n : ℕ → ℕ} → ((j : ℕ) → a j ≡ b j) → ((j : ℕ) → m j ≡ n j)
     → _≡_ {A = View} (record { lent = Sound h; cell = a; lapses = m }) (record { lent = Sound h; cell = b; lapses = n })
 same-view h p q = ap₂ (λ (f : ℕ → CellAnswer) (g : ℕ → ℕ). record { lent = Sound h; cell = f; lapses = g }) (fun-ext p) (fun-ext q)
 
 module _ (s : List ℕ) (h : Header) (i : ℕ) (p : soundOf s ≡ Sound h) (l : i < cellsOf h) where
   cell-put : (c : Cell) → IsCell c → (j : ℕ) (b : Bool) → eqb j i ≡ b → cellAt (putCell s i c) j ≡ cond b (Good c) (cellAt s j)
-  cell-put c k j true e = ap (cellAt (putCell s i c)) (eqb-true j i e) ∙ cellAt-put s i c k (cell-within s h i p l)
-  cell-put c k j false e = cellAt-put-other s i j c (eqb-false j i e)
+  cell-put c k j true e = ap (cellAt (putCell s i c)) (eqb-true j i e) ∙ cellAt-put s h p i l c k
+  cell-put c k j false e = cellAt-put-other s h p i l c j (eqb-false j i e)
 
   lapses-put : (n j : ℕ) (b : Bool) → eqb j i ≡ b → lapsesAt (putLapses s i n) j ≡ cond b n (lapsesAt s j)
-  lapses-put n j true e = ap (lapsesAt (putLapses s i n)) (eqb-true j i e) ∙ lapsesAt-lapses s i n (cell-within s h i p l)
-  lapses-put n j false e = lapsesAt-lapses-other s i j n (eqb-false j i e)
+  lapses-put n j true e = ap (lapsesAt (putLapses s i n)) (eqb-true j i e) ∙ lapsesAt-lapses s h p i l n
+  lapses-put n j false e = lapsesAt-lapses-other s h p i l n j (eqb-false j i e)
 
   view-put : (c : Cell) → IsCell c → viewOf (putCell s i c) ≡ changed (Put i c) (viewOf s)
   unfolding changed
   view-put c k =
       seen-of (putCell s i c) h (soundOf-putCell s i c ∙ p)
-      ∙ same-view h (λ j. cell-put c k j (eqb j i) refl) (λ j. lapsesAt-put s i j c)
+      ∙ same-view h (λ j. cell-put c k j (eqb j i) refl) (λ j. lapsesAt-put s h p i l c j)
       ∙ ap (changed (Put i c)) (sym (seen-of s h p))
 
   view-lapses : (n : ℕ) → viewOf (putLapses s i n) ≡ changed (Lapses i n) (viewOf s)
   unfolding changed
   view-lapses n =
       seen-of (putLapses s i n) h (soundOf-putLapses s i n ∙ p)
-      ∙ same-view h (λ j. cellAt-lapses s i j n) (λ j. lapses-put n j (eqb j i) refl)
+      ∙ same-view h (λ j. cellAt-lapses s h p i l n j) (λ j. lapses-put n j (eqb j i) refl)
       ∙ ap (changed (Lapses i n)) (sym (seen-of s h p))
 
 -- a cell of the log is one of a header's
-within : (a : Lent) (i : ℕ) → Within a i → (h : Header) × ((a ≡ Sound h) × (i < cellsOf h))
+pub within : (a : Lent) (i : ℕ) → Within a i → (h : Header) × ((a ≡ Sound h) × (i < cellsOf h))
 within Unsound i w = absurd w
 within (Sound h) i w = (h, (refl, w))
 
@@ -100,7 +99,7 @@ view-applied s None k = refl
 view-applied s (Put i c) k = let w = within (soundOf s) i (k .0) in view-put s (w .0) i (w .1 .0) (w .1 .1) c (k .1)
 view-applied s (Lapses i n) k = let w = within (soundOf s) i (k .0) in view-lapses s (w .0) i (w .1 .0) (w .1 .1) n
 
--- ---- the bytes that a change leaves
+-- ---- the bits that a change leaves
 
 -- the cell that a change is one of
 abbrev pub At : Change → ℕ → Type 0
@@ -108,20 +107,48 @@ At None i = Unit
 At (Put k c) i = k ≡ i
 At (Lapses k n) i = k ≡ i
 
--- a change of a cell leaves every byte that is none of that cell's
-pub elsewhere : (s : List ℕ) (ch : Change) (i j : ℕ) → At ch i → OutsideCell i j → byteAt (applied ch s) j ≡ byteAt s j
-unfolding applied putCell putLapses
-elsewhere s None i j a out = refl
-elsewhere s (Put k c) i j a out = byteAt-kept s (cellStart k) (countsBytes c) j (apart out)
+-- past the last cell nothing is put
+put-none : (n : ℕ) (s : List ℕ) (m : ℕ) (c : Cell) → ltb m n ≡ false → putCellAmong n s m c ≡ s
+unfolding putCellAmong
+put-none n s m c e = simp e
+
+lapses-none : (n : ℕ) (s : List ℕ) (m x : ℕ) → ltb m n ≡ false → putLapsesAmong n s m x ≡ s
+unfolding putLapsesAmong
+lapses-none n s m x e = simp e
+
+-- a change of one cell of a log leaves every pair of bits that is none of that cell's: every byte outside it, and in the byte of its kind those of the
+-- three others
+pub elsewhere : (s : List ℕ) (h : Header) (ch : Change) (i q j : ℕ) → soundOf s ≡ Sound h → At ch i → j < 4
+    → OutsideCell (cellsOf h) i q j → pairOf (byteAt (applied ch s) q) j ≡ pairOf (byteAt s q) j
+unfolding applied
+elsewhere s h None i q j p a jl out = refl
+elsewhere s h (Put m c) i q j p a jl out =
+    ap (λ (t : List ℕ). pairOf (byteAt t q) j) (putCell-among s (cellsOf h) (cells-at s h p) m c) ∙ go (ltb m (cellsOf h)) refl
   where
-    apart : OutsideCell i j → Apart j 1 (cellStart k) (length (countsBytes c))
-    apart (inl l) = inl (omega (arith, a))
-    apart (inr l) = inr (omega (arith, a, length-countsBytes c))
-elsewhere s (Lapses k n) i j a out = byteAt-kept s (lapsesPlace k) (n ∷ []) j (apart out)
+    go : (b : Bool) → ltb m (cellsOf h) ≡ b → pairOf (byteAt (putCellAmong (cellsOf h) s m c) q) j ≡ pairOf (byteAt s q) j
+    go true e =
+        outside-stays (cellsOf h) s (room-of s h p) m (ltb-true m (cellsOf h) e) c q j jl (subst (λ (x : ℕ). OutsideCell (cellsOf h) x q j) (sym a) out)
+    go false e = ap (λ (t : List ℕ). pairOf (byteAt t q) j) (put-none (cellsOf h) s m c e)
+elsewhere s h (Lapses m x) i q j p a jl out =
+    ap (λ (t : List ℕ). pairOf (byteAt t q) j) (putLapses-among s (cellsOf h) (cells-at s h p) m x) ∙ go (ltb m (cellsOf h)) refl
   where
-    apart : OutsideCell i j → Apart j 1 (lapsesPlace k) 1
-    apart (inl l) = inl (omega (arith, a))
-    apart (inr l) = inr (omega (arith, a))
+    go : (b : Bool) → ltb m (cellsOf h) ≡ b → pairOf (byteAt (putLapsesAmong (cellsOf h) s m x) q) j ≡ pairOf (byteAt s q) j
+    go true e =
+        ap (λ (b : ℕ). pairOf b j)
+        (byte-lapses (cellsOf h) s (room-of s h p) m (ltb-true m (cellsOf h) e) x q (λ d. out (of-lapses (d ∙ ap (lapsesPlace (cellsOf h)) a))))
+    go false e = ap (λ (t : List ℕ). pairOf (byteAt t q) j) (lapses-none (cellsOf h) s m x e)
+
+-- and every other cell with its lapses
+pub others-stay : (s : List ℕ) (ch : Change) (i j : ℕ) → Holds (viewOf s) ch → At ch i → (j ≡ i → ⊥)
+    → (viewOf (applied ch s) .cell j ≡ viewOf s .cell j) × (viewOf (applied ch s) .lapses j ≡ viewOf s .lapses j)
+unfolding changed
+others-stay s None i j k a ne = (ap (λ (v : View). v .cell j) (view-applied s None k), ap (λ (v : View). v .lapses j) (view-applied s None k))
+others-stay s (Put m c) i j k a ne =
+    let seen = view-applied s (Put m c) k in
+    (ap (λ (v : View). v .cell j) seen ∙ simp (ne-eqb j m (λ e. ne (e ∙ a))), ap (λ (v : View). v .lapses j) seen)
+others-stay s (Lapses m x) i j k a ne =
+    let seen = view-applied s (Lapses m x) k in
+    (ap (λ (v : View). v .cell j) seen, ap (λ (v : View). v .lapses j) seen ∙ simp (ne-eqb j m (λ e. ne (e ∙ a))))
 
 pub length-applied : (ch : Change) (s : List ℕ) → length (applied ch s) ≡ length s
 unfolding applied
@@ -129,24 +156,11 @@ length-applied None s = refl
 length-applied (Put i c) s = length-putCell s i c
 length-applied (Lapses i n) s = length-putLapses s i n
 
--- bytes stay bytes
-bytes-set : (s : List ℕ) (i b : ℕ) → Bytes s → b < 256 → Bytes (set s i b)
-bytes-set [] i b k l j = k j
-bytes-set (x ∷ s) zero b k l zero = l
-bytes-set (x ∷ s) zero b k l (suc j) = k (suc j)
-bytes-set (x ∷ s) (suc i) b k l zero = k 0
-bytes-set (x ∷ s) (suc i) b k l (suc j) = bytes-set s i b (λ m. k (suc m)) l j
-
-bytes-written : (s : List ℕ) (i : ℕ) (bs : List ℕ) → Bytes s → Bytes bs → Bytes (written s i bs)
-unfolding written
-bytes-written s i [] k l = k
-bytes-written s i (b ∷ bs) k l = bytes-written (set s i b) (suc i) bs (bytes-set s i b k (l 0)) (λ j. l (suc j))
-
 pub bytes-applied : (s : List ℕ) (ch : Change) → Bytes s → Holds (viewOf s) ch → Bytes (applied ch s)
-unfolding applied putCell putLapses
+unfolding applied
 bytes-applied s None b k = b
-bytes-applied s (Put i c) b k = bytes-written s (cellStart i) (countsBytes c) b (bytes-cell c)
-bytes-applied s (Lapses i n) b k = bytes-written s (lapsesPlace i) (n ∷ []) b (bytes-cons n [] (k .1) bytes-nil)
+bytes-applied s (Put i c) b k = bytes-putCell s i c b
+bytes-applied s (Lapses i n) b k = bytes-putLapses s i n b (k .1)
 
 -- ---- the walk over a view's cells
 
@@ -192,10 +206,9 @@ where-end there cell i n e = rw e refl
 
 -- past a log's cells there is none
 pub seen-past : (s : List ℕ) (h : Header) (i : ℕ) → soundOf s ≡ Sound h → cellsOf h ≤ i → (viewOf s .cell i ≡ Bad) × (viewOf s .lapses i ≡ 0)
-unfolding lengthOf
 seen-past s h i p l =
-    let size = sound-log s h p .size in
-    (rw p (cellAt-past s i (omega (arith, size))), rw p (lapsesAt-past s i (omega (arith, size))))
+    let m : cellsAt s ≤ i = omega (arith, cells-at s h p) in
+    (rw p (cellAt-past s i m), rw p (lapsesAt-past s i m))
 
 -- what is seen as a cell is one
 abbrev pub AreCells : (ℕ → CellAnswer) → Type 0
@@ -222,7 +235,7 @@ cell-in [] i l = absurd (not-suc-le-zero l)
 cell-in (c ∷ cs) zero l = refl
 cell-in (c ∷ cs) (suc i) l = cell-in cs i (omega arith)
 
-none-in : (cs : List Cell) (i : ℕ) → length cs ≤ i → cellIn cs i ≡ Bad
+pub none-in : (cs : List Cell) (i : ℕ) → length cs ≤ i → cellIn cs i ≡ Bad
 unfolding cellIn
 none-in [] i l = refl
 none-in (c ∷ cs) zero l = absurd (omega arith)
@@ -246,17 +259,16 @@ pub view-image : (h : Header) (cs : List Cell) (lapses : ℕ → ℕ) → isHead
 view-image h cs lapses e l k =
     seen-of (imageOf h cs lapses) h (sound-image lapses h cs e l) ∙ same-view h (λ i. cell i (ltb i (length cs)) refl) (λ i. lapsed i (ltb i (length cs)) refl)
   where
+    says : cellsAt (imageOf h cs lapses) ≡ cellsOf h
+    says = cells-at (imageOf h cs lapses) h (sound-image lapses h cs e l)
+
     cell : (i : ℕ) (b : Bool) → ltb i (length cs) ≡ b → cellAt (imageOf h cs lapses) i ≡ cellIn cs i
-    cell i true t = let m = ltb-true i (length cs) t in cellAt-image lapses h cs i m (k i m) ∙ sym (cell-in cs i m)
-    cell i false t =
-        let m = ltb-false i (length cs) t in
-        cellAt-past (imageOf h cs lapses) i (omega (arith, length-imageOf lapses h cs)) ∙ sym (none-in cs i m)
+    cell i true t = let m = ltb-true i (length cs) t in cellAt-image lapses h cs e l i m (k i m) ∙ sym (cell-in cs i m)
+    cell i false t = let m = ltb-false i (length cs) t in cellAt-past (imageOf h cs lapses) i (omega (arith, says, l)) ∙ sym (none-in cs i m)
 
     lapsed : (i : ℕ) (b : Bool) → ltb i (length cs) ≡ b → lapsesAt (imageOf h cs lapses) i ≡ cond b (lapses i) 0
-    lapsed i true t = lapsesAt-image lapses h cs i (ltb-true i (length cs) t)
-    lapsed i false t =
-        let m = ltb-false i (length cs) t in
-        lapsesAt-past (imageOf h cs lapses) i (omega (arith, length-imageOf lapses h cs))
+    lapsed i true t = lapsesAt-image lapses h cs e l i (ltb-true i (length cs) t)
+    lapsed i false t = lapsesAt-past (imageOf h cs lapses) i (omega (arith, says, l, ltb-false i (length cs) t))
 
 all-seen : (read : List CellAnswer) → allGood read ≡ true → read ≡ map Good (goods read)
 unfolding allGood goods

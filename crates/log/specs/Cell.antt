@@ -90,10 +90,6 @@ kindNames kind e+ e- r+ r- = cond (ltb kind 3) (Good (cellBy kind e+ e- r+ r-)) 
 unfoldable pub cellOf : List ℕ → CellAnswer
 cellOf bs = cond (eqb (length bs) countsSize) (kindCell (byteAt bs 0) (numberAt bs 1 2) (numberAt bs 3 2) (numberAt bs 5 2) (numberAt bs 7 2)) Bad
 
--- the cell that nine bytes name by their kind, whatever the counts: where they are a cell, it is that one
-unfoldable pub knownCell : List ℕ → CellAnswer
-knownCell bs = cond (eqb (length bs) countsSize) (kindNames (byteAt bs 0) (numberAt bs 1 2) (numberAt bs 3 2) (numberAt bs 5 2) (numberAt bs 7 2)) Bad
-
 -- one value where bytes are no cell, else one by the cell that they are
 abbrev pub ifGood : {A : Type 0} → CellAnswer → A → (Cell → A) → A
 ifGood Bad other f = other

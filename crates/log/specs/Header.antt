@@ -1,5 +1,5 @@
 -- The header of a log. Source: document 01, "The reader and the log".
-use Prim.Native.Nat.{ℕ, _+_, _*_, _-_}
+use Prim.Native.Nat.{ℕ, _+_, _*_, _-_, _/_}
 use mathlib.Core.Bool.{Bool, cond, _&&_}
 use mathlib.Core.List.{List, [], _∷_, _++_}
 use lib.Dec.{ltb, leb, eqb}
@@ -9,7 +9,6 @@ use Rattle.words.specs.Place.{byteAt, numberAt}
 use Rattle.slots.specs.Day.{isMinutes, slotsOf}
 use Rattle.calendar.specs.Date.{isDate, dayNumber, centuryDays}
 use Rattle.calendar.specs.declared.date.Date.{Date}
-use Rattle.log.specs.Cell.{cellSize}
 use Rattle.log.specs.declared.header.Header.{Header}
 use Rattle.log.specs.declared.header.HeaderAnswer.{HeaderAnswer}
 use Rattle.log.specs.declared.header.HeaderAnswer.the-variants.{Right, Wrong}
@@ -32,17 +31,21 @@ daysMost = 62
 abbrev pub cellsMost : ℕ
 cellsMost = daysMost * 96
 
+-- the bytes of a log of n cells: "14 header bytes", "all kinds at two bits each", four columns of two bytes a cell, and a byte of lapses (document 02, CR 9)
+abbrev pub sizeFor : ℕ → ℕ
+sizeFor n = headerSize + n / 4 + 8 * n + n
+
 -- the longest image
 abbrev pub imageMost : ℕ
-imageMost = headerSize + cellSize * cellsMost
+imageMost = sizeFor cellsMost
 
 -- the log's cells: the slots of all its days
 unfoldable pub cellsOf : Header → ℕ
 cellsOf h = h .days * slotsOf (h .minutes)
 
--- "14 bytes. Then cells in time order", 10 bytes each (document 02, CR 7)
+-- "1 by the new size" (document 02, CR 9)
 unfoldable pub lengthOf : Header → ℕ
-lengthOf h = headerSize + cellSize * cellsOf h
+lengthOf h = sizeFor (cellsOf h)
 
 -- "1 to 62 days that end by 2099-12-31"
 unfoldable pub daysRight : Header → Bool

@@ -1,7 +1,7 @@
-// A cell of the log: what is known of one interval, in nine bytes, and a tenth for how many asks for it lapsed.
+// A cell of the log: what is known of one interval. In a file it has nine bytes, and a tenth for how many asks for it lapsed.
 ghost use mathlib.Core.Path.{_≡_};
 ghost use Rattle.words.specs.Place.{written};
-ghost use Rattle.log.specs.Cell.{cellOf, countsBytes, kindBytes, kindCell, kindFits, kindNames, knownCell, noCounts, kindOf, e+Of, e-Of, r+Of, r-Of};
+ghost use Rattle.log.specs.Cell.{cellOf, kindBytes, kindCell, kindFits, kindNames, noCounts, kindOf, e+Of, e-Of, r+Of, r-Of};
 
 pub enum Cell {
     // No well-formed reply with result 0 came.
@@ -20,9 +20,6 @@ pub enum CellAnswer {
 
 // Kind and counts.
 pub const COUNTS_BYTES: usize = 9;
-
-// With the lapses behind them.
-pub const CELL_BYTES: usize = COUNTS_BYTES + 1;
 
 // The kinds, as the cell's first byte has them.
 const GAP: u8 = 0;
@@ -46,24 +43,8 @@ pub fn cell_of(bytes: &[u8]) -> CellAnswer
     )
 }
 
-// The cell of bytes that were seen to be one: it goes by the kind alone.
-pub fn known_cell(bytes: &[u8]) -> CellAnswer
-    ensures { λ r. ⌜ r ≡ knownCell (now (bytes .entry)) ⌝ }
-{
-    if bytes.len() != COUNTS_BYTES {
-        return CellAnswer::Bad;
-    }
-    cell_by(
-        words::byte_at(bytes, 0),
-        words::u16_at(bytes, 1),
-        words::u16_at(bytes, 3),
-        words::u16_at(bytes, 5),
-        words::u16_at(bytes, 7),
-    )
-}
-
 // The cell of a kind and four counts.
-fn kind_cell(kind: u8, ep: u16, em: u16, rp: u16, rm: u16) -> CellAnswer
+pub fn kind_cell(kind: u8, ep: u16, em: u16, rp: u16, rm: u16) -> CellAnswer
     ensures { λ r. ⌜ r ≡ kindCell kind ep em rp rm ⌝ }
 {
     // Whether it is one comes first, and is nearly always so; what it is comes then, with nothing left to guess.
@@ -74,7 +55,7 @@ fn kind_cell(kind: u8, ep: u16, em: u16, rp: u16, rm: u16) -> CellAnswer
 }
 
 // Whether a kind goes with its counts: none of them above zero, or some.
-fn kind_fits(kind: u8, none: bool) -> bool
+pub fn kind_fits(kind: u8, none: bool) -> bool
     ensures { λ r. ⌜ r ≡ kindFits kind none ⌝ }
 {
     // With other kinds out of the way, one of the two tests is the other's opposite.
@@ -88,7 +69,7 @@ fn kind_fits(kind: u8, none: bool) -> bool
 }
 
 // The cell that a kind names. Each kind has an arm of its own, so that the compiler sees the cell's variant in the kind itself.
-fn cell_by(kind: u8, ep: u16, em: u16, rp: u16, rm: u16) -> CellAnswer
+pub fn cell_by(kind: u8, ep: u16, em: u16, rp: u16, rm: u16) -> CellAnswer
     ensures { λ r. ⌜ r ≡ kindNames kind ep em rp rm ⌝ }
 {
     match kind {
@@ -115,22 +96,7 @@ pub fn no_counts(ep: u16, em: u16, rp: u16, rm: u16) -> bool
     rm == 0
 }
 
-// Puts a cell's kind and counts to the front of a lent part.
-pub fn write_cell(out: &mut [u8], c: Cell)
-    ensures { λ _. ⌜ now (out .exit) ≡ written (now (out .entry)) 0 (countsBytes c) ⌝ }
-{
-    // Each part by itself: kinds come in no order that a processor could guess, and so nothing branches on them.
-    write_kind(
-        out,
-        kind_of(c),
-        e_plus(c),
-        e_minus(c),
-        r_plus(c),
-        r_minus(c),
-    );
-}
-
-fn kind_of(c: Cell) -> u8
+pub fn kind_of(c: Cell) -> u8
     ensures { λ r. ⌜ r ≡ kindOf c ⌝ }
 {
     match c {
@@ -140,7 +106,7 @@ fn kind_of(c: Cell) -> u8
     }
 }
 
-fn e_plus(c: Cell) -> u16
+pub fn e_plus(c: Cell) -> u16
     ensures { λ r. ⌜ r ≡ e+Of c ⌝ }
 {
     match c {
@@ -150,7 +116,7 @@ fn e_plus(c: Cell) -> u16
     }
 }
 
-fn e_minus(c: Cell) -> u16
+pub fn e_minus(c: Cell) -> u16
     ensures { λ r. ⌜ r ≡ e-Of c ⌝ }
 {
     match c {
@@ -160,7 +126,7 @@ fn e_minus(c: Cell) -> u16
     }
 }
 
-fn r_plus(c: Cell) -> u16
+pub fn r_plus(c: Cell) -> u16
     ensures { λ r. ⌜ r ≡ r+Of c ⌝ }
 {
     match c {
@@ -170,7 +136,7 @@ fn r_plus(c: Cell) -> u16
     }
 }
 
-fn r_minus(c: Cell) -> u16
+pub fn r_minus(c: Cell) -> u16
     ensures { λ r. ⌜ r ≡ r-Of c ⌝ }
 {
     match c {
@@ -180,7 +146,8 @@ fn r_minus(c: Cell) -> u16
     }
 }
 
-fn write_kind(out: &mut [u8], kind: u8, ep: u16, em: u16, rp: u16, rm: u16)
+// Puts a kind and four counts to the front of a lent part.
+pub fn write_kind(out: &mut [u8], kind: u8, ep: u16, em: u16, rp: u16, rm: u16)
     ensures { λ _. ⌜ now (out .exit) ≡ written (now (out .entry)) 0 (kindBytes kind ep em rp rm) ⌝ }
 {
     words::put_byte(out, 0, kind);

@@ -1,9 +1,12 @@
 // A fresh log, all gaps.
 ghost use mathlib.Core.Path.{_≡_};
+ghost use Prim.Native.Nat.{_+_, _-_, _≤_};
+ghost use lib.ListN.{length, replicate};
 ghost use Rattle.refusal.specs.Outcome.{outcome};
-ghost use Rattle.log.specs.Image.{putCells};
-ghost use Rattle.log.specs.Fresh.{freshNumber, freshOf, gaps, noLapses};
-use crate::cell::Cell;
+ghost use Rattle.words.specs.Place.{written};
+ghost use Rattle.log.specs.Header.{headerSize};
+ghost use Rattle.log.specs.Fresh.{freshNumber, freshOf};
+use crate::header::HEADER_BYTES;
 use crate::header::Header;
 
 pub enum FreshAnswer {
@@ -36,19 +39,20 @@ pub fn fresh_log(h: Header, out: &mut [u8]) -> FreshAnswer
             return FreshAnswer::TooShort;
         }
         crate::header::write_header(out, h);
-        write_gaps(out, crate::header::cells_of(h));
+        write_gaps(out, length);
         return FreshAnswer::Done(length);
     }
     FreshAnswer::OutOfRange
 }
 
-// The first cells, as far as there is room.
-fn write_gaps(out: &mut [u8], cells: usize)
-    ensures { λ _. ⌜ now (out .exit) ≡ putCells (now (out .entry)) 0 (gaps cells) noLapses ⌝ }
+// The bytes behind the header, up to the image's end: gaps have no counts and no lapses, and their kind is zero too.
+fn write_gaps(out: &mut [u8], end: usize)
+    requires { ⌜ (headerSize ≤ end) × (end ≤ length (now out)) ⌝ }
+    ensures { λ _. ⌜ now (out .exit) ≡ written (now (out .entry)) headerSize (replicate (end - headerSize) 0) ⌝ }
 {
-    let mut i = 0;
-    while i < cells {
-        crate::image::put_whole(out, i, Cell::Gap, 0);
-        i += 1;
+    let mut at = HEADER_BYTES;
+    while at < end {
+        out[at] = 0;
+        at += 1;
     }
 }

@@ -8,7 +8,6 @@ ghost use Rattle.words.specs.Place.{written};
 ghost use Rattle.calendar.specs.Date.{isDate, dayNumber, centuryDays};
 ghost use Rattle.log.specs.Header.{cellsOf, lengthOf, isHeader, headerBytes, headerAt, dateBytes};
 ghost use Rattle.log.specs.Header.{markRight, versionAt, versionRight, fieldsRight, headerOf, soundOf};
-use crate::cell::CELL_BYTES;
 
 pub struct Header {
     pub start: calendar::Date,
@@ -40,7 +39,7 @@ const DAYS_MOST: u8 = 62;
 pub const CELLS_MOST: usize = DAYS_MOST as usize * slots::SLOTS_MOST as usize;
 
 // The longest image.
-pub const IMAGE_MOST: usize = HEADER_BYTES + CELL_BYTES * CELLS_MOST;
+pub const IMAGE_MOST: usize = HEADER_BYTES + CELLS_MOST / 4 + 8 * CELLS_MOST + CELLS_MOST;
 
 // The image's, and that of a file that is written.
 pub const VERSION: u16 = 3;
@@ -61,7 +60,8 @@ pub fn cells_of(h: Header) -> usize
 pub fn length_of(h: Header) -> usize
     ensures { λ r. ⌜ r ≡ lengthOf h ⌝ }
 {
-    HEADER_BYTES + CELL_BYTES * cells_of(h)
+    let n = cells_of(h);
+    HEADER_BYTES + n / 4 + 8 * n + n
 }
 
 pub fn is_header(h: Header) -> bool

@@ -1,10 +1,12 @@
-// The log's image: single cells, by their index in time order.
+// The log's image: single cells, by their index in time order. Its places go by the number of its cells: a caller that looks at many of them
+// asks for that number once, and hands it to the functions named `among`.
 ghost use mathlib.Core.Path.{_≡_};
-ghost use Rattle.words.specs.Place.{written};
-ghost use Rattle.log.specs.Cell.{countsBytes};
-ghost use Rattle.log.specs.Image.{cellAt, knownAt, lapsesAt, putCell, putLapses, putWhole, applied};
-use crate::cell::CELL_BYTES;
-use crate::cell::COUNTS_BYTES;
+ghost use Prim.Native.Nat.{_+_, _*_, _<_, _≤_};
+ghost use lib.ListN.{length};
+ghost use Rattle.words.specs.Place.{numberAt};
+ghost use Rattle.log.specs.Header.{sizeFor};
+ghost use Rattle.log.specs.Image.{kindAt, countAt, cellsAt, cellAmong, lapsesAmong, cellAt, lapsesAt};
+ghost use Rattle.log.specs.Image.{putKind, putCount, putCounts, putCellAmong, putLapsesAmong, putCell, putLapses, applied};
 use crate::cell::Cell;
 use crate::cell::CellAnswer;
 use crate::header::HEADER_BYTES;
@@ -18,89 +20,198 @@ pub enum Change {
     Lapses(usize, u8),
 }
 
-// The last index whose cell a slice can reach: the place of a later one might wrap.
-const INDEX_MOST: usize = (usize::MAX - HEADER_BYTES - CELL_BYTES) / CELL_BYTES;
+// How many cells the header's bytes say.
+pub fn cells_at(log: &[u8]) -> u16
+    ensures { λ r. ⌜ r ≡ cellsAt (now (log .entry)) ⌝ }
+{
+    let days = words::byte_at(log, 8);
+    let slots = slots::slots_of(words::byte_at(log, 9));
+    (days as u16) * (slots as u16)
+}
 
 pub fn cell_at(log: &[u8], i: usize) -> CellAnswer
     ensures { λ r. ⌜ r ≡ cellAt (now (log .entry)) i ⌝ }
 {
-    if INDEX_MOST < i {
-        return CellAnswer::Bad;
-    }
-    let from = HEADER_BYTES + CELL_BYTES * i;
-    let to = from + COUNTS_BYTES;
-    if log.len() < to {
-        return CellAnswer::Bad;
-    }
-    crate::cell::cell_of(&log[from..to])
-}
-
-// A cell that was seen to be good, by its kind alone.
-pub fn known_at(log: &[u8], i: usize) -> CellAnswer
-    ensures { λ r. ⌜ r ≡ knownAt (now (log .entry)) i ⌝ }
-{
-    if INDEX_MOST < i {
-        return CellAnswer::Bad;
-    }
-    let from = HEADER_BYTES + CELL_BYTES * i;
-    let to = from + COUNTS_BYTES;
-    if log.len() < to {
-        return CellAnswer::Bad;
-    }
-    crate::cell::known_cell(&log[from..to])
+    cell_among(log, cells_at(log), i)
 }
 
 // How many asks for a cell lapsed; none for an index past the end.
 pub fn lapses_at(log: &[u8], i: usize) -> u8
     ensures { λ r. ⌜ r ≡ lapsesAt (now (log .entry)) i ⌝ }
 {
-    if INDEX_MOST < i {
+    lapses_among(log, cells_at(log), i)
+}
+
+pub fn cell_among(log: &[u8], n: u16, i: usize) -> CellAnswer
+    ensures { λ r. ⌜ r ≡ cellAmong n (now (log .entry)) i ⌝ }
+{
+    let cells = n as usize;
+    if cells <= i {
+        return CellAnswer::Bad;
+    }
+    if size_for(n) <= log.len() {
+        return cell_in(log, n, i);
+    }
+    crate::cell::kind_cell(
+        kind_at(log, n, i),
+        count_at(log, n, i),
+        count_at(log, n, cells + i),
+        count_at(log, n, 2 * cells + i),
+        count_at(log, n, 3 * cells + i),
+    )
+}
+
+// Where all cells have their room: its five parts are read without a test.
+fn cell_in(log: &[u8], n: u16, i: usize) -> CellAnswer
+    requires { ⌜ (i < n) × (sizeFor n ≤ length (now log)) ⌝ }
+    ensures { λ r. ⌜ r ≡ cellAmong n (now (log .entry)) i ⌝ }
+{
+    let cells = n as usize;
+    let counts = HEADER_BYTES + cells / 4;
+    crate::cell::kind_cell(
+        crate::pair::pair_of(log[HEADER_BYTES + i / 4], i % 4),
+        count_in(log, counts + 2 * i),
+        count_in(log, counts + 2 * (cells + i)),
+        count_in(log, counts + 2 * (2 * cells + i)),
+        count_in(log, counts + 2 * (3 * cells + i)),
+    )
+}
+
+// Both bytes are read before they are joined, so that the two become one load.
+pub fn count_in(log: &[u8], at: usize) -> u16
+    requires { ⌜ at + 1 < length (now log) ⌝ }
+    ensures { λ r. ⌜ r ≡ numberAt (now (log .entry)) at 2 ⌝ }
+{
+    let low = log[at];
+    let high = log[at + 1];
+    (high as u16) * 256 + (low as u16)
+}
+
+pub fn lapses_among(log: &[u8], n: u16, i: usize) -> u8
+    ensures { λ r. ⌜ r ≡ lapsesAmong n (now (log .entry)) i ⌝ }
+{
+    let cells = n as usize;
+    if cells <= i {
         return 0;
     }
-    words::byte_at(log, HEADER_BYTES + CELL_BYTES * i + COUNTS_BYTES)
+    let at = HEADER_BYTES + cells / 4 + 8 * cells + i;
+    if size_for(n) <= log.len() {
+        return log[at];
+    }
+    words::byte_at(log, at)
+}
+
+// The room of n cells. With it every place of theirs is one: a loop over them tests it once, and no place by itself.
+pub fn size_for(n: u16) -> usize
+    ensures { λ r. ⌜ r ≡ sizeFor n ⌝ }
+{
+    let cells = n as usize;
+    HEADER_BYTES + cells / 4 + 8 * cells + cells
+}
+
+pub fn kind_at(log: &[u8], n: u16, i: usize) -> u8
+    requires { ⌜ i < n ⌝ }
+    ensures { λ r. ⌜ r ≡ kindAt (now (log .entry)) i ⌝ }
+{
+    let at = HEADER_BYTES + i / 4;
+    if size_for(n) <= log.len() {
+        return crate::pair::pair_of(log[at], i % 4);
+    }
+    crate::pair::pair_of(words::byte_at(log, at), i % 4)
+}
+
+pub fn count_at(log: &[u8], n: u16, m: usize) -> u16
+    requires { ⌜ m < 4 * n ⌝ }
+    ensures { λ r. ⌜ r ≡ countAt n (now (log .entry)) m ⌝ }
+{
+    let at = HEADER_BYTES + (n as usize) / 4 + 2 * m;
+    if size_for(n) <= log.len() {
+        return count_in(log, at);
+    }
+    words::u16_at(log, at)
 }
 
 // As far as the image has room for it.
 pub fn put_cell(log: &mut [u8], i: usize, c: Cell)
     ensures { λ _. ⌜ now (log .exit) ≡ putCell (now (log .entry)) i c ⌝ }
 {
-    if INDEX_MOST < i {
-        return;
-    }
-    let from = HEADER_BYTES + CELL_BYTES * i;
-    let to = from + COUNTS_BYTES;
-    if to <= log.len() {
-        crate::cell::write_cell(&mut log[from..to], c);
-    } else {
-        put_front(log, from, c);
-    }
-}
-
-// What the room from a place on holds of a cell.
-fn put_front(log: &mut [u8], from: usize, c: Cell)
-    ensures { λ _. ⌜ now (log .exit) ≡ written (now (log .entry)) from (countsBytes c) ⌝ }
-{
-    if from < log.len() {
-        crate::cell::write_cell(&mut log[from..], c);
-    }
+    let n = cells_at(log);
+    put_cell_among(log, n, i, c);
 }
 
 // Where the image has room for it.
 pub fn put_lapses(log: &mut [u8], i: usize, lapses: u8)
     ensures { λ _. ⌜ now (log .exit) ≡ putLapses (now (log .entry)) i lapses ⌝ }
 {
-    if INDEX_MOST < i {
-        return;
-    }
-    words::put_byte(log, HEADER_BYTES + CELL_BYTES * i + COUNTS_BYTES, lapses);
+    let n = cells_at(log);
+    put_lapses_among(log, n, i, lapses);
 }
 
-// A cell and its lapses.
-pub fn put_whole(log: &mut [u8], i: usize, c: Cell, lapses: u8)
-    ensures { λ _. ⌜ now (log .exit) ≡ putWhole (now (log .entry)) i c lapses ⌝ }
+pub fn put_cell_among(log: &mut [u8], n: u16, i: usize, c: Cell)
+    ensures { λ _. ⌜ now (log .exit) ≡ putCellAmong n (now (log .entry)) i c ⌝ }
 {
-    put_cell(log, i, c);
-    put_lapses(log, i, lapses);
+    if (n as usize) <= i {
+        return;
+    }
+    // Each part by itself: kinds come in no order that a processor could guess, and so nothing branches on them.
+    put_kind(log, i, crate::cell::kind_of(c));
+    put_counts(
+        log,
+        n,
+        i,
+        crate::cell::e_plus(c),
+        crate::cell::e_minus(c),
+        crate::cell::r_plus(c),
+        crate::cell::r_minus(c),
+    );
+}
+
+pub fn put_lapses_among(log: &mut [u8], n: u16, i: usize, lapses: u8)
+    ensures { λ _. ⌜ now (log .exit) ≡ putLapsesAmong n (now (log .entry)) i lapses ⌝ }
+{
+    let cells = n as usize;
+    if cells <= i {
+        return;
+    }
+    let at = HEADER_BYTES + cells / 4 + 8 * cells + i;
+    if size_for(n) <= log.len() {
+        log[at] = lapses;
+        return;
+    }
+    words::put_byte(log, at, lapses);
+}
+
+fn put_kind(log: &mut [u8], i: usize, kind: u8)
+    requires { ⌜ kind < 4 ⌝ }
+    ensures { λ _. ⌜ now (log .exit) ≡ putKind (now (log .entry)) i kind ⌝ }
+{
+    let at = HEADER_BYTES + i / 4;
+    let kinds = words::byte_at(log, at);
+    words::put_byte(log, at, crate::pair::put_pair(kinds, i % 4, kind));
+}
+
+fn put_counts(log: &mut [u8], n: u16, i: usize, ep: u16, em: u16, rp: u16, rm: u16)
+    requires { ⌜ i < n ⌝ }
+    ensures { λ _. ⌜ now (log .exit) ≡ putCounts n (now (log .entry)) i ep em rp rm ⌝ }
+{
+    let cells = n as usize;
+    put_count(log, n, i, ep);
+    put_count(log, n, cells + i, em);
+    put_count(log, n, 2 * cells + i, rp);
+    put_count(log, n, 3 * cells + i, rm);
+}
+
+pub fn put_count(log: &mut [u8], n: u16, m: usize, x: u16)
+    requires { ⌜ m < 4 * n ⌝ }
+    ensures { λ _. ⌜ now (log .exit) ≡ putCount n (now (log .entry)) m x ⌝ }
+{
+    let at = HEADER_BYTES + (n as usize) / 4 + 2 * m;
+    if size_for(n) <= log.len() {
+        log[at] = (x % 256) as u8;
+        log[at + 1] = (x / 256) as u8;
+        return;
+    }
+    words::put_u16(log, at, x);
 }
 
 pub fn apply(log: &mut [u8], change: Change)

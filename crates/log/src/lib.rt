@@ -1,20 +1,28 @@
-// The log of slices as it stands in memory, its image: fourteen bytes of header, and behind them a cell for each interval. It says
-// which lent bytes are a sound log, reads and writes single cells, finds an interval's cell, a day's date and its night, and makes a fresh log.
+// The log of slices as it stands in memory, its image: fourteen bytes of header, and behind them the kinds of all cells at two bits each, a
+// column for each of their counts, and their lapses. It says which lent bytes are a sound log, reads and writes single cells, finds an
+// interval's cell, a day's date and its night, and makes a fresh log.
 // Other crates speak of a log by these functions and their definitions alone, so that a change of the layout stays in here.
 mod cell;
 mod fresh;
 mod header;
 mod image;
 mod interval;
+mod lay;
+mod look;
+mod pair;
+mod sums;
 
-pub use cell::CELL_BYTES;
 pub use cell::COUNTS_BYTES;
 pub use cell::Cell;
 pub use cell::CellAnswer;
 pub use cell::cell_of;
-pub use cell::known_cell;
+pub use cell::e_minus;
+pub use cell::e_plus;
+pub use cell::kind_of;
 pub use cell::no_counts;
-pub use cell::write_cell;
+pub use cell::r_minus;
+pub use cell::r_plus;
+pub use cell::write_kind;
 pub use fresh::FreshAnswer;
 pub use fresh::fresh_log;
 pub use header::CELLS_MOST;
@@ -34,12 +42,15 @@ pub use header::version_at;
 pub use header::write_header;
 pub use image::Change;
 pub use image::apply;
+pub use image::cell_among;
 pub use image::cell_at;
-pub use image::known_at;
+pub use image::cells_at;
+pub use image::lapses_among;
 pub use image::lapses_at;
 pub use image::put_cell;
+pub use image::put_cell_among;
 pub use image::put_lapses;
-pub use image::put_whole;
+pub use image::put_lapses_among;
 pub use interval::DayAnswer;
 pub use interval::Interval;
 pub use interval::date_of;
@@ -47,3 +58,14 @@ pub use interval::exists;
 pub use interval::interval_of;
 pub use interval::missing_cells;
 pub use interval::night_on;
+pub use lay::lay_count;
+pub use lay::lay_kinds;
+pub use look::e_minus_among;
+pub use look::e_plus_among;
+pub use look::is_good_among;
+pub use look::kind_among;
+pub use look::r_minus_among;
+pub use look::r_plus_among;
+pub use sums::MEASURED_WORTH;
+pub use sums::sum_counts;
+pub use sums::sum_kinds;

@@ -1,3 +1,4 @@
 pub mod RowLaws
 pub mod WalkLaws
+pub mod LaidLaws
 pub mod FileLaws

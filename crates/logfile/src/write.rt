@@ -3,12 +3,12 @@ ghost use mathlib.Core.Path.{_≡_};
 ghost use Rattle.refusal.specs.Outcome.{outcome};
 ghost use mathlib.Core.Bool.{true};
 ghost use Rattle.words.specs.Place.{written};
-ghost use Prim.Native.Nat.{_≤_};
+ghost use Prim.Native.Nat.{_+_, _≤_};
 ghost use lib.ListN.{length};
 ghost use Rattle.log.specs.Header.{headerSize, version, isHeader, cellsOf};
 ghost use Rattle.log.specs.Image.{cellAt, lapsesAt, allGood, goods};
 ghost use Rattle.log.specs.View.{viewOf, seenFrom};
-ghost use Rattle.logfile.specs.Row.{rowStart, rowsBytes};
+ghost use Rattle.logfile.specs.Row.{rowSizeOf, rowStart, rowsBytes, putLooked};
 ghost use Rattle.logfile.specs.File.{fileBytes, fileLength, cellsRight};
 ghost use Rattle.logfile.specs.Write.{writeNumber, writtenFile};
 use crate::row::ROW_BYTES;
@@ -81,12 +81,28 @@ fn put_rows(log: &[u8], cells: usize, out: &mut [u8])
     ensures { λ _. ⌜ now (out .exit)
         ≡ written (now (out .entry)) headerSize (rowsBytes version 0 (goods (seenFrom (cellAt (now (log .entry))) 0 cells)) (lapsesAt (now (log .entry)))) ⌝ }
 {
+    // Asked for once: what is stored to out might be the header's bytes, as far as the compiler can tell.
+    let n = log::cells_at(log);
     let mut i = 0;
     while i < cells {
-        let log::CellAnswer::Good(c) = log::known_at(log, i) else {
-            return;
-        };
-        crate::row::put_row(out, i, c, log::lapses_at(log, i));
+        put_known(log, n, i, out);
         i += 1;
     }
+}
+
+// The row of a cell that was seen to be good: its kind and its counts as they lie. No cell is made, and nothing branches on a kind.
+fn put_known(log: &[u8], n: u16, i: usize, out: &mut [u8])
+    requires { ⌜ rowStart version i + rowSizeOf version ≤ length (now out) ⌝ }
+    ensures { λ _. ⌜ now (out .exit) ≡ putLooked n (now (log .entry)) i (now (out .entry)) ⌝ }
+{
+    crate::row::put_row(
+        out,
+        i,
+        log::kind_among(log, n, i),
+        log::e_plus_among(log, n, i),
+        log::e_minus_among(log, n, i),
+        log::r_plus_among(log, n, i),
+        log::r_minus_among(log, n, i),
+        log::lapses_among(log, n, i),
+    );
 }

@@ -42,7 +42,8 @@ const FILE: usize = CRC + frame::layout::CRC_BYTES;
 
 const LONGER: usize = FILE + 1;
 
-const IMAGE: usize = log::HEADER_BYTES + 48 * log::CELL_BYTES;
+// Kinds at two bits each, counts of eight bytes and a byte of lapses for each of 48 cells.
+const IMAGE: usize = log::HEADER_BYTES + 48 / 4 + 9 * 48;
 
 // The same of version 3.
 const LATE_3: usize = SLOT_0 + 3 * ROW;
@@ -79,7 +80,7 @@ const QUARTERS_CRC: usize = SLOT_0 + 96 * EARLY_ROW;
 
 const QUARTERS_FILE: usize = QUARTERS_CRC + frame::layout::CRC_BYTES;
 
-const QUARTERS_IMAGE: usize = log::HEADER_BYTES + 96 * log::CELL_BYTES;
+const QUARTERS_IMAGE: usize = log::HEADER_BYTES + 96 / 4 + 9 * 96;
 
 fn main() {
     lengths();

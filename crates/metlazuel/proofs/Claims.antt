@@ -41,6 +41,7 @@ demand-3 = record {
   answers = history.answers;
   ask-left = history.ask-left;
   figures = history.figures;
+  others = history.others;
   elsewhere = history.elsewhere;
   other-days = history.other-days;
   as-long = history.as-long;

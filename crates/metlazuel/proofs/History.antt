@@ -2,11 +2,12 @@
 -- read as.
 use mathlib.Core.Path.{_≡_, refl, sym, ap, ap₂, subst, _∙_}
 use mathlib.Core.List.{List, [], _∷_}
-use Prim.Native.Nat.{ℕ}
+use Prim.Native.Nat.{ℕ, _<_}
 use lib.ListN.{length}
 use Rattle.refusal.specs.Outcome.{Outcome, outcome}
 use Rattle.words.specs.Place.{byteAt}
 use Rattle.log.specs.Interval.{comesTwice}
+use Rattle.log.specs.Pair.{pairOf}
 use Rattle.log.specs.View.{View, viewOf}
 use Rattle.day_figures.specs.Both.{Both, both}
 use Rattle.day_figures.specs.Rows.{rowAt, Right}
@@ -17,7 +18,7 @@ use Rattle.reader.specs.declared.form.Fault.the-variants as fault
 use Rattle.reader.specs.declared.form.Form.the-variants.{Faulty}
 use Rattle.reader.proofs.FormLaws.{length-told}
 use Rattle.logger.specs.Reply.{sliceForm, rowOf}
-use Rattle.logger.specs.Book.{Call, ask, lapse, reply, Answer, plain, runOf, AllBytes}
+use Rattle.logger.specs.Book.{Call, ask, lapse, reply, Answer, plain, runOf, CallBytes, AllBytes}
 use Rattle.logger.specs.Run.{State, takeAnswer, step, run}
 use Rattle.logger.proofs.TakeLaws.{Step, decided-cases, update-cases}
 use Rattle.logger.specs.Lapse as lapse-of
@@ -30,7 +31,7 @@ use Rattle.logger.specs.declared.held.OpenAsk.{OpenAsk}
 use Rattle.c_values.specs.Ask.{askOf}
 use Rattle.c_values.specs.declared.ask.AskRead.{AskRead}
 use Rattle.c_values.specs.declared.ask.AskRead.the-variants.{Read, Unreadable}
-use Rattle.demands.specs.Demand3.{Elsewhere, begin, booked, logAfresh}
+use Rattle.demands.specs.Demand3.{OtherCell, Elsewhere, SameCell, begin, booked, logAfresh}
 use Rattle.demands.specs.DayFigures.{OtherDay}
 use Rattle.demands.proofs.Claims as claims
 use Rattle.metlazuel.specs.Calls.{resultAfter, receivedAfter}
@@ -151,10 +152,14 @@ module _ (m : Lent) (b : Begins m) (calls : List Call) (k : AllBytes calls) wher
 
 -- ---- what a call leaves alone
 
-pub elsewhere : (m : Lent) (held : OpenAsk) (c : Call) (j : ℕ) → askOf (m .ask) ≡ Read held → Elsewhere (stateOf m held) j
-    → byteAt (stepForC m c .left .log) j ≡ byteAt (m .log) j
-elsewhere m held c j e k =
-    ap (λ (l : List ℕ). byteAt l j) (step-alike m held c e .holds .log) ∙ claims.demand-3 .elsewhere (stateOf m held) c j k
+pub others : (m : Lent) (held : OpenAsk) (c : Call) (j : ℕ) → CallBytes c → askOf (m .ask) ≡ Read held → OtherCell (stateOf m held) j
+    → SameCell (stepForC m c .left .log) (m .log) j
+others m held c j b e k = rw (step-alike m held c e .holds .log) (claims.demand-3 .others (stateOf m held) c j b k)
+
+pub elsewhere : (m : Lent) (held : OpenAsk) (c : Call) (q j : ℕ) → j < 4 → askOf (m .ask) ≡ Read held → Elsewhere (stateOf m held) q j
+    → pairOf (byteAt (stepForC m c .left .log) q) j ≡ pairOf (byteAt (m .log) q) j
+elsewhere m held c q j l e k =
+    ap (λ (s : List ℕ). pairOf (byteAt s q) j) (step-alike m held c e .holds .log) ∙ claims.demand-3 .elsewhere (stateOf m held) c q j l k
 
 pub other-days : (m : Lent) (held : OpenAsk) (c : Call) (d : ℕ) → askOf (m .ask) ≡ Read held → OtherDay (stateOf m held) d
     → rowAt (stepForC m c .left .figures) d ≡ rowAt (m .figures) d

@@ -7,21 +7,22 @@
 use mathlib.Core.Path.{_≡_}
 use mathlib.Core.Bool.{cond}
 use mathlib.Core.List.{List}
-use Prim.Native.Nat.{ℕ}
+use Prim.Native.Nat.{ℕ, _<_}
 use lib.Dec.{eqb}
 use lib.ListN.{length}
 use Rattle.refusal.specs.Outcome.{Outcome, outcome}
 use Rattle.words.specs.Place.{byteAt}
+use Rattle.log.specs.Pair.{pairOf}
 use Rattle.log.specs.View.{viewOf}
 use Rattle.day_figures.specs.Both.{both}
 use Rattle.day_figures.specs.Rows.{rowAt, Right}
-use Rattle.logger.specs.Book.{Call, ask, lapse, reply, Answer, runOf, AllBytes}
+use Rattle.logger.specs.Book.{Call, ask, lapse, reply, Answer, runOf, CallBytes, AllBytes}
 use Rattle.logger.specs.Run.{State, state}
 use Rattle.logger.specs.declared.held.OpenAsk.{OpenAsk}
 use Rattle.logger.specs.declared.held.OpenAsk.the-variants.{Closed}
 use Rattle.c_values.specs.Ask.{askOf}
 use Rattle.c_values.specs.declared.ask.AskRead.the-variants.{Read, Unreadable}
-use Rattle.demands.specs.Demand3.{Start, booked, logAfresh, Elsewhere}
+use Rattle.demands.specs.Demand3.{Start, booked, logAfresh, OtherCell, Elsewhere, SameCell}
 use Rattle.demands.specs.DayFigures.{OtherDay}
 use Rattle.metlazuel.specs.LogCalls.{askForC, lapseForC, takeForC}
 
@@ -74,9 +75,11 @@ pub record Demand3C : Type 0 where
   pub figures : (m : Lent) (b : Begins m) (calls : List Call) → AllBytes calls → let after = ranForC m calls .left in
       Right (b .start .header) (viewOf (after .log) .cell) (after .figures)
   -- "None of these calls alters a byte of the log outside the cell whose ask was open before the call", whatever log is lent, or a figure of another day;
-  -- bytes that are read as no ask leave all that is lent
-  pub elsewhere : (m : Lent) (held : OpenAsk) (c : Call) (j : ℕ) → askOf (m .ask) ≡ Read held → Elsewhere (stateOf m held) j
-      → byteAt (stepForC m c .left .log) j ≡ byteAt (m .log) j
+  -- bytes that are read as no ask leave all that is lent. The sentence "then speaks of cells, and of the bits that hold them" (document 02, CR 9)
+  pub others : (m : Lent) (held : OpenAsk) (c : Call) (j : ℕ) → CallBytes c → askOf (m .ask) ≡ Read held → OtherCell (stateOf m held) j
+      → SameCell (stepForC m c .left .log) (m .log) j
+  pub elsewhere : (m : Lent) (held : OpenAsk) (c : Call) (q j : ℕ) → j < 4 → askOf (m .ask) ≡ Read held → Elsewhere (stateOf m held) q j
+      → pairOf (byteAt (stepForC m c .left .log) q) j ≡ pairOf (byteAt (m .log) q) j
   pub other-days : (m : Lent) (held : OpenAsk) (c : Call) (d : ℕ) → askOf (m .ask) ≡ Read held → OtherDay (stateOf m held) d
       → rowAt (stepForC m c .left .figures) d ≡ rowAt (m .figures) d
   pub as-long : (m : Lent) (c : Call) → length (stepForC m c .left .log) ≡ length (m .log)

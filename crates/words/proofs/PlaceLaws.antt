@@ -1,7 +1,7 @@
 -- What follows from the definitions of specs/Place.antt, for proofs alone: no contract cites it.
 use mathlib.Core.Path.{_≡_, refl, sym, ap, ap₂, _∙_}
 use mathlib.Core.List.{List, [], _∷_, _++_, append-assoc}
-use mathlib.Core.Logic.{inl, inr}
+use mathlib.Core.Logic.{_⊎_, inl, inr}
 use Prim.Native.Nat.{ℕ, zero, suc, _+_, _*_, _/_, _%_, _^_, _≤_, _<_}
 use native.Mathlib.Nat.{add-zero, add-suc, suc-add, zero-add, not-suc-le-zero}
 use native.Mathlib.Omega.{arith}
@@ -9,7 +9,7 @@ use lib.ListN.{length, take, drop, set, length-set, drop-of-length-le}
 use lib.Seq.{sets, sets-eq, take-set-le, drop-set-lt, take-nil, take-at, drop-at, drop-drop, drop-append-add, length-take-le, getD-set-same, getD-set-other, set-out}
 use Rattle.words.specs.Number.{number, bytesOf}
 use Rattle.words.proofs.NumberLaws.{length-bytesOf, number-bytesOf, bytesOf-low, bytesOf-split, number-split}
-use Rattle.words.specs.Place.{byteAt, numberAt, written, Apart}
+use Rattle.words.specs.Place.{byteAt, numberAt, written}
 
 -- ---- what is written
 
@@ -44,6 +44,10 @@ pub written-fits : (s : List ℕ) (i : ℕ) (bs : List ℕ) → i + length bs �
 written-fits s i bs h = written-sets s i bs ∙ sets-eq bs s i h ∙ append-assoc (take i s) bs (drop (i + length bs) s)
 
 -- ---- what stays as it was
+
+-- the k bytes from place j on lie wholly before or wholly behind the n bytes from place i on
+abbrev pub Apart : ℕ → ℕ → ℕ → ℕ → Type 0
+Apart j k i n = (j + k ≤ i) ⊎ (i + n ≤ j)
 
 pub take-written : (n : ℕ) (s : List ℕ) (i : ℕ) (bs : List ℕ) → n ≤ i → take n (written s i bs) ≡ take n s
 unfolding written

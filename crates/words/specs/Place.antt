@@ -1,7 +1,6 @@
 -- Bytes and numbers at any place of a byte slice: total at every index. What lies past the end reads as 0 and stores nothing.
 use mathlib.Core.List.{List, [], _∷_}
-use mathlib.Core.Logic.{_⊎_}
-use Prim.Native.Nat.{ℕ, suc, _+_, _≤_}
+use Prim.Native.Nat.{ℕ, suc}
 use lib.ListN.{getD, take, drop, set}
 use Rattle.words.specs.Number.{number}
 
@@ -17,9 +16,3 @@ numberAt s i k = number (take k (drop i s))
 unfoldable pub written : List ℕ → ℕ → List ℕ → List ℕ
 written s i [] = s
 written s i (b ∷ bs) = written (set s i b) (suc i) bs
-
--- ---- what stays as it was
-
--- the k bytes from place j on lie wholly before or wholly behind the n bytes from place i on
-abbrev pub Apart : ℕ → ℕ → ℕ → ℕ → Type 0
-Apart j k i n = (j + k ≤ i) ⊎ (i + n ≤ j)

@@ -1,7 +1,11 @@
 //! Demand 3 of the model: histories of asks, lapses and replies of any bytes, given to the log's calls and to the plain book. Every
 //! answer, the ask left open, the log's bytes and its days' figures are those of the book, the figures are also those of a walk over the
-//! cells, and no call alters a byte outside the cell whose ask was open before it, or a figure of another day. Half of the logs begin about a season day, and those read from a file have cells with some 250 lapses.
+//! cells, and no call alters another cell than the one whose ask was open before it, a bit of those that hold another one, or a figure
+//! of another day. Half of the logs begin about a season day, and those read from a file have cells with some 250 lapses.
 
+#[path = "compare/by_hand.rs"]
+#[allow(dead_code)]
+mod by_hand;
 #[path = "compare/damage.rs"]
 #[allow(dead_code)]
 mod damage;
@@ -9,6 +13,7 @@ mod damage;
 #[allow(dead_code)]
 mod random;
 
+use by_hand::{put, rows_of, CELL_BYTES, HEADER_BYTES};
 use damage::{damaged, damaged_and_sealed};
 use metlazuel_check::model::book::Book;
 use metlazuel_check::model::calendar::{date_of, last_sunday};
@@ -22,8 +27,6 @@ use std::collections::BTreeSet;
 
 const HISTORIES: u64 = 2_000;
 const CALLS: usize = 60;
-const HEADER_BYTES: usize = 14;
-const CELL_BYTES: usize = 10;
 const CRC_BYTES: usize = 2;
 /// Numbers behind the figures, which no call may touch.
 const PAST_THE_FIGURES: [u32; 3] = [0, 7, u32::MAX];
@@ -61,19 +64,18 @@ fn every_history_is_the_books() {
 
 /// The file with a number of lapses near 255 in its first two cells and in any third one that exists.
 fn with_many_lapses(random: &mut Random, mut file: Vec<u8>) -> Vec<u8> {
-    let header = log::header(&file[..file.len() - CRC_BYTES]).expect("a log's file");
+    let header = log::header(&log::read_file(&file).expect("a log's file").image).expect("a sound log");
     file.truncate(file.len() - CRC_BYTES);
     let any = (random.within(0, header.days - 1), random.within(0, header.slots() - 1));
     for (day, slot) in [(0, 0), (0, 1), any].into_iter().filter(|&(day, slot)| header.holds(day, slot)) {
-        file[cell_of(&header, day, slot)][CELL_BYTES - 1] = random.pick(&[0, 1, 250, 253, 254, 255]);
+        file[HEADER_BYTES + CELL_BYTES * cell_of(&header, day, slot) + 9] = random.pick(&[0, 1, 250, 253, 254, 255]);
     }
     sealed(file)
 }
 
-/// Where a cell stands in the log.
-fn cell_of(header: &Header, day: u8, slot: u8) -> std::ops::Range<usize> {
-    let at = HEADER_BYTES + CELL_BYTES * (usize::from(day) * usize::from(header.slots()) + usize::from(slot));
-    at..at + CELL_BYTES
+/// Which of the log's cells an interval has.
+fn cell_of(header: &Header, day: u8, slot: u8) -> usize {
+    usize::from(day) * usize::from(header.slots()) + usize::from(slot)
 }
 
 /// A history from a log with no ask open; gives the log after it. Beside the log more figures are lent than it needs.
@@ -92,7 +94,7 @@ fn history(random: &mut Random, start: Log, seen: &mut Seen) -> Log {
         assert_eq!(log.figures, [log::walk_all(&log.image).expect("a sound log"), PAST_THE_FIGURES.to_vec()].concat());
         seen.numbers.insert(ours.map_or_else(Refusal::number, |()| 0));
     }
-    assert_eq!(log.image, [start.image[..HEADER_BYTES].to_vec(), book.cells()].concat());
+    assert_eq!(log.image, [start.image[..HEADER_BYTES].to_vec(), book.columns()].concat());
     log.figures.truncate(start.figures.len());
     assert_eq!(log.figures, book.figures());
     log
@@ -103,7 +105,7 @@ fn alone(header: &Header, asked: Option<Ask>, mut before: Log, after: &Log) -> b
     if let Some(ask) = asked {
         let (cell, day) =
             (cell_of(header, ask.day, ask.slot), usize::from(ask.day) * ROW..usize::from(ask.day + 1) * ROW);
-        before.image[cell.clone()].copy_from_slice(&after.image[cell]);
+        put(&mut before.image, cell, rows_of(&after.image)[cell]);
         before.figures[day.clone()].copy_from_slice(&after.figures[day]);
     }
     before == *after

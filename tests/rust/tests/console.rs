@@ -359,3 +359,35 @@ fn figures_kept() {
     ]);
     std::fs::remove_file(path).expect("the file was written");
 }
+
+/// Four cells whose kinds share a byte, put in another order than theirs: each has its own counts and lapses, in a file too.
+#[test]
+fn neighbours() {
+    let path = std::env::temp_dir().join(format!("metlazuel-check-neighbours-{}.gel", std::process::id()));
+    let path = path.to_str().expect("a plain path");
+    talk(&[
+        ("log 2024 5 17 1 30 100 0", "0"),
+        ("ask 1 0 2", "0 010324051102D2AA"),
+        ("reply 010324000C00000003000000D62B", "0"),
+        ("ask 1 0 0", "0 010324051100536B"),
+        ("reply 010324000D0000000300000017E7", "0"),
+        ("ask 1 0 3", "0 010324051103136A"),
+        ("reply 010324000000000000000000D63A", "0"),
+        ("ask 1 0 1", "0 01032405110192AB"),
+        ("lapse", "0"),
+        ("cell 0 0", "0 measured 13 0 3 0 0"),
+        ("cell 0 1", "0 gap 1"),
+        ("cell 0 2", "0 measured 12 0 3 0 0"),
+        ("cell 0 3", "0 empty 0"),
+        ("cell 0 4", "0 gap 0"),
+        (&format!("save {path}"), "0"),
+        ("log 2024 5 17 1 30 100 0", "0"),
+        (&format!("load {path}"), "0"),
+        ("cell 0 0", "0 measured 13 0 3 0 0"),
+        ("cell 0 1", "0 gap 1"),
+        ("cell 0 2", "0 measured 12 0 3 0 0"),
+        ("cell 0 3", "0 empty 0"),
+        ("report 0", "0 45 1 2 25 0 6 0 0"),
+    ]);
+    std::fs::remove_file(path).expect("the file was written");
+}

@@ -1,6 +1,11 @@
 //! Day figures kept beside the log (02, CR 8): those of fresh and read logs, how a reply moves them and what it leaves, the order in which
 //! figures that are too few and figures that are wrong are refused, and a report that reads no cell.
 
+#[path = "compare/by_hand.rs"]
+#[allow(dead_code)]
+mod by_hand;
+
+use by_hand::{put, CELL_BYTES, HEADER_BYTES};
 use metlazuel_check::model::crc::sealed;
 use metlazuel_check::model::log::{self, Ask, Cell, Figures, Header, Log};
 use metlazuel_check::model::refusal::Refusal::{self, *};
@@ -11,8 +16,6 @@ const MAY: Header = Header { year: 24, month: 5, day: 17, days: 3, minutes: 30, 
 const OCTOBER: Header = Header { month: 10, day: 27, days: 1, ..MAY };
 const MARCH: Header = Header { month: 3, day: 30, ..MAY };
 const ASKED: Ask = Ask { address: 1, day: 1, slot: 7 };
-const HEADER_BYTES: usize = 14;
-const CELL_BYTES: usize = 10;
 const COUNTS: [u16; 4] = [12, 0, 3, 65_535];
 const MOST: u32 = u32::MAX;
 
@@ -36,15 +39,15 @@ fn row_of(cell: Cell) -> [u8; CELL_BYTES] {
     row
 }
 
-/// Where a cell of half hours stands.
-fn place(image: &mut [u8], day: u8, slot: u8) -> &mut [u8] {
-    &mut image[HEADER_BYTES + CELL_BYTES * (48 * usize::from(day) + usize::from(slot))..][..CELL_BYTES]
+/// Which cell of half hours it is.
+fn cell_of(ask: Ask) -> usize {
+    48 * usize::from(ask.day) + usize::from(ask.slot)
 }
 
 /// A log of half hours with one cell put in by hand, and the figures of the walk.
 fn log_with(header: Header, ask: Ask, cell: Cell) -> Log {
     let mut image = fresh(header).image;
-    place(&mut image, ask.day, ask.slot).copy_from_slice(&row_of(cell));
+    put(&mut image, cell_of(ask), row_of(cell));
     let figures = log::walk_all(&image).expect("a sound log");
     Log { image, figures }
 }
@@ -193,7 +196,7 @@ fn a_whole_day() {
 #[test]
 fn too_few_figures() {
     let mut faulty = fresh(MARCH);
-    place(&mut faulty.image, 1, 7).copy_from_slice(&[3; CELL_BYTES]);
+    put(&mut faulty.image, cell_of(ASKED), [3; CELL_BYTES]);
     let missing = Ask { slot: 4, ..ASKED };
     for (few, ask, bytes) in
         (0..24).flat_map(|few| [(few, ASKED, reply(COUNTS)), (few, missing, vec![]), (few, ASKED, vec![])])
@@ -230,7 +233,7 @@ fn the_order_of_a_replys_faults() {
     refused(&gap, ASKED, &reply(COUNTS), Unsound);
     refused(&gap, ASKED, &reply([0; 4]), Unsound);
     let mut faulty = gap;
-    place(&mut faulty.image, 1, 7).copy_from_slice(&[2, 0, 0, 0, 0, 0, 0, 0, 0, 0]);
+    put(&mut faulty.image, cell_of(ASKED), [2, 0, 0, 0, 0, 0, 0, 0, 0, 0]);
     refused(&faulty, ASKED, &reply(COUNTS), Unsound);
 }
 

@@ -1,5 +1,11 @@
-//! Lapses counted (02, CR 7): the tenth byte of a cell, what a lapse tests and in which order, what keeps the byte, and the longest log.
+//! Lapses counted (02, CR 7): the tenth byte of a file's cell, what a lapse tests and in which order, what keeps the byte, and the longest
+//! log.
 
+#[path = "compare/by_hand.rs"]
+#[allow(dead_code)]
+mod by_hand;
+
+use by_hand::{Row, CELL_BYTES};
 use metlazuel_check::model::count_bytes;
 use metlazuel_check::model::crc::sealed;
 use metlazuel_check::model::log::{self, Ask, Cell, Header};
@@ -10,8 +16,6 @@ const MAY: Header = Header { year: 24, month: 5, day: 17, days: 2, minutes: 30, 
 const MARCH: Header = Header { month: 3, day: 31, days: 1, seasons: 1, ..MAY };
 const FIRST: Ask = Ask { address: 1, day: 0, slot: 0 };
 const LAST: Ask = Ask { address: 255, day: 1, slot: 47 };
-const HEADER_BYTES: usize = 14;
-const CELL_BYTES: usize = 10;
 const LAPSES_AT: usize = 9;
 
 /// Its image; the figures of a day that lapses, which leave them, are not looked at here.
@@ -19,13 +23,9 @@ fn fresh(header: Header) -> Vec<u8> {
     log::fresh(header).expect("a header in its ranges").image
 }
 
-/// Where a cell of half hours stands.
-fn cell_at(ask: Ask) -> usize {
-    HEADER_BYTES + CELL_BYTES * (48 * usize::from(ask.day) + usize::from(ask.slot))
-}
-
-fn put(image: &mut [u8], ask: Ask, cell: [u8; CELL_BYTES]) {
-    image[cell_at(ask)..][..CELL_BYTES].copy_from_slice(&cell);
+/// A cell of half hours.
+fn put(image: &mut [u8], ask: Ask, cell: Row) {
+    by_hand::put(image, 48 * usize::from(ask.day) + usize::from(ask.slot), cell);
 }
 
 fn reply(ask: Ask, counts: [u16; 4]) -> Vec<u8> {
@@ -47,18 +47,25 @@ fn lapsed(image: &mut [u8], ask: Ask) {
     assert_eq!(open, None);
 }
 
+/// In a file the byte stands at its cell's end, in memory all of them stand behind the counts.
 #[test]
-fn the_byte_stands_at_the_cells_end() {
+fn where_the_byte_stands() {
     let mut image = fresh(MAY);
-    assert_eq!(image.len(), 14 + 96 * 10);
+    assert_eq!(image.len(), 14 + 96 / 4 + 96 * 9);
     lapsed(&mut image, FIRST);
     lapsed(&mut image, LAST);
     lapsed(&mut image, LAST);
     let mut expected = vec![0x47, 0x45, 0x4C, 3, 0, 24, 5, 17, 2, 30, 100, 0, 0, 0];
-    expected.extend([0, 0, 0, 0, 0, 0, 0, 0, 0, 1]);
-    expected.resize(14 + 95 * 10, 0);
-    expected.extend([0, 0, 0, 0, 0, 0, 0, 0, 0, 2]);
+    let mut file = expected.clone();
+    expected.resize(14 + 24 + 96 * 8, 0);
+    expected.push(1);
+    expected.resize(14 + 24 + 96 * 8 + 95, 0);
+    expected.push(2);
     assert_eq!(image, expected);
+    file.extend([0, 0, 0, 0, 0, 0, 0, 0, 0, 1]);
+    file.resize(14 + 95 * 10, 0);
+    file.extend([0, 0, 0, 0, 0, 0, 0, 0, 0, 2]);
+    assert_eq!(log::write_file(&image), Ok(sealed(file)));
 }
 
 /// With none open the answer is 0 over any log, even over one that is none, and nothing is counted.
@@ -121,13 +128,14 @@ fn lapses_of_each_kind() {
         (Cell::Empty, [1, 0, 0, 0, 0, 0, 0, 0, 0, 0]),
         (Cell::Measured([12, 0, 3, 65_535]), [2, 12, 0, 0, 0, 3, 0, 255, 255, 0]),
     ];
-    for ((cell, bytes), ask) in kinds.into_iter().flat_map(|kind| [(kind, FIRST), (kind, LAST)]) {
+    for ((cell, mut bytes), ask) in kinds.into_iter().flat_map(|kind| [(kind, FIRST), (kind, LAST)]) {
         let mut expected = fresh(MAY);
         put(&mut expected, ask, bytes);
         let mut image = expected.clone();
         for lapses in 1..=300_u16 {
             lapsed(&mut image, ask);
-            expected[cell_at(ask) + LAPSES_AT] = lapses.min(255) as u8;
+            bytes[LAPSES_AT] = lapses.min(255) as u8;
+            put(&mut expected, ask, bytes);
             assert_eq!(image, expected);
             assert_eq!(log::cell(&image, ask.day, ask.slot), Ok(cell));
             assert_eq!(log::lapses(&image, ask.day, ask.slot), Ok(lapses.min(255) as u8));
@@ -147,7 +155,7 @@ fn replies_keep_the_lapses() {
     ];
     for (lapses, ask) in [0, 1, 127, 254, 255].into_iter().flat_map(|lapses| [(lapses, FIRST), (lapses, LAST)]) {
         let mut image = fresh(MAY);
-        image[cell_at(ask) + LAPSES_AT] = lapses;
+        put(&mut image, ask, [0, 0, 0, 0, 0, 0, 0, 0, 0, lapses]);
         for (counts, answer, mut cell) in replies {
             assert_eq!(answered(&mut image, ask, &reply(ask, counts)), answer);
             cell[LAPSES_AT] = lapses;
@@ -217,10 +225,10 @@ fn lapses_go_on_from_the_file() {
 fn the_longest_log() {
     let longest = Header { days: 62, minutes: 15, ..MAY };
     let mut image = fresh(longest);
-    assert_eq!(image.len(), 59_534);
+    assert_eq!(image.len(), 55_070);
     let last = Ask { address: 0, day: 61, slot: 95 };
     lapsed(&mut image, last);
-    assert_eq!(image[59_533], 1);
+    assert_eq!(image[55_069], 1);
     let file = log::write_file(&image).expect("a sound log");
     assert_eq!(file.len(), 59_536);
     assert_eq!(log::read_file(&file).map(|log| log.image), Ok(image));

@@ -1,6 +1,11 @@
 //! The two season days in the log (02, CR 5), for 15 and 30 minutes and every year from 2000 to 2099: the hour that the March day
 //! lacks, the hour that the October day has twice, and that no other day has either.
 
+#[path = "compare/by_hand.rs"]
+#[allow(dead_code)]
+mod by_hand;
+
+use by_hand::{image_of, Row, HEADER_BYTES};
 use metlazuel_check::model::crc::sealed;
 use metlazuel_check::model::log::{self, Ask, Cell, Figures, Header, Log};
 use metlazuel_check::model::refusal::Refusal::{NotInLog, OutOfRange, Unsound};
@@ -9,11 +14,9 @@ use std::ops::Range;
 
 const MARCH: u8 = 3;
 const OCTOBER: u8 = 10;
-const HEADER_BYTES: usize = 14;
-const CELL_BYTES: usize = 10;
 const COUNTS: [u16; 4] = [12, 0, 3, 0];
 /// Bytes that are no cell: an empty one with counts, and a fourth kind.
-const NO_CELLS: [[u8; CELL_BYTES]; 2] = [[1, 0, 0, 0, 0, 0, 0, 0, 9, 0], [3, 0, 0, 0, 0, 0, 0, 0, 0, 0]];
+const NO_CELLS: [Row; 2] = [[1, 0, 0, 0, 0, 0, 0, 0, 9, 0], [3, 0, 0, 0, 0, 0, 0, 0, 0, 0]];
 
 /// The last Sunday of March or of October, reckoned from the year alone.
 fn season_day(year: u8, month: u8) -> u8 {
@@ -57,8 +60,9 @@ fn report(log: &Log, day: u8) -> Figures {
     figures
 }
 
-fn put(image: &mut [u8], slot: u8, cell: &[u8]) {
-    image[HEADER_BYTES + CELL_BYTES * usize::from(slot)..][..CELL_BYTES].copy_from_slice(cell);
+/// A cell of the log's first day.
+fn put(image: &mut [u8], slot: u8, cell: Row) {
+    by_hand::put(image, slot.into(), cell);
 }
 
 fn years_and_minutes() -> impl Iterator<Item = (u8, u8)> {
@@ -154,7 +158,7 @@ fn the_march_hour_is_no_gap() {
 /// Whatever stands in a cell of the missing hour, the walks pass over it; only a file is not made of it, but of a gap without lapses.
 #[test]
 fn bytes_in_the_march_hour() {
-    let measured = [&[2][..], &count_bytes(COUNTS), &[0]].concat();
+    let measured = [2, 12, 0, 0, 0, 3, 0, 0, 0, 0];
     let empty = [1, 0, 0, 0, 0, 0, 0, 0, 0, 0];
     let lapsed = [0, 0, 0, 0, 0, 0, 0, 0, 0, 1];
     for (year, minutes) in years_and_minutes() {
@@ -162,7 +166,7 @@ fn bytes_in_the_march_hour() {
         let file = log::write_file(&sound.image).expect("a sound log");
         assert_eq!(log::read_file(&file).as_ref(), Ok(&sound));
         for slot in hour(minutes) {
-            for bytes in [&measured[..], &empty, &lapsed, &NO_CELLS[0], &NO_CELLS[1]] {
+            for bytes in [measured, empty, lapsed, NO_CELLS[0], NO_CELLS[1]] {
                 let Log { mut image, figures } = sound.clone();
                 put(&mut image, slot, bytes);
                 assert_eq!(log::walk(&image, 0), Ok(report(&sound, 0)));
@@ -184,7 +188,7 @@ fn bytes_beside_the_march_hour() {
             let gaps = u32::from(slots(minutes)) - hour(minutes).len() as u32 - 1;
             assert_eq!(report(&log, 0), [gaps, 0, 1, 12, 0, 3, 0, 0]);
             assert!(log::write_file(&log.image).is_ok());
-            put(&mut log.image, slot, &NO_CELLS[0]);
+            put(&mut log.image, slot, NO_CELLS[0]);
             assert_eq!(log::walk(&log.image, 0), Err(Unsound));
             assert_eq!(log::cell(&log.image, 0, slot), Err(Unsound));
         }
@@ -234,7 +238,7 @@ fn empties_and_gaps_of_the_october_hour() {
         measure(&mut log, 0, end - 1, COUNTS);
         let row = report(&log, 0);
         assert_eq!((row[1], row[2], row[7]), (1, 1, 1));
-        put(&mut log.image, start, &NO_CELLS[1]);
+        put(&mut log.image, start, NO_CELLS[1]);
         assert_eq!(log::walk(&log.image, 0), Err(Unsound), "on this day the hour's cells are read");
     }
 }
@@ -253,10 +257,8 @@ fn no_other_day_of_the_century() {
                 _ => 62,
             };
             let header = Header { days, ..day_of(year, month, first, minutes, 1) };
-            let mut image = fresh(header).image;
-            for cell in image[HEADER_BYTES..].chunks_exact_mut(CELL_BYTES) {
-                cell.copy_from_slice(&[2, 1, 0, 0, 0, 0, 0, 0, 0, 7]);
-            }
+            let rows = vec![[2, 1, 0, 0, 0, 0, 0, 0, 0, 7]; usize::from(days) * usize::from(slots(minutes))];
+            let image = image_of(&fresh(header).image[..HEADER_BYTES], &rows);
             for day in 0..days {
                 let (measured, doubled) = measured_and_doubled(header.date(day), minutes);
                 let expected = [0, 0, measured, measured, 0, 0, 0, doubled];

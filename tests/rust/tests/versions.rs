@@ -1,12 +1,15 @@
 //! Files of versions 1, 2 and 3 over the season days (02, CR 5 and CR 7), put together here byte by byte, with CRCs that another
-//! program reckoned.
+//! program reckoned; request 9 leaves them as they are.
 
+#[path = "compare/by_hand.rs"]
+#[allow(dead_code)]
+mod by_hand;
+
+use by_hand::Row;
 use metlazuel_check::model::log::{self, Ask, Cell, Log};
 use metlazuel_check::model::refusal::Refusal::{self, *};
 use metlazuel_check::model::slots;
 use std::ops::Range;
-
-type Row = [u8; 10];
 
 const GAP: Row = [0; 10];
 const EMPTY: Row = [1, 0, 0, 0, 0, 0, 0, 0, 0, 0];
@@ -17,18 +20,25 @@ const OCTOBER: [u8; 2] = [10, 27];
 const CELL_BYTES: [(u8, usize); 3] = [(1, 9), (2, 9), (3, 10)];
 
 /// A file of one day of 2024 with Ke 100, without its CRC: all gaps but for these cells, of which the first two versions have no lapses.
-fn day(version: u8, [month, day]: [u8; 2], minutes: u8, seasons: u8, cells: &[(u8, Row)]) -> Vec<u8> {
-    let mut bytes = vec![0x47, 0x45, 0x4C, version, 0, 24, month, day, 1, minutes, 100, 0, seasons, 0];
-    for slot in 0..slots(minutes) {
-        let cell = cells.iter().find(|(at, _)| *at == slot).map_or(GAP, |(_, cell)| *cell);
-        bytes.extend(&cell[..if version == 3 { 10 } else { 9 }]);
-    }
+fn day(version: u8, date: [u8; 2], minutes: u8, seasons: u8, cells: &[(u8, Row)]) -> Vec<u8> {
+    let cell_bytes = if version == 3 { 10 } else { 9 };
+    let mut bytes = front(version, date, minutes, seasons);
+    rows(minutes, cells).iter().for_each(|cell| bytes.extend(&cell[..cell_bytes]));
     bytes
 }
 
 /// The log in memory of such a day.
 fn image(date: [u8; 2], minutes: u8, seasons: u8, cells: &[(u8, Row)]) -> Vec<u8> {
-    day(3, date, minutes, seasons, cells)
+    by_hand::image_of(&front(3, date, minutes, seasons), &rows(minutes, cells))
+}
+
+fn front(version: u8, [month, day]: [u8; 2], minutes: u8, seasons: u8) -> Vec<u8> {
+    vec![0x47, 0x45, 0x4C, version, 0, 24, month, day, 1, minutes, 100, 0, seasons, 0]
+}
+
+fn rows(minutes: u8, cells: &[(u8, Row)]) -> Vec<Row> {
+    let cell = |slot| cells.iter().find(|(at, _)| *at == slot).map_or(GAP, |(_, cell)| *cell);
+    (0..slots(minutes)).map(cell).collect()
 }
 
 fn lapsed(cell: Row, lapses: u8) -> Row {
@@ -234,7 +244,8 @@ fn the_missing_hour_of_a_file() {
     }
 }
 
-/// A lent log of a former version, of its own length or of the present one, is 28 for every call and stays as it is.
+/// A lent log of a former version, of its own length or of the present one, is 28 for every call and stays as it is; so is a file's
+/// header and cells, of whatever version.
 #[test]
 fn a_lent_image_of_a_former_version() {
     for (date, minutes) in [(MARCH, 30), (OCTOBER, 30), (MARCH, 15), (OCTOBER, 15)] {
@@ -246,6 +257,7 @@ fn a_lent_image_of_a_former_version() {
             refused(day(version, date, minutes, 0, &cells));
         }
         refused(day(2, date, minutes, 1, &beside_the_hour(minutes)));
+        refused(day(3, date, minutes, 0, &cells));
     }
 }
 

@@ -1,11 +1,12 @@
 //! Histories: asks, lapses and replies with any bytes, over logs that are fresh or read from a file; now and then other bytes stand in the
 //! place of the log or of the open ask, or other numbers in that of the figures.
 
+use crate::by_hand::HEADER_BYTES;
 use crate::damage::{change_byte, damaged, damaged_and_sealed};
 use crate::library;
 use crate::logs::{
-    about_the_hour, any_file_bytes, any_log, day_of_the_hour, report_both, right_header, room, same_log, spoil,
-    spoil_figure, start, walked, with_faulty_cell,
+    about_the_hour, any_file_bytes, any_log, day_of_the_hour, file_length, report_both, right_header, room, same_log,
+    spoil, spoil_figure, start, walked, with_faulty_cell, with_other_kinds,
 };
 use crate::random::Random;
 use crate::run::{same, same_bytes, same_numbers, Answer, Group, Same};
@@ -22,7 +23,6 @@ const HISTORIES: u64 = 50_000;
 const CALLS_OF_A_HISTORY: usize = 40;
 const ASK_BYTES: usize = 4;
 const REQUEST_BYTES: usize = 8;
-const HEADER_BYTES: usize = 14;
 const SLICE: u8 = 36;
 /// What is lent before a call.
 const LENT: u8 = 0xA5;
@@ -60,14 +60,14 @@ fn files_written() {
     for case in 0..FILES {
         let random = &mut Random::of(group.seed, case);
         let log = any_log(random);
-        let room = room(random, log.len() + 2);
+        let room = room(random, log::header(&log).map_or(log.len(), |_| file_length(&log)));
         group.call(case, write_both(&log, room), || format!("{} bytes into {room}, from {:?}", log.len(), start(&log)));
     }
     group.end(&[0, 1, 28]);
 }
 
 pub fn write_both(log: &[u8], room: usize) -> Answer {
-    let short = log::header(log).is_ok() && room < log.len() + 2;
+    let short = log::header(log).is_ok() && room < file_length(log);
     let outcome = if short { Err(Refusal::OutputTooShort) } else { log::write_file(log) };
     same_output(&outcome, room, |out, length| library::write_file(log, out, length))
 }
@@ -321,7 +321,7 @@ impl Logs {
     /// The same for both, with a fault in the log, in the ask or in the figures.
     fn with_other_bytes(&self, random: &mut Random) -> Logs {
         let (Log { mut image, mut figures }, mut ask) = (self.log.clone(), self.ask.clone());
-        match random.below(12) {
+        match random.below(14) {
             0 => image = damaged(random, image),
             1 => change_byte(random, &mut image[..HEADER_BYTES]),
             2 => image = with_faulty_cell(random, image),
@@ -336,6 +336,7 @@ impl Logs {
                 figures.pop();
                 image = damaged(random, image);
             }
+            10 | 11 => image = with_other_kinds(random, image),
             _ => (0..4).for_each(|_| spoil_figure(random, &mut figures)),
         }
         Logs::both(Log { image, figures }, ask)

@@ -1,6 +1,7 @@
 //! Logs: their files read, their days reported, their cells and gaps looked up, sound and damaged, with the figures of their days right,
 //! wrong or too few beside them. Half of the logs have a season day or begin near one.
 
+use crate::by_hand::{cells_of, image_of, put, Row, CELL_BYTES, HEADER_BYTES};
 use crate::damage::{change_byte, damaged, damaged_and_sealed};
 use crate::library;
 use crate::random::Random;
@@ -26,9 +27,6 @@ pub const FIRST_VERSION: u8 = 1;
 pub const ABOUT_THE_HOUR: (u8, u8) = (3, 12);
 /// What C is told where a day has no gap.
 const NO_GAP: u8 = 255;
-const HEADER_BYTES: usize = 14;
-/// A cell: its kind, its counts and its lapses.
-pub const CELL_BYTES: usize = 10;
 /// A cell of a former version's file, which has no lapses.
 const FORMER_CELL_BYTES: usize = 9;
 /// The days of 2000 to 2099.
@@ -288,8 +286,9 @@ pub fn any_log(random: &mut Random) -> Vec<u8> {
             log[3] = random.pick(&FORMER_VERSIONS);
             log
         }
-        // a former version's file without its CRC is no log
+        // a file without its CRC is no log
         3 if random.one_in(4) => any_file_bytes(random),
+        4 if random.one_in(2) => with_other_kinds(random, log),
         _ => log,
     }
 }
@@ -314,11 +313,23 @@ fn put_faulty_cell(random: &mut Random, file: &mut [u8]) {
 
 /// A log gets a cell that may be none.
 pub fn with_faulty_cell(random: &mut Random, mut image: Vec<u8>) -> Vec<u8> {
-    if let Some(number) = any_cell_number(random, (image.len() - HEADER_BYTES) / CELL_BYTES) {
+    if let Some(number) = any_cell_number(random, cells_of(&image)) {
         let cell = faulty_cell(random);
-        image[HEADER_BYTES + CELL_BYTES * number..][..CELL_BYTES].copy_from_slice(&cell);
+        put(&mut image, number, cell);
     }
     image
+}
+
+/// The first cells of a log get other kinds, four by a byte.
+pub fn with_other_kinds(random: &mut Random, mut image: Vec<u8>) -> Vec<u8> {
+    let kinds = cells_of(&image).min(16) / 4;
+    change_byte(random, &mut image[HEADER_BYTES..HEADER_BYTES + kinds]);
+    image
+}
+
+/// The bytes of a sound log's file.
+pub fn file_length(log: &[u8]) -> usize {
+    HEADER_BYTES + CELL_BYTES * cells_of(log) + 2
 }
 
 /// Any cell, or one about the hour from 02:00 of the first day.
@@ -354,9 +365,6 @@ fn any_lapses(random: &mut Random) -> u8 {
     }
 }
 
-/// A cell's bytes.
-pub type Row = [u8; CELL_BYTES];
-
 /// What a file has before its CRC: of a former version at times, and with a zero in the byte for seasons most often where it is the first.
 pub fn any_file_bytes(random: &mut Random) -> Vec<u8> {
     let (mut front, rows) = front_and_rows(random);
@@ -380,11 +388,6 @@ pub fn file_bytes(front: &[u8], rows: &[Row]) -> Vec<u8> {
 pub fn any_image(random: &mut Random) -> Vec<u8> {
     let (front, rows) = front_and_rows(random);
     image_of(&front, &rows)
-}
-
-/// A log as it is in memory.
-pub fn image_of(front: &[u8], rows: &[Row]) -> Vec<u8> {
-    file_bytes(front, rows)
 }
 
 /// A header of the present version, most often in its ranges, and cells. Where a slot does not exist there is a gap without lapses most

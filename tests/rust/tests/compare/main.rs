@@ -2,7 +2,9 @@
 //! Run with `cargo test --release --features library`; see README.md.
 
 mod asks;
+mod by_hand;
 mod century;
+mod columns;
 mod crc;
 mod damage;
 mod dialogue;

@@ -2,8 +2,9 @@
 //! slot asked for, looked up, answered for and lapsed, every day reported, and files with every kind of cell about the hour from 02:00.
 
 use crate::asks::{compare, write_both, Call, Logs};
+use crate::by_hand::{image_of, Row};
 use crate::logs::{
-    cell_both, file_bytes, gap_both, image_front, image_of, read_both, report_both, start, walked, Row, ABOUT_THE_HOUR,
+    cell_both, file_bytes, file_length, gap_both, image_front, read_both, report_both, start, walked, ABOUT_THE_HOUR,
 };
 use crate::random::Random;
 use crate::run::Group;
@@ -98,7 +99,7 @@ fn cells_about_the_hour() {
             let (mut front, rows) = (image_front(&header), rows_with(&header, slot, kind));
             let log = image_of(&front, &rows);
             let call = || format!("slot {slot} with {kind:?}, from {:?}", start(&log));
-            group.call(case, write_both(&log, log.len() + 2), call);
+            group.call(case, write_both(&log, file_length(&log)), call);
             group.call(case, report_both(&log, &walked(&log), SUNDAY, ROW), call);
             group.call(case, gap_both(&log, SUNDAY, slot), call);
             let ask = Ask { address: 1, day: SUNDAY, slot };

@@ -1,5 +1,6 @@
 -- `fresh_log` meets its contract: with too few figures `few_for` answers (`few-figures`); else the log's own call does, and where it made one the figures
 -- come too (`with-figures`, `without-figures`).
+use Rattle.day_figures.proofs.FreshLaws.{fresh-header}
 use lib.ListN.{length}
 use Prim.Native.Nat.{_<_, _≤_}
 use Rattle.day_figures.specs.Rows.{figuresOf}
@@ -33,7 +34,14 @@ enum-known-length : tie.Need-enum-known-length
 enum-known-length c = search needs
 
 fill-fresh-requires : tie.Need-fill-fresh-requires
-fill-fresh-requires c κs = search needs
+fill-fresh-requires c κs =
+    let at-fresh-log = c .before .before .before .before .before .before .fresh-log in
+    let at-length = c .before .before .length in
+    let at-args = c .before .before .before .before .before .before .before .before .before .before .before .before .args in
+    let at-figures-of = c .before .before .before .before .before .before .before .before .before .figures-of in
+    let at-if1 = c .before .before .before .before .before .before .before .before .if1 in
+    let made = sym (ap (λ (r : FreshAnswer). outcome r (at-fresh-log .last .1 .0)) (at-length .given .1)) ∙ at-fresh-log .ensures in
+    (fresh-header (at-args .h) (at-args .out .now) _ _ made, omega (arith, at-figures-of .ensures, at-if1 .left))
 
 enum-told : tie.Need-enum-told
 enum-told c = search needs

@@ -1,0 +1,42 @@
+-- `kind_at` meets its contract: with the room of all cells the byte is there, without it `byte_at` reads it; of either it is the pair (`pair_of`).
+use mathlib.Core.Path.{ap, _∙_}
+use borrow.Author.Needs.{needs}
+use Rattle.log.proofs.image.kind_at.Statement.{statement}
+use Rattle.log.proofs.image.kind_at.Tie as tie
+
+add-at : tie.Need-add-at
+add-at c = search needs
+
+size-for-requires : tie.Need-size-for-requires
+size-for-requires c κs = search needs
+
+shared-slice-read-pair-of : tie.Need-shared-slice-read-pair-of
+shared-slice-read-pair-of c = search needs
+
+pair-of-requires : tie.Need-pair-of-requires
+pair-of-requires c κs = search needs
+
+returns : tie.Need-returns
+returns c = search needs
+
+byte-at-requires : tie.Need-byte-at-requires
+byte-at-requires c κs = search needs
+
+pair-of-requires-2 : tie.Need-pair-of-requires-2
+pair-of-requires-2 c κs = search needs
+
+returns-2 : tie.Need-returns-2
+returns-2 c = c .pair-of2 .ensures ∙ simp (c .before .byte-at .ensures)
+
+pub kind-at-spec : {M : Type 1} → statement M
+kind-at-spec =
+    tie.close
+    (tie.spec
+    add-at
+    size-for-requires
+    shared-slice-read-pair-of
+    pair-of-requires
+    returns
+    byte-at-requires
+    pair-of-requires-2
+    returns-2)

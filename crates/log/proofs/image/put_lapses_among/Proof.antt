@@ -1,0 +1,65 @@
+-- `put_lapses_among` meets its contract: past the last cell nothing, else the byte written at the place, which with the room of all cells is there.
+use borrow.Author.Tests.{lt-ltb, le-ltb}
+use Rattle.words.specs.Place.{written}
+use Rattle.log.specs.Image.{putLapsesAmong}
+use borrow.Author.Needs.{needs}
+use Rattle.log.proofs.image.put_lapses_among.Statement.{statement}
+use Rattle.log.proofs.image.put_lapses_among.Tie as tie
+
+returns : tie.Need-returns
+unfolding putLapsesAmong written
+returns c = simp (le-ltb _ _ (c .if1 .taken))
+
+add-at : tie.Need-add-at
+add-at c = search needs
+
+mul-at : tie.Need-mul-at
+mul-at c = search needs
+
+add-at-2 : tie.Need-add-at-2
+add-at-2 c = search needs
+
+add-at-3 : tie.Need-add-at-3
+add-at-3 c = search needs
+
+size-for-requires : tie.Need-size-for-requires
+size-for-requires c κs = search needs
+
+slice-write-log : tie.Need-slice-write-log
+slice-write-log c = search needs
+
+same-length : tie.Need-same-length
+same-length c = search needs
+
+returns-2 : tie.Need-returns-2
+unfolding putLapsesAmong written
+returns-2 c = simp (lt-ltb _ _ (c .before .before .if1 .left))
+
+put-byte-requires : tie.Need-put-byte-requires
+put-byte-requires c κs = search needs
+
+same-length-2 : tie.Need-same-length-2
+same-length-2 c = search needs
+
+returns-3 : tie.Need-returns-3
+unfolding putLapsesAmong written
+returns-3 c =
+    let at-if1 = c .before .before .before .before .before .before .if1 in
+    simp (lt-ltb _ _ (at-if1 .left)) (c .before .before .put-byte .ensures)
+
+pub put-lapses-among-spec : {M : Type 1} → statement M
+put-lapses-among-spec =
+    tie.close
+    (tie.spec
+    returns
+    add-at
+    mul-at
+    add-at-2
+    add-at-3
+    size-for-requires
+    slice-write-log
+    same-length
+    returns-2
+    put-byte-requires
+    same-length-2
+    returns-3)

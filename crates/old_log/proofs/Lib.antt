@@ -1,0 +1,3 @@
+pub mod OldRowLaws
+pub mod SameLaws
+pub mod Claims

@@ -1,0 +1,3 @@
+pub mod OldRows
+pub mod Layout
+pub mod Same
