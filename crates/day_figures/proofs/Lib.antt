@@ -1,6 +1,5 @@
 pub mod TalliesLaws
 pub mod FiguresLaws
 pub mod RowsLaws
-pub mod SumsLaws
 pub mod FreshLaws
 pub mod PutLaws

@@ -1,7 +1,6 @@
 pub mod Tallies
 pub mod Figures
 pub mod Rows
-pub mod Sums
 pub mod Both
 pub mod Fresh
 pub mod Put

@@ -10,7 +10,7 @@ use mathlib.Core.Logic.{_⊎_, inl, inr}
 use lib.Dec.{ltb, eqb}
 use lib.ListN.{length, getD, take, drop, set, length-append, drop-of-length-le, List·getD-append}
 use lib.Seq.{getD-append-add, getD-take}
-use borrow.Author.Tests.{ltb-true, lt-ltb}
+use borrow.Author.Tests.{ltb-true, lt-ltb, eqb-true, eqb-false}
 use Rattle.case_laws.proofs.Test.{chosen}
 use Rattle.words.specs.Number.{bytesOf, Bytes}
 use Rattle.words.specs.Place.{byteAt, numberAt, written}
@@ -551,6 +551,78 @@ image-laid s u h cs lapses bs bu right count each fit room long head behind part
     (long ∙ sym (length-written s 0 image))
     (λ q l. head q l ∙ sym (ap (λ (x : List ℕ). byteAt x q) front ∙ image-head h cs lapses (drop (0 + length image) s) q l))
     (λ q l. behind q (rw (sym count) l) ∙ sym (byteAt-kept s 0 image q (inr (omega (arith, size)))))
+
+-- the first i of some cells with their lapses, put one behind the other over bytes whose header, and whose rest behind all of the cells, stay
+pub record Laid (s u : List ℕ) (cs : List Cell) (lapses : ℕ → ℕ) (i : ℕ) : Type 0 where
+  pub bytes : Bytes u
+  pub long : length u ≡ length s
+  pub head : (q : ℕ) → q < headerSize → byteAt u q ≡ byteAt s q
+  pub behind : (q : ℕ) → sizeFor (length cs) ≤ q → byteAt u q ≡ byteAt s q
+  pub parts : (j : ℕ) → j < i → partsAt (length cs) u j ≡ partsOf (getD cs j Gap) (lapses j)
+
+pub none-laid : (s : List ℕ) (cs : List Cell) (lapses : ℕ → ℕ) → Bytes s → Laid s s cs lapses 0
+none-laid s cs lapses b = record { bytes = b; long = refl; head = λ q l. refl; behind = λ q l. refl; parts = λ j l. absurd (omega arith) }
+
+-- one cell more, with its lapses
+pub one-laid : (s u w : List ℕ) (cs : List Cell) (lapses : ℕ → ℕ) (i : ℕ) (c : Cell) → Laid s u cs lapses i → Room s (length cs) → i < length cs → Bytes w
+    → getD cs i Gap ≡ c → IsCell c → w ≡ putLapsesAmong (length cs) (putCellAmong (length cs) u i c) i (lapses i) → Laid s w cs lapses (i + 1)
+one-laid s u w cs lapses i c laid room l b here is p =
+    record {
+      bytes = b;
+      long = ap length p ∙ length-putLapsesAmong n put i (lapses i) ∙ length-putCellAmong n u i c ∙ laid .long;
+      head = λ q m. stays q (before-off n i q (omega arith)) (λ e. omega arith) (λ e. omega arith) ∙ laid .head q m;
+      behind = λ q m. stays q (behind-off n i q l (omega arith)) (λ e. omega (arith, room .fours)) (λ e. omega arith) ∙ laid .behind q m;
+      parts = λ j m. go j m (eqb j i) refl;
+    }
+  where
+    n : ℕ
+    n = length cs
+
+    put : List ℕ
+    put = putCellAmong n u i c
+
+    has : Room u n
+    has = room-kept s u n (laid .long) room
+
+    after : Room put n
+    after = room-kept u put n (length-putCellAmong n u i c) has
+
+    stays : (q : ℕ) → Off n i q → (q ≡ kindPlace i → ⊥) → (q ≡ lapsesPlace n i → ⊥) → byteAt w q ≡ byteAt u q
+    stays q off kind late = ap (λ (x : List ℕ). byteAt x q) p ∙ byte-lapses n put after i l (lapses i) q late ∙ byte-stays n u has i l c q off kind
+
+    go : (j : ℕ) → j < i + 1 → (a : Bool) → eqb j i ≡ a → partsAt n w j ≡ partsOf (getD cs j Gap) (lapses j)
+    go j m true e =
+        let same = eqb-true j i e in
+        ap (λ (x : List ℕ). partsAt n x j) p
+        ∙ ap (partsAt n (putLapsesAmong n put i (lapses i))) same
+        ∙ lapses-there n put after i l (lapses i)
+        ∙ ap (λ (x : Parts). lapsed x (lapses i)) (parts-there n u has i l c (is .fits))
+        ∙ ap (λ (x : Cell). partsOf x (lapses i)) (sym here)
+        ∙ ap (λ (k : ℕ). partsOf (getD cs k Gap) (lapses k)) (sym same)
+    go j m false e =
+        let other = eqb-false j i e in
+        let before : j < i = omega (arith, other) in
+        ap (λ (x : List ℕ). partsAt n x j) p
+        ∙ lapses-elsewhere n put after i l (lapses i) j (omega arith) other
+        ∙ parts-elsewhere n u has i l c j (omega arith) other
+        ∙ laid .parts j before
+
+-- a header, and behind it all the cells that it says: the image
+pub all-laid : (s t u : List ℕ) (h : Header) (cs : List Cell) (lapses : ℕ → ℕ) → Bytes s → isHeader h ≡ true → length cs ≡ cellsOf h → AllCells cs
+    → LapsesFit lapses → lengthOf h ≤ length s → t ≡ written s 0 (headerBytes h) → Laid t u cs lapses (length cs) → u ≡ written s 0 (imageOf h cs lapses)
+unfolding lengthOf
+all-laid s t u h cs lapses b right count each fit room p laid =
+    let top = length-headerBytes version h in
+    image-laid s u h cs lapses b (laid .bytes) right count each fit room (laid .long ∙ ap length p ∙ length-written s 0 (headerBytes h))
+    (λ q l. laid .head q l ∙ ap (λ (x : List ℕ). byteAt x q) p ∙ head q l)
+    (λ q l. laid .behind q (omega (arith, count)) ∙ ap (λ (x : List ℕ). byteAt x q) p ∙ byteAt-kept s 0 (headerBytes h) q (inr (omega (arith, top))))
+    (laid .parts)
+  where
+    head : (q : ℕ) → q < headerSize → byteAt (written s 0 (headerBytes h)) q ≡ byteAt (headerBytes h) q
+    head q l =
+        let top = length-headerBytes version h in
+        let z : 0 + q ≡ q = omega arith in
+        sym (ap (byteAt (written s 0 (headerBytes h))) z) ∙ byteAt-written s 0 (headerBytes h) q (omega (arith, top)) (omega arith)
 
 -- bytes written over all of a list
 over : (s bs : List ℕ) → length bs ≡ length s → written s 0 bs ≡ bs

@@ -8,7 +8,5 @@ pub mod LookLaws
 pub mod ViewLaws
 pub mod IntervalLaws
 pub mod MissingLaws
-pub mod LayLaws
-pub mod SumsLaws
 pub mod FreshLaws
 pub mod Examples

@@ -2,9 +2,7 @@ pub mod Cell
 pub mod Header
 pub mod Pair
 pub mod Image
-pub mod Lay
 pub mod Look
-pub mod Sums
 pub mod Interval
 pub mod View
 pub mod Fresh

@@ -78,7 +78,7 @@ fn cell_in(log: &[u8], n: u16, i: usize) -> CellAnswer
 }
 
 // Both bytes are read before they are joined, so that the two become one load.
-pub fn count_in(log: &[u8], at: usize) -> u16
+fn count_in(log: &[u8], at: usize) -> u16
     requires { ⌜ at + 1 < length (now log) ⌝ }
     ensures { λ r. ⌜ r ≡ numberAt (now (log .entry)) at 2 ⌝ }
 {
@@ -102,7 +102,7 @@ pub fn lapses_among(log: &[u8], n: u16, i: usize) -> u8
 }
 
 // The room of n cells. With it every place of theirs is one: a loop over them tests it once, and no place by itself.
-pub fn size_for(n: u16) -> usize
+fn size_for(n: u16) -> usize
     ensures { λ r. ⌜ r ≡ sizeFor n ⌝ }
 {
     let cells = n as usize;
@@ -153,7 +153,7 @@ pub fn put_cell_among(log: &mut [u8], n: u16, i: usize, c: Cell)
     if (n as usize) <= i {
         return;
     }
-    // Each part by itself: kinds come in no order that a processor could guess, and so nothing branches on them.
+    // The cell is matched for each part by itself: kinds come in no order that a processor could guess, and so nothing branches on them.
     put_kind(log, i, crate::cell::kind_of(c));
     put_counts(
         log,
@@ -201,7 +201,7 @@ fn put_counts(log: &mut [u8], n: u16, i: usize, ep: u16, em: u16, rp: u16, rm: u
     put_count(log, n, 3 * cells + i, rm);
 }
 
-pub fn put_count(log: &mut [u8], n: u16, m: usize, x: u16)
+fn put_count(log: &mut [u8], n: u16, m: usize, x: u16)
     requires { ⌜ m < 4 * n ⌝ }
     ensures { λ _. ⌜ now (log .exit) ≡ putCount n (now (log .entry)) m x ⌝ }
 {

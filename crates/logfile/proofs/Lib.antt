@@ -1,4 +1,3 @@
 pub mod RowLaws
 pub mod WalkLaws
-pub mod LaidLaws
 pub mod FileLaws
