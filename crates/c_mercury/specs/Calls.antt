@@ -106,5 +106,5 @@ lengthAfter (Silent fault) before = before
 
 -- 1, 27, 40
 unfoldable pub answerForC : Meter → List ℕ → List ℕ → ℕ → Outcome ℕ (ℕ × List ℕ)
-answerForC m q out length =
-    let o = bench.answered m q out in outcome (bench.numberOf (o .result)) (lengthAfter (o .result) length, o .left)
+answerForC m q out before =
+    let o = bench.answered m q out in outcome (bench.numberOf (o .result)) (lengthAfter (o .result) before, o .left)

@@ -81,13 +81,14 @@ read-bytes r n detail f h d = record {
   detail = omega (arith, d);
 }
 
-record Bounds (k : Key) : Type 0 where
-  month-from : 1 ≤ k .month
-  month : k .month < 256
-  day : k .day < 256
-  number : k .number < 256
+-- a legal key's numbers are bytes
+pub record Bounds (k : Key) : Type 0 where
+  pub month-from : 1 ≤ k .month
+  pub month : k .month < 256
+  pub day : k .day < 256
+  pub number : k .number < 256
 
-bounds : (k : Key) (slots : ℕ) → slots ≤ 96 → isLegal k slots ≡ true → Bounds k
+pub bounds : (k : Key) (slots : ℕ) → slots ≤ 96 → isLegal k slots ≡ true → Bounds k
 unfolding isLegal
 bounds k slots most h =
     let a = both (leb 1 (k .month) && leb (k .month) 12 && leb 1 (k .day) && leb (k .day) 31) (ltb (k .number) slots) h in
@@ -106,7 +107,7 @@ slice-bytes r n k slots f small most h =
     let b = bounds k slots most h in
     record { repeated = record { address = f .address; parameter = small }; offset = b .month; tariff = b .day; detail = b .number }
 
-slice-askable : (r : Record) (k : Key) (slots : ℕ) → isLegal k slots ≡ true → askable (subjectOf (sliceRead r 36 k) slots) ≡ true
+pub slice-askable : (r : Record) (k : Key) (slots : ℕ) → isLegal k slots ≡ true → askable (subjectOf (sliceRead r 36 k) slots) ≡ true
 unfolding subjectOf subjectFor parameterOf firstOf isLegal
 slice-askable r k slots h = simp h
 
@@ -235,7 +236,7 @@ winter-zeroed r s f out room e g n =
     (date-askable parameter.WinterDate y 28 (slotsOf (y .minutes)) refl refl refl)
     ∙ ap (λ (z : Record). ownFigures parameter.WinterDate z (o .store) q) (zeroed-is r s f out room parameter.WinterDate e g n)
 
-slice-figures : (r : Record) (s : List ℕ) (k : Key) (row : List ℕ) → sliceOf s k ≡ row
+pub slice-figures : (r : Record) (s : List ℕ) (k : Key) (row : List ℕ) → sliceOf s k ≡ row
     → ownFigures (parameterOf 36) r s (sliceRead r 36 k) ≡ decoded.Slice (fourCounts row)
 unfolding parameterOf firstOf
 slice-figures r s k row e = ap (λ (w : List ℕ). decoded.Slice (fourCounts w)) e
@@ -321,13 +322,13 @@ isHanded (Done r) = true
 isHanded OutOfRange = false
 isHanded Unsound = false
 
-record Put (r y : Record) (s : List ℕ) (k : Key) (row : List ℕ) : Type 0 where
-  sound : isSound r s ≡ true
-  legal : isLegal k (slotsOf (r .minutes)) ≡ true
-  after : y .minutes ≡ r .minutes
-  left : (slicePut r s k row) .left ≡ putStore s (r .next) k row
+pub record Put (r y : Record) (s : List ℕ) (k : Key) (row : List ℕ) : Type 0 where
+  pub sound : isSound r s ≡ true
+  pub legal : isLegal k (slotsOf (r .minutes)) ≡ true
+  pub after : y .minutes ≡ r .minutes
+  pub left : (slicePut r s k row) .left ≡ putStore s (r .next) k row
 
-put-is : (r y : Record) (s : List ℕ) (k : Key) (row : List ℕ) → (slicePut r s k row) .result ≡ Done y → Put r y s k row
+pub put-is : (r y : Record) (s : List ℕ) (k : Key) (row : List ℕ) → (slicePut r s k row) .result ≡ Done y → Put r y s k row
 unfolding slicePut
 put-is r y s k row h = go (isSound r s) refl (isLegal k (slotsOf (r .minutes))) refl
   where

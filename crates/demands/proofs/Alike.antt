@@ -56,7 +56,7 @@ use Rattle.demands.proofs.Wire.{OfBytes, bytes-cons}
 
 -- ---- a frame's length, and its bytes that no address changes
 
-length-by : (a fn : ℕ) (m : List ℕ) → length (frameBy a fn m) ≡ length m + 4
+pub length-by : (a fn : ℕ) (m : List ℕ) → length (frameBy a fn m) ≡ length m + 4
 length-by a fn m =
     let e : suc (suc (length m)) + 2 ≡ length m + 4 = omega arith in
     length-framed (a ∷ fn ∷ m) ∙ e
@@ -71,7 +71,7 @@ byte-by : (a fn : ℕ) (m : List ℕ) (i : ℕ) → i < length m → byteAt (fra
 unfolding framed
 byte-by a fn m i h = List·getD-append m (bytesOf 2 (crcOf (a ∷ fn ∷ m))) 0 i h
 
-number-by : (a fn : ℕ) (m : List ℕ) → length m ≡ 10 → numberAt (frameBy a fn m) 4 8 ≡ number (drop 2 m)
+pub number-by : (a fn : ℕ) (m : List ℕ) → length m ≡ 10 → numberAt (frameBy a fn m) 4 8 ≡ number (drop 2 m)
 unfolding numberAt framed
 number-by a fn m h =
     let crc = bytesOf 2 (crcOf (a ∷ fn ∷ m)) in
@@ -254,7 +254,7 @@ store-by s a fn m c =
 
 -- ---- both frames reach the meter
 
-sealed-by : (a fn : ℕ) (m : List ℕ) → a < 256 → fn < 256 → Bytes m → length m ≤ 60 → isSealed (frameBy a fn m) ≡ true
+pub sealed-by : (a fn : ℕ) (m : List ℕ) → a < 256 → fn < 256 → Bytes m → length m ≤ 60 → isSealed (frameBy a fn m) ≡ true
 unfolding isSealed
 sealed-by a fn m ha hf hm l =
     let n = length-by a fn m in
@@ -266,14 +266,14 @@ met-by-zero : (r : Record) (fn : ℕ) (m : List ℕ) → isSealed (frameBy 0 fn 
 unfolding met framed
 met-by-zero r fn m e = ap (λ (b : Bool). cond b Zero Neither) e
 
-met-by-own : (r : Record) (fn : ℕ) (m : List ℕ) → isSealed (frameBy (r .address) fn m) ≡ true → (r .address ≡ 0 → ⊥) → met r (frameBy (r .address) fn m) ≡ Own
+pub met-by-own : (r : Record) (fn : ℕ) (m : List ℕ) → isSealed (frameBy (r .address) fn m) ≡ true → (r .address ≡ 0 → ⊥) → met r (frameBy (r .address) fn m) ≡ Own
 unfolding met framed
 met-by-own r fn m e n =
     let own = r .address in
     ap (λ (b : Bool). cond b (cond (eqb own 0) Zero (cond (eqb own own) Own Neither)) Neither) e
     ∙ ap₂ (λ (x y : Bool). cond x Zero (cond y Own Neither)) (ne-eqb own 0 n) (eq-eqb own own refl)
 
-answered-by : (r : Record) (s f out : List ℕ) (x : Met) → 64 ≤ length out → isSound r s ≡ true → met r f ≡ x → isHeard x ≡ true
+pub answered-by : (r : Record) (s f out : List ℕ) (x : Met) → 64 ≤ length out → isSound r s ≡ true → met r f ≡ x → isHeard x ≡ true
     → answerOf r s f out ≡ replied (verdictOf x r f) r s f out
 unfolding answerOf heard
 answered-by r s f out x room sound e h = simp (le-ltb (length out) 64 room, sound, e, h)

@@ -1,15 +1,17 @@
 -- Demand 2, the address that a command came by: what is done of the changes and zeroings met the meter's own address, so by 0 none is; past 11 to 13
 -- such a one is 16.
 use mathlib.Core.Path.{_≡_, refl, sym, ap, _∙_}
-use mathlib.Core.Bool.{Bool, true, false, cond, false≢true}
+use mathlib.Core.Bool.{Bool, true, false, cond, _||_, false≢true}
 use mathlib.Core.List.{List}
-use Prim.Native.Nat.{ℕ, _+_}
+use Prim.Native.Nat.{ℕ, _+_, _≤_}
+use native.Mathlib.Omega.{arith}
 use lib.Dec.{eqb}
 use lib.ListN.{length}
 use borrow.Author.Tests.{le-ltb, eq-eqb, eqb-true}
 use Rattle.case_laws.proofs.Test.{both}
-use Rattle.words.specs.Place.{byteAt}
-use Rattle.frame.specs.Sealing.{isSealed}
+use Rattle.words.specs.Place.{byteAt, written}
+use Rattle.words.proofs.PlaceLaws.{byteAt-written}
+use Rattle.frame.specs.Sealing.{framed, isSealed}
 use Rattle.frame.specs.Table.{rowOf}
 use Rattle.frame.specs.declared.code.Function.{Function}
 use Rattle.frame.specs.declared.code.Function.the-variants as function
@@ -18,14 +20,18 @@ use Rattle.meter_record.specs.declared.record.Record.{Record}
 use Rattle.meter_command.specs.Access.{byOwn, isMain, changeAllowed}
 use Rattle.meter_command.specs.Judgement.{passed, checked, argumentFits, changeVerdict, zeroVerdict, verdictBy, verdictOf}
 use Rattle.meter_command.specs.Parts.{functionIn, parameterIn}
+use Rattle.meter_command.specs.Verdict.{numberOf, resultOf}
 use Rattle.meter_command.specs.declared.access.Met.{Met}
 use Rattle.meter_command.specs.declared.access.Met.the-variants.{Own, Zero, Neither}
 use Rattle.meter_command.specs.declared.verdict.Verdict.the-variants.{ByAddressZero}
-use Rattle.meter.specs.Reply.{met, replied, answerOf}
+use Rattle.meter_command.specs.declared.verdict.Verdict.{Verdict}
+use Rattle.meter_command.specs.declared.verdict.Verdict.the-variants as verdict
+use Rattle.meter.specs.Reply.{met, headOf, replied, answerOf}
 use Rattle.demands.specs.Changes.{Leaves}
-use Rattle.demands.specs.Demand1.{answerNumber}
+use Rattle.demands.specs.Demand1.{answerNumber, givesFrame}
 use Rattle.demands.specs.Demand2ByZero.{changes, formFits}
 use Rattle.demands.specs.Demand2Done.{Ready}
+use Rattle.demands.proofs.Answer.{answer-output, frame-short}
 use Rattle.demands.proofs.Changes.{change, zeroing, refused-leaves}
 use Rattle.demands.proofs.Done.{known-by}
 
@@ -86,3 +92,32 @@ unfolding answerOf replied verdictOf
 sixteen r s f out y m c h =
     let v : verdictOf (met r f) r f ≡ ByAddressZero = ap (λ (x : Met). verdictBy (functionIn f) x r f) m ∙ zero-verdict (functionIn f) r f c h in
     simp (le-ltb (length out) 64 (y .room), y .sound, y .hears, v)
+
+-- ---- the result byte
+
+four : (v : Verdict) → (eqb (numberOf v) 14 || eqb (numberOf v) 16) ≡ true → (resultOf v ≡ 4) × (givesFrame (numberOf v) ≡ true)
+four verdict.NoAccess h = (refl, refl)
+four verdict.ByAddressZero h = (refl, refl)
+four verdict.Done h = absurd (false≢true h)
+four verdict.TooShort h = absurd (false≢true h)
+four verdict.Unsound h = absurd (false≢true h)
+four verdict.Silent h = absurd (false≢true h)
+four verdict.UnknownFunction h = absurd (false≢true h)
+four verdict.UnknownParameter h = absurd (false≢true h)
+four verdict.NotOpen h = absurd (false≢true h)
+four verdict.WrongLength h = absurd (false≢true h)
+four verdict.WrongArgument h = absurd (false≢true h)
+
+pub result : (r : Record) (s f out : List ℕ) → let o = answerOf r s f out in 64 ≤ length out → (eqb (answerNumber o) 14 || eqb (answerNumber o) 16) ≡ true
+    → byteAt (o .out) 3 ≡ 4
+unfolding headOf framed
+result r s f out room h =
+    let o = answerOf r s f out in
+    let v = o .answer .verdict in
+    let w = four v h in
+    let frame = framed (headOf v f) in
+    let refused : answerNumber o ≡ 0 → ⊥ = λ z. false≢true (ap (λ (n : ℕ). eqb n 14 || eqb n 16) (sym z) ∙ h) in
+    let n : length frame ≡ 6 = frame-short v f in
+    ap (λ (x : List ℕ). byteAt x 3) (answer-output r s f out refused ∙ ap (λ (b : Bool). cond b (written out 0 frame) out) (w .1))
+    ∙ byteAt-written out 0 frame 3 (omega (arith, n)) (omega (arith, room))
+    ∙ w .0

@@ -2,7 +2,7 @@
 use mathlib.Core.Path.{_≡_, refl, _∙_}
 use mathlib.Core.Bool.{Bool, true, false, cond, _&&_, false≢true}
 use mathlib.Core.List.{List}
-use Prim.Native.Nat.{ℕ}
+use Prim.Native.Nat.{ℕ, _-_}
 use lib.Dec.{eqb, leb, ltb}
 use lib.ListN.{length}
 use Rattle.case_laws.proofs.Test.{either}
@@ -27,9 +27,9 @@ use Rattle.meter_record.specs.declared.record.RecordAnswer.{RecordAnswer}
 use Rattle.meter_record.specs.declared.record.RecordAnswer.the-variants as given
 use Rattle.meter.specs.Bench as bench
 use Rattle.meter.specs.Reply.{isSound}
-use Rattle.log.specs.Fresh.{freshNumber}
+use Rattle.log.specs.Fresh.{freshNumber, freshOf}
 use Rattle.log.specs.Header.{headerSize, isHeader, lengthOf, markRight, versionAt, ifRight}
-use Rattle.log.specs.Image.{applied}
+use Rattle.log.specs.Image.{applied, allGood}
 use Rattle.log.specs.View.{View, viewOf}
 use Rattle.log.specs.declared.image.Change.the-variants as change
 use Rattle.logger.specs.Lapse as silence
@@ -47,17 +47,19 @@ use Rattle.log.specs.declared.header.Lent.{Lent}
 use Rattle.log.specs.declared.interval.DayAnswer.{DayAnswer}
 use Rattle.log.specs.declared.interval.DayAnswer.the-variants as on-day
 use Rattle.day_figures.specs.Both.{Both, both, enough}
-use Rattle.day_figures.specs.Figures.{rowNumbers}
+use Rattle.day_figures.specs.Figures.{rowNumbers, dayCells}
 use Rattle.day_figures.specs.Fresh.{freshWith}
 use Rattle.day_figures.specs.Rows.{rowAt}
 use Rattle.dayreport.specs.Report as report
 use Rattle.dayreport.specs.Text as text
 use Rattle.dayreport.specs.Day as day
+use Rattle.dayreport.specs.Strip as strip
 use Rattle.logfile.specs.Row as file
 use Rattle.logfile.specs.Row.{lapsesIn}
 use Rattle.logfile.specs.File.{isVersion, fileHeader, fileLengthAs, fileLength, cellsRight}
 use Rattle.logfile.specs.Read as reading
 use Rattle.logfile.specs.Write as writing
+use Rattle.report_page.specs.Page as page
 use Rattle.logger.specs.Ask as asking
 use Rattle.logger.specs.Book as book
 use Rattle.logger.specs.Run.{State, state, step}
@@ -146,6 +148,12 @@ fresh-log h out figs =
     by-check P (enough h figs) (stays 1 b refl) (
     by-check P (leb (lengthOf h) (length out)) (stays 1 b refl) (done b _)))
 
+pub fresh-image : (h : Header) (out : List ℕ) → EndsBy freshNumber out (freshOf h out)
+unfolding freshOf inTable
+fresh-image h out =
+    let P = EndsBy freshNumber out in
+    either P (isHeader h) (either P (leb (lengthOf h) (length out)) (done out _) (stays 1 out refl)) (stays 27 out refl)
+
 -- ---- day reports and their text
 
 pub day-report : (lent : Lent) (figs : List ℕ) (d : ℕ) (row : List ℕ) → EndsBy report.reportNumber row (report.reportOf lent figs d row)
@@ -173,6 +181,17 @@ module _ (lent : Lent) (figs : List ℕ) (d : ℕ) (out : List ℕ) where
       let P = EndsBy text.textNumber out in
       by-sound P lent (λ e. stays 28 out refl) (λ h e. by-check P (enough h figs) (stays 1 out refl) (dated-put (dayDate h d)))
 
+module _ (v : View) (d : ℕ) (out : List ℕ) where
+  stripped : (h : Header) (a : DayAnswer) → EndsBy text.textNumber out (strip.stripOn a (dayCells (v .cell) h d) (strip.dayMarks (v .cell) h d) out)
+  unfolding strip.stripOn strip.stripDated inTable
+  stripped h on-day.Outside = stays 22 out refl
+  stripped h (on-day.On date) =
+      by-check (EndsBy text.textNumber out) (allGood (dayCells (v .cell) h d)) (stays 28 out refl) (put-text _ out)
+
+  pub put-strip : EndsBy text.textNumber out (strip.stripText v d out)
+  unfolding strip.stripText inTable
+  put-strip = by-sound (EndsBy text.textNumber out) (v .lent) (λ e. stays 28 out refl) (λ h e. stripped h (dayDate h d))
+
 -- ---- files
 
 pub read-file : (f out figs : List ℕ) → EndsBy reading.readNumber (both out figs) (reading.readFile f out figs)
@@ -197,6 +216,21 @@ write-file v out =
     by-sound P (v .lent) (λ e. stays 28 out refl) (λ h e.
     by-check P (leb (fileLength h) (length out)) (stays 1 out refl) (
     by-check P (cellsRight h (v .cell) (v .lapses)) (stays 28 out refl) (done out _)))
+
+-- ---- what is printed for a file, which is read into room of the call's own
+
+pub put-page-line : (f : List ℕ) (i : ℕ) (out : List ℕ) → EndsBy text.textNumber out (page.pageLine f i out)
+unfolding page.pageLine page.readLine page.reportLine page.refusedLine inTable
+put-page-line f i out =
+    let P = EndsBy text.textNumber out in
+    let o = reading.readFile f page.room page.figuresRoom in
+    either P (eqb (reading.readNumber (o .result)) 0)
+    (either P (eqb i 0) (put-text _ out) (put-day _ (o .left .figures) (i - 1) out))
+    (either P (eqb i 0) (put-text _ out) (stays 22 out refl))
+
+pub put-strip-line : (f : List ℕ) (d : ℕ) (out : List ℕ) → EndsBy text.textNumber out (page.stripLine f d out)
+unfolding page.stripLine
+put-strip-line f d out = put-strip _ d out
 
 -- ---- asks, lapses and replies
 

@@ -5,13 +5,20 @@ use Rattle.demands.specs.Demand2.{Demand2}
 use Rattle.demands.specs.Demand2Again.{Demand2Again}
 use Rattle.demands.specs.Demand2ByZero.{Demand2ByZero}
 use Rattle.demands.specs.Demand2Done.{Demand2Done}
+use Rattle.demands.specs.Demand2Password.{Demand2Password}
+use Rattle.demands.specs.Demand2Put.{Demand2Put}
+use Rattle.demands.specs.Demand2Second.{Demand2Second}
 use Rattle.demands.specs.Demand3.{Demand3}
 use Rattle.demands.specs.Faults.{ReplyFaults}
 use Rattle.demands.specs.Function4.{Function4}
 use Rattle.demands.specs.Seasons.{Seasons}
 use Rattle.demands.specs.Lapses.{Lapses}
 use Rattle.demands.specs.DayFigures.{DayFigures}
+use Rattle.demands.specs.RegisterToCell.{RegisterToCell}
+use Rattle.demands.specs.Metered.{Metered}
+use Rattle.demands.specs.Columns.{Columns}
 use Rattle.demands.specs.Examples.{Marked}
+use Rattle.demands.specs.Wire.{Wire}
 use Rattle.day_figures.proofs.PutLaws as put-laws
 use Rattle.logger.proofs.FigureLaws as figures-of
 use Rattle.logger.proofs.SeasonLaws as seasons-of
@@ -22,6 +29,7 @@ use Rattle.demands.proofs.Answer as answer
 use Rattle.demands.proofs.ByZero as by-zero
 use Rattle.demands.proofs.Calls as calls
 use Rattle.demands.proofs.Changes as changes
+use Rattle.demands.proofs.Columns as columns-in
 use Rattle.demands.proofs.Displayed as displayed
 use Rattle.demands.proofs.Done as done
 use Rattle.demands.proofs.Examples as examples
@@ -30,11 +38,20 @@ use Rattle.demands.proofs.Function4 as four
 use Rattle.demands.proofs.History as history
 use Rattle.demands.proofs.Inquiry as inquiry
 use Rattle.demands.proofs.Left as left
+use Rattle.demands.proofs.Metered as metered-in
+use Rattle.demands.proofs.Password as password
+use Rattle.demands.proofs.Put as put
+use Rattle.demands.proofs.Quiet as quiet
 use Rattle.demands.proofs.Range as range
+use Rattle.demands.proofs.RegisterToCell as register
 use Rattle.demands.proofs.Replies as replies
 use Rattle.demands.proofs.Seasons as seasons-in
+use Rattle.demands.proofs.Second as second
 use Rattle.demands.proofs.Lapses as lapses-in
 use Rattle.demands.proofs.DayFigures as figures-in
+use Rattle.demands.proofs.WireCommands as wire-commands
+use Rattle.demands.proofs.WireReads as wire-reads
+use Rattle.demands.proofs.WireRefusals as wire-refusals
 
 pub demand-1 : Demand1
 demand-1 = record {
@@ -50,11 +67,15 @@ demand-1 = record {
   put-ask = calls.put-ask;
   put-request = calls.put-request;
   fresh-log = calls.fresh-log;
+  fresh-image = calls.fresh-image;
   day-report = calls.day-report;
   put-text = calls.put-text;
   put-day = calls.put-day;
+  put-strip = calls.put-strip;
   read-file = calls.read-file;
   write-file = calls.write-file;
+  put-page-line = calls.put-page-line;
+  put-strip-line = calls.put-strip-line;
   answer-output = answer.answer-output;
   answer-length = answer.answer-length;
   frame-short = answer.frame-short;
@@ -100,6 +121,7 @@ demand-2-by-zero = record {
   came-by-own = by-zero.came-by-own;
   by-zero-refused = by-zero.by-zero-refused;
   sixteen = by-zero.sixteen;
+  result = by-zero.result;
   others-alike = alike.others-alike;
 }
 
@@ -116,6 +138,31 @@ demand-2-again = record {
   powers-done = again.powers-done;
   active-read = again.active-read;
   reactive-read = again.reactive-read;
+}
+
+pub demand-2-password : Demand2Password
+demand-2-password = record { taken = password.taken; opens = password.opens; no-other = password.no-other; other-stays = password.other-stays }
+
+pub demand-2-put : Demand2Put
+demand-2-put = record { others-stay = put.others-stay; lasts = λ m p ps room sound legal absent four below. put.lasts m p sound legal absent four below ps room }
+
+pub demand-2-second : Demand2Second
+demand-2-second = record {
+  done = second.done;
+  alone = second.alone;
+  goes-on = λ r x u h. second.goes-on r x h u;
+  not-twice = λ r x d h. second.not-twice r x h d;
+  into-winter = λ r x u h. second.into-winter r x h u;
+  into-winter-by-hand = λ r x u h. second.into-winter-by-hand r x h u;
+  into-summer = λ r x u h. second.into-summer r x h u;
+  into-summer-by-hand = λ r x u h. second.into-summer-by-hand r x h u;
+  stands = second.stands;
+  next = second.next;
+  quiet = quiet.quiet;
+  kept-239 = quiet.kept-239;
+  ended-240 = quiet.ended-240;
+  returns = quiet.returns;
+  until-then = quiet.until-then;
 }
 
 pub demand-3 : Demand3
@@ -144,6 +191,10 @@ seasons = record {
   none-doubled = seasons-in.none-doubled;
   first-version = seasons-in.first-version;
   first-version-had = seasons-in.first-version-had;
+  other-byte = seasons-in.other-byte;
+  first-byte = seasons-in.first-byte;
+  misplaced-read = seasons-in.misplaced-read;
+  misplaced-written = seasons-in.misplaced-written;
 }
 
 pub lapses : Lapses
@@ -154,6 +205,7 @@ lapses = record {
   no-lapse = lapses-in.no-lapse;
   early = lapses-in.early;
   early-had = lapses-in.early-had;
+  other-length = lapses-in.other-length;
 }
 
 pub day-figures : DayFigures
@@ -161,6 +213,8 @@ day-figures = record {
   kept = figures-in.kept;
   never-28 = figures-in.never-28;
   reported = figures-in.reported;
+  line = figures-in.line;
+  page-line = figures-in.page-line;
   other-days = figures-of.row-stays;
   as-many = figures-of.as-many;
   same-cell = λ d twice c figs small room. put-laws.same-cell figs small d twice c room;
@@ -180,6 +234,31 @@ function-4 = record {
   bare = four.bare;
   ratios-done = four.ratios-done;
   ratios-read = four.ratios-read;
+}
+
+pub register-to-cell : RegisterToCell
+register-to-cell = record { dated = register.dated; asked = register.asked; skipped = register.skipped; joined = register.joined }
+
+pub metered : Metered
+metered = record { met = metered-in.met; again = metered-in.again; measured = metered-in.measured; by-meters = metered-in.by-meters; kept = metered-in.kept }
+
+pub columns : Columns
+columns = record {
+  head = columns-in.head;
+  image = columns-in.image-of;
+  file-written = λ b start cs out count are room. columns-in.file-written b start cs count are out room;
+  file-read = λ b start cs out figs count are l m. columns-in.file-read b start cs count are out figs l m;
+  reported = columns-in.reported;
+}
+
+pub wire : Wire
+wire = record {
+  request = wire-refusals.request;
+  request-displayed = wire-refusals.request-displayed;
+  reads = wire-reads.reads;
+  changes = wire-commands.changes;
+  protects = wire-commands.protects;
+  refusals = wire-refusals.refusals;
 }
 
 pub marked : Marked

@@ -1,21 +1,24 @@
 -- Document 02, CR 8: what becomes of the figures, by the laws of the crates below.
 use mathlib.Core.Path.{_≡_, refl, sym, ap, subst, _∙_}
-use mathlib.Core.Bool.{true, not, _&&_}
+use mathlib.Core.Bool.{Bool, true, false, not, _&&_, false≢true}
 use mathlib.Core.List.{List, [], _∷_}
-use Prim.Native.Nat.{ℕ, zero, suc, _≤_, _<_}
+use Prim.Native.Nat.{ℕ, zero, suc, _+_, _-_, _≤_, _<_}
 use native.Mathlib.Omega.{arith}
-use lib.Dec.{eqb, ltb}
+use lib.Dec.{ltb}
 use lib.ListN.{length, getD}
-use borrow.Author.Tests.{le-leb, lt-ltb}
+use borrow.Author.Tests.{le-leb, lt-ltb, ltb-true, ne-eqb}
 use Rattle.case_laws.proofs.Test.{either}
 use Rattle.refusal.specs.Outcome.{Outcome, outcome}
 use Rattle.words.specs.Place.{written}
 use Rattle.frame.specs.Layout.{readSize}
 use Rattle.log.specs.Header.{soundOf}
-use Rattle.log.specs.Interval.{intervalOf}
+use Rattle.calendar.specs.declared.date.Date.{Date}
+use Rattle.log.specs.Interval.{intervalOf, dayDate}
 use Rattle.log.specs.View.{viewOf}
 use Rattle.log.proofs.IntervalLaws.{by-at}
 use Rattle.log.specs.declared.header.Header.{Header}
+use Rattle.log.specs.declared.interval.DayAnswer.{DayAnswer}
+use Rattle.log.specs.declared.interval.DayAnswer.the-variants as day
 use Rattle.log.specs.declared.header.Lent.{Lent}
 use Rattle.log.specs.declared.header.Lent.the-variants.{Sound}
 use Rattle.reader.specs.declared.form.Fault.{Fault}
@@ -24,12 +27,15 @@ use Rattle.day_figures.specs.Both.{Both, enough}
 use Rattle.day_figures.specs.Figures.{rowNumbers}
 use Rattle.day_figures.specs.Rows.{rowAt, walked, Right}
 use Rattle.day_figures.proofs.RowsLaws.{right-enough}
+use Rattle.dayreport.specs.Day.{dayOnText, dayText}
 use Rattle.dayreport.specs.Report.{reportOf}
+use Rattle.dayreport.specs.Text.{lineText, putText}
+use Rattle.report_page.specs.Page.{reportLine}
 use Rattle.dayreport.specs.declared.report.ReportAnswer.the-variants as report
 use Rattle.logger.specs.Book.{Call, ask, lapse, reply, Answer, Book, plain, faultAnswer, keptAnswer, First, none, counts, firstOf, alike, isZero, placeOf}
-use Rattle.logger.specs.Book.{keepReply, bookReply, bookAsk, bookLapse, bookStep, bookRun, runOf, AllBytes}
-use Rattle.logger.specs.Reply.{sliceForm, resultOf, Row, rowOf}
-use Rattle.logger.specs.Run.{State, run}
+use Rattle.logger.specs.Book.{countsIn, keepReply, bookReply, bookAsk, bookLapse, bookStep, bookRun, runOf, AllBytes}
+use Rattle.logger.specs.Reply.{sliceForm, resultOf, Row}
+use Rattle.logger.specs.Run.{State}
 use Rattle.logger.proofs.FigureLaws.{Faithful, run-faithful}
 use Rattle.logger.proofs.TakeLaws.{by-none, by-open, by-form, by-ok}
 use Rattle.polling.specs.Reached.{Polled}
@@ -46,7 +52,7 @@ pub kept : (b : Both) (start : Start b) (calls : List Call) → AllBytes calls �
 kept b start calls k = faithful b start calls k .right
 
 -- the report of a day whose figures are lent
-copies : (h : Header) (figs : List ℕ) (d : ℕ) (row : List ℕ) → d < h .days → rowNumbers ≤ length row → enough h figs ≡ true
+pub copies : (h : Header) (figs : List ℕ) (d : ℕ) (row : List ℕ) → d < h .days → rowNumbers ≤ length row → enough h figs ≡ true
     → reportOf (Sound h) figs d row ≡ outcome report.Done (written row 0 (rowAt figs d))
 unfolding reportOf
 copies h figs d row l m e = simp (le-leb _ _ m, e, lt-ltb d (h .days) l)
@@ -62,6 +68,51 @@ reported b start calls k d row l m =
     ap (λ (x : Lent). reportOf x (s .figures) d row) (f .sound)
     ∙ copies h (s .figures) d row l m (right-enough h (viewOf (s .log) .cell) (s .figures) right)
     ∙ ap (λ (x : List ℕ). outcome report.Done (written row 0 x)) (right .rows d l)
+
+-- ---- the text
+
+on-day : (h : Header) (d : ℕ) (date : Date) → dayDate h d ≡ day.On date → d < h .days
+unfolding dayDate
+on-day h d date e = go (ltb d (h .days)) refl
+  where
+    isOn : DayAnswer → Bool
+    isOn (day.On x) = true
+    isOn day.Outside = false
+
+    go : (b : Bool) → ltb d (h .days) ≡ b → d < h .days
+    go true f = ltb-true d (h .days) f
+    go false f = absurd (false≢true (ap isOn (simp f at e)))
+
+text-of : (h : Header) (figs : List ℕ) (d : ℕ) (date : Date) (out : List ℕ) → enough h figs ≡ true → dayDate h d ≡ day.On date
+    → dayText (Sound h) figs d out ≡ putText (lineText date (rowAt figs d)) out
+unfolding dayText dayOnText
+text-of h figs d date out e q = simp (e, q)
+
+pub line : (b : Both) (start : Start b) (calls : List Call) → AllBytes calls → let s = ran b calls .left in
+    (d : ℕ) (date : Date) (out : List ℕ) → dayDate (start .header) d ≡ day.On date
+    → dayText (soundOf (s .log)) (s .figures) d out ≡ putText (lineText date (walked (start .header) (viewOf (s .log) .cell) d)) out
+line b start calls k d date out q =
+    let h = start .header in
+    let s = ran b calls .left in
+    let f = faithful b start calls k in
+    let right = f .right in
+    ap (λ (x : Lent). dayText x (s .figures) d out) (f .sound)
+    ∙ text-of h (s .figures) d date out (right-enough h (viewOf (s .log) .cell) (s .figures) right) q
+    ∙ ap (λ (x : List ℕ). putText (lineText date x) out) (right .rows d (on-day h d date q))
+
+-- line 0 of a page is the heading
+by-day : (image figs : List ℕ) (d : ℕ) (out : List ℕ) → reportLine image figs (d + 1) out ≡ dayText (soundOf image) figs d out
+unfolding reportLine
+by-day image figs d out =
+    let e : d + 1 - 1 ≡ d = omega arith in
+    simp (ne-eqb (d + 1) 0 (λ z. omega (arith, z)), e)
+
+pub page-line : (b : Both) (start : Start b) (calls : List Call) → AllBytes calls → let s = ran b calls .left in
+    (d : ℕ) (date : Date) (out : List ℕ) → dayDate (start .header) d ≡ day.On date
+    → reportLine (s .log) (s .figures) (d + 1) out ≡ putText (lineText date (walked (start .header) (viewOf (s .log) .cell) d)) out
+page-line b start calls k d date out q =
+    let s = ran b calls .left in
+    by-day (s .log) (s .figures) d out ∙ line b start calls k d date out q
 
 pub polled : (b : Both) (start : Start b) (c : Both) → Polled b c → Right (start .header) (viewOf (c .log) .cell) (c .figures)
 polled b start c p =
@@ -97,7 +148,7 @@ step-not h b lapse = by-open Passes (b .held) (λ o e. omega (arith, e)) (λ a d
 step-not h b (reply y) =
     by-open Passes (b .held) (λ o e. omega (arith, e)) (λ a d t o.
     by-form Passes (sliceForm a y) (λ f n. fault-not f) (λ n.
-    by-ok Passes (resultOf y) (λ n e. omega (arith, e)) (λ n. kept-not (firstOf (b .kept (placeOf h d t))) (rowOf y))))
+    by-ok Passes (resultOf y) (λ n e. omega (arith, e)) (λ n. kept-not (firstOf (b .kept (placeOf h d t))) (countsIn y))))
 
 book-not : (h : Header) (b : Book) (calls : List Call) (k : ℕ) → Not28 (getD (bookRun h b calls .result) k (plain 0))
 unfolding runOf

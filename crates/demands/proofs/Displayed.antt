@@ -24,14 +24,8 @@ use Rattle.reader.specs.Reply.{energiesFigure}
 use Rattle.reader.specs.declared.reply.Decoded.the-variants as decoded
 use Rattle.demands.specs.Figures.{ownEnergy, fourEnergies}
 
-module _ (r : Record) (w : Within r) (f : FitsRecord r) where
+module _ (r : Record) (w : Within r) where
   -- the exact figure in milliwatt-hours, in the order in which the meter multiplies
-  exact-below : (n : ℕ) → n < 65536 → n * r .telemetry .ke * (r .ratios .ki * r .ratios .ku) < 2 ^ 64
-  exact-below n h =
-      let counts : n ≤ 65535 = omega (arith, h) in
-      let ke : r .telemetry .ke ≤ 65535 = omega (arith, f .telemetry .ke) in
-      lt-of-le-of-lt (mul-le-mul (mul-le-mul counts ke) (product-most (r .ratios) (w .ratios))) (lit≤ tt)
-
   in-order : (n : ℕ) → n * r .telemetry .ke * (r .ratios .ki * r .ratios .ku) ≡ n * r .telemetry .ke * r .ratios .ki * r .ratios .ku
   in-order n = sym (mul-assoc (n * r .telemetry .ke) (r .ratios .ki) (r .ratios .ku))
 
@@ -39,13 +33,21 @@ module _ (r : Record) (w : Within r) (f : FitsRecord r) where
   unfolding shownOf
   shown-own n = rw (w .ratios, in-order n) refl
 
-  nearest-own : (n : ℕ) → n < 65536
-      → Nearest (n * r .telemetry .ke * r .ratios .ki * r .ratios .ku) ((ownEnergy (r .telemetry .ke) (r .ratios) n) .0)
-  nearest-own n h = nearest-float .nearest _ (rw (sym (in-order n)) (exact-below n h))
-
-  displayed-own : (row : List ℕ) → displayedOf r row ≡ fourEnergies (r .telemetry .ke) (r .ratios) row
+  -- the figures that the meter works out are the exact ones' floats
+  pub displayed-own : (row : List ℕ) → displayedOf r row ≡ fourEnergies (r .telemetry .ke) (r .ratios) row
   unfolding displayedOf fourEnergies
   displayed-own row = rw (shown-own (countAt row 0), shown-own (countAt row 1), shown-own (countAt row 2), shown-own (countAt row 3)) refl
+
+module _ (r : Record) (w : Within r) (f : FitsRecord r) where
+  exact-below : (n : ℕ) → n < 65536 → n * r .telemetry .ke * (r .ratios .ki * r .ratios .ku) < 2 ^ 64
+  exact-below n h =
+      let counts : n ≤ 65535 = omega (arith, h) in
+      let ke : r .telemetry .ke ≤ 65535 = omega (arith, f .telemetry .ke) in
+      lt-of-le-of-lt (mul-le-mul (mul-le-mul counts ke) (product-most (r .ratios) (w .ratios))) (lit≤ tt)
+
+  nearest-own : (n : ℕ) → n < 65536
+      → Nearest (n * r .telemetry .ke * r .ratios .ki * r .ratios .ku) ((ownEnergy (r .telemetry .ke) (r .ratios) n) .0)
+  nearest-own n h = nearest-float .nearest _ (rw (sym (in-order r w n)) (exact-below n h))
 
   plain : (row : List ℕ) → RowFits row → Plain (fourEnergies (r .telemetry .ke) (r .ratios) row)
   unfolding fourEnergies
@@ -61,7 +63,7 @@ module _ (r : Record) (w : Within r) (f : FitsRecord r) where
       → energiesFigure (energiesOf (energiesBytes (displayedOf r row) ++ rest)) ≡ decoded.Displayed (fourEnergies (r .telemetry .ke) (r .ratios) row)
   displayed-again row rest k =
       let own = fourEnergies (r .telemetry .ke) (r .ratios) row in
-      rw (displayed-own row, energiesOf-bytes own rest (plain row k)) refl
+      rw (displayed-own r w row, energiesOf-bytes own rest (plain row k)) refl
 
 pub nearest : (r : Record) (n : ℕ) → isWithin r ≡ true → FitsRecord r → n < 65536
     → Nearest (n * r .telemetry .ke * r .ratios .ki * r .ratios .ku) ((ownEnergy (r .telemetry .ke) (r .ratios) n) .0)

@@ -1,24 +1,25 @@
 -- Document 02, CR 7: what a lapse and a reply do to a cell's count of lapses, and the files of the versions before.
-use mathlib.Core.Path.{_≡_, refl, sym, ap, subst, _∙_}
+use mathlib.Core.Path.{_≡_, refl, ap, _∙_}
 use mathlib.Core.Bool.{Bool, true, false, cond}
 use mathlib.Core.List.{List, _++_}
-use Prim.Native.Nat.{ℕ, _+_, _≤_, _<_}
-use lib.Dec.{eqb, ltb}
+use Prim.Native.Nat.{ℕ, _+_, _*_, _≤_, _<_}
+use lib.Dec.{leb, ltb}
 use lib.ListN.{length, take, drop}
-use borrow.Author.Tests.{eq-eqb, lt-ltb}
-use Rattle.refusal.specs.Outcome.{Outcome, outcome}
+use borrow.Author.Tests.{eq-eqb, lt-ltb, lt-leb, le-leb, ltb-true, ltb-false}
+use Rattle.refusal.specs.Outcome.{outcome}
 use Rattle.words.specs.Number.{Bytes}
-use Rattle.log.specs.Header.{versionAt, soundOf}
+use Rattle.log.specs.Header.{cellsOf, versionAt, soundOf}
 use Rattle.log.specs.View.{View, viewOf}
 use Rattle.log.proofs.ViewLaws.{changed, view-image}
 use Rattle.log.specs.declared.cell.Cell.{Cell}
 use Rattle.log.specs.declared.cell.CellAnswer.the-variants.{Good}
 use Rattle.log.specs.declared.header.Header.{Header}
+use Rattle.log.specs.declared.header.HeaderAnswer.the-variants.{Right}
 use Rattle.log.specs.declared.header.Lent.the-variants.{Sound}
-use Rattle.log.specs.declared.image.Change.{Change}
 use Rattle.day_figures.specs.Both.{Both, both}
 use Rattle.day_figures.specs.Rows.{figuresOf, allFigures}
-use Rattle.logfile.specs.File.{isVersion, seasonsFit, fileBytesAs}
+use Rattle.logfile.specs.File.{isVersion, seasonsFit, fileHeader, fileBytesAs, fileLengthAs}
+use Rattle.logfile.specs.Row.{hasLapses, rowSizeOf, rowStart}
 use Rattle.logfile.specs.Read.{readFile}
 use Rattle.logfile.specs.declared.read.ReadAnswer.{ReadAnswer}
 use Rattle.logfile.specs.declared.read.ReadAnswer.the-variants as read
@@ -34,7 +35,9 @@ use Rattle.log.specs.declared.image.Change.the-variants as change
 use Rattle.logger.specs.declared.held.OpenAsk.{OpenAsk}
 use Rattle.logger.specs.declared.held.OpenAsk.the-variants.{Closed}
 use Rattle.demands.specs.Demand3.{Start}
+use Rattle.demands.specs.Seasons.{Begun}
 use Rattle.demands.proofs.History.{version-had}
+use Rattle.demands.proofs.Seasons.{wrong-length}
 
 -- what a lapse comes to where its ask is for a good cell of the log
 lapsing-counted : (v : View) (h : Header) (held : OpenAsk) (i : ℕ) (c : Cell) → v .lent ≡ Sound h → OpenFor h held i → v .cell i ≡ Good c
@@ -96,3 +99,17 @@ pub early-had : (v : ℕ) (b : Both) (out figs : List ℕ) (start : Start b) →
     → readFile (fileBytesAs v h (start .cells) (start .lapses)) out figs
     ≡ outcome (read.Done n) (both (b .log ++ drop n out) (allFigures h (viewOf (b .log) .cell) ++ drop (figuresOf h) figs))
 early-had v b out figs start known seasons none l m = version-had v b out figs start known seasons (λ n. none) l m
+
+-- ---- a length by the version
+
+size-by : (v : ℕ) (h : Header) → fileLengthAs v h ≡ 14 + cond (ltb v 3) 9 10 * cellsOf h + 2
+unfolding fileLengthAs rowStart rowSizeOf hasLapses
+size-by v h = go (ltb v 3) refl
+  where
+    go : (b : Bool) → ltb v 3 ≡ b → 14 + cond (leb 3 v) 10 9 * cellsOf h + 2 ≡ 14 + cond b 9 10 * cellsOf h + 2
+    go true e = simp (lt-leb 3 v (ltb-true v 3 e))
+    go false e = simp (le-leb 3 v (ltb-false v 3 e))
+
+pub other-length : (f out figs : List ℕ) (h : Header) → Begun f → fileHeader f ≡ Right h → (length f ≡ 14 + cond (ltb (versionAt f) 3) 9 10 * cellsOf h + 2 → ⊥)
+    → readFile f out figs ≡ outcome read.WrongLength (both out figs)
+other-length f out figs h b e n = wrong-length f out figs h b e (λ q. n (q ∙ size-by (versionAt f) h))

@@ -2,7 +2,7 @@
 use mathlib.Core.Path.{_≡_, refl, sym, ap, ap₂, _∙_}
 use mathlib.Core.Bool.{Bool, true, false, cond, _&&_, _||_, false≢true}
 use mathlib.Core.List.{List, [], _∷_}
-use Prim.Native.Nat.{ℕ, _+_, _<_}
+use Prim.Native.Nat.{ℕ, _+_, _≤_, _<_}
 use native.Mathlib.Omega.{arith}
 use lib.Dec.{eqb, leb, ltb, lit≤}
 use lib.Ieee.{le, fits, ofBits}
@@ -146,34 +146,45 @@ not-askable : (q : Request) (y : List ℕ) → askable (subjectOf q mostSlots) �
 unfolding decodedOf
 not-askable q y e = simp e
 
--- ---- a request is a frame that its meter hears
+-- ---- a request, and any such bytes, are a frame that its meter hears
 
-request-sealed : (q : Request) → BytesRequest q → isSealed (requestFrame q) ≡ true
-unfolding isSealed requestFrame
-request-sealed q k =
-    let body = q .address ∷ readingCode (q .reading) ∷ q .parameter ∷ q .offset ∷ q .tariff ∷ q .detail ∷ [] in
-    let l : length (framed body) ≡ 8 = length-framed body in
-    let b : OfBytes body =
-    bytes-cons (q .address) (k .repeated .address) (bytes-cons (readingCode (q .reading)) (code-byte (q .reading)) (bytes-cons (q .parameter) (k .repeated .parameter)
-    (bytes-cons (q .offset) (k .offset) (bytes-cons (q .tariff) (k .tariff) (bytes-cons (q .detail) (k .detail) nil))))) in
-    ap₂ _&&_ (ap₂ _&&_ (le-leb 4 (length (framed body)) (omega (arith, l))) (le-leb (length (framed body)) 64 (omega (arith, l)))) (crcFits-framed body (b .each))
+-- bytes behind an address, with their CRC, are a frame
+framed-sealed : (body : List ℕ) → OfBytes body → 2 ≤ length body → length body ≤ 62 → isSealed (framed body) ≡ true
+unfolding isSealed
+framed-sealed body b least most =
+    let l : length (framed body) ≡ length body + 2 = length-framed body in
+    ap₂ _&&_ (ap₂ _&&_ (le-leb 4 (length (framed body)) (omega (arith, l, least))) (le-leb (length (framed body)) 64 (omega (arith, l, most)))) (crcFits-framed body (b .each))
 
-request-address : (q : Request) → byteAt (requestFrame q) 0 ≡ q .address
-unfolding requestFrame framed
-request-address q = refl
+framed-address : (a : ℕ) (rest : List ℕ) → byteAt (framed (a ∷ rest)) 0 ≡ a
+unfolding framed
+framed-address a rest = refl
 
 by-either : (zero own : Bool) → (zero || own) ≡ true → isHeard (cond zero Zero (cond own Own Neither)) ≡ true
 by-either true own e = refl
 by-either false true e = refl
 by-either false false e = absurd (false≢true e)
 
+-- the address that such a frame met
+pub met-framed : (r : Record) (a : ℕ) (rest : List ℕ) → OfBytes (a ∷ rest) → 1 ≤ length rest → length rest ≤ 61
+    → met r (framed (a ∷ rest)) ≡ cond (eqb a 0) Zero (cond (eqb a (r .address)) Own Neither)
+unfolding met
+met-framed r a rest b least most =
+    ap₂ (λ (sealed : Bool) (x : ℕ). cond sealed (cond (eqb x 0) Zero (cond (eqb x (r .address)) Own Neither)) Neither)
+    (framed-sealed (a ∷ rest) b (omega (arith, least)) (omega (arith, most))) (framed-address a rest)
+
+pub hears-framed : (r : Record) (a : ℕ) (rest : List ℕ) → OfBytes (a ∷ rest) → 1 ≤ length rest → length rest ≤ 61
+    → (eqb a 0 || eqb a (r .address)) ≡ true → heard r (framed (a ∷ rest)) ≡ true
+unfolding heard
+hears-framed r a rest b least most e = ap isHeard (met-framed r a rest b least most) ∙ by-either (eqb a 0) (eqb a (r .address)) e
+
 pub hears-request : (r : Record) (q : Request) → BytesRequest q → (eqb (q .address) 0 || eqb (q .address) (r .address)) ≡ true
     → heard r (requestFrame q) ≡ true
-unfolding heard met
+unfolding requestFrame
 hears-request r q k e =
-    ap₂ (λ (sealed : Bool) (a : ℕ). isHeard (cond sealed (cond (eqb a 0) Zero (cond (eqb a (r .address)) Own Neither)) Neither)) (request-sealed q k)
-    (request-address q)
-    ∙ by-either (eqb (q .address) 0) (eqb (q .address) (r .address)) e
+    hears-framed r (q .address) (readingCode (q .reading) ∷ q .parameter ∷ q .offset ∷ q .tariff ∷ q .detail ∷ [])
+    (bytes-cons (q .address) (k .repeated .address) (bytes-cons (readingCode (q .reading)) (code-byte (q .reading)) (bytes-cons (q .parameter) (k .repeated .parameter)
+    (bytes-cons (q .offset) (k .offset) (bytes-cons (q .tariff) (k .tariff) (bytes-cons (q .detail) (k .detail) nil))))))
+    (lit≤ tt) (lit≤ tt) e
 
 -- ---- a meter from the factory, of 15 minutes, with the request's address
 

@@ -138,7 +138,7 @@ figures-small : (p : Parameter) (r : Record) (s : List ℕ) (q : Request) → le
 figures-small p r s q = rw (length-as (q .reading) p r s q) (reply-small (q .reading) p (q .detail))
 
 -- the reply, taken from the lent output
-reply-is : (r : Record) (s : List ℕ) (q : Request) (out : List ℕ) → Passed r s (requestFrame q) out
+pub reply-is : (r : Record) (s : List ℕ) (q : Request) (out : List ℕ) → Passed r s (requestFrame q) out
     → replyIn (answered r s q out) ≡ framed (replyBody q (figuresAs (q .reading) (parameterOf (q .parameter)) r s q))
 reply-is r s q out p =
     let f = requestFrame q in

@@ -1,40 +1,52 @@
 -- Document 02, CR 5: what becomes of slots that do not exist, by the laws of the crates below, and the files of version 1.
 use mathlib.Core.Path.{_≡_, refl, sym, ap, _∙_}
-use mathlib.Core.Bool.{true, false, cond}
+use mathlib.Core.Bool.{Bool, true, false, cond, _&&_}
 use mathlib.Core.List.{List, _++_}
 use Prim.Native.Nat.{ℕ, _+_, _-_, _≤_, _<_}
 use native.Mathlib.Omega.{arith}
+use lib.Dec.{eqb, leb}
 use lib.ListN.{length, take, drop, getD}
-use borrow.Author.Tests.{eq-eqb, lt-ltb}
+use borrow.Author.Tests.{eq-eqb, ne-eqb, lt-ltb, le-leb, leb-true}
+use Rattle.case_laws.proofs.Test.{both as both-halves}
 use Rattle.refusal.specs.Outcome.{outcome}
 use Rattle.words.specs.Number.{Bytes}
-use Rattle.slots.specs.Day.{slotsOf}
+use Rattle.words.specs.Place.{byteAt}
+use Rattle.calendar.specs.Date.{isDate}
+use Rattle.slots.specs.Day.{isMinutes, slotsOf}
 use Rattle.season_nights.specs.Night.{isSpring, isAutumn}
 use Rattle.season_nights.specs.Run.{hourOf}
-use Rattle.log.specs.Header.{cellsOf, versionAt, soundOf}
+use Rattle.log.specs.Header.{cellsOf, versionAt, daysRight, isHeader, headerAt, fieldsRight, headerOf, soundOf}
+use Rattle.log.specs.Image.{allGood}
 use Rattle.log.specs.Interval.{nightOn, existsAt}
-use Rattle.log.specs.View.{View, viewOf}
+use Rattle.log.specs.View.{View, viewOf, seenFrom, missingBare}
 use Rattle.log.proofs.ImageLaws.{sound-image}
 use Rattle.log.proofs.ViewLaws.{cell-in}
+use Rattle.log.proofs.MissingLaws.{missing-bare}
 use Rattle.log.specs.declared.cell.Cell.{Cell}
 use Rattle.log.specs.declared.cell.Cell.the-variants.{Gap}
 use Rattle.log.specs.declared.cell.CellAnswer.{CellAnswer}
 use Rattle.log.specs.declared.cell.CellAnswer.the-variants.{Good}
 use Rattle.log.specs.declared.header.Header.{Header}
+use Rattle.log.specs.declared.header.HeaderAnswer.the-variants.{Right, Wrong}
 use Rattle.log.specs.declared.header.Lent.the-variants.{Sound}
 use Rattle.day_figures.specs.Both.{Both, both}
 use Rattle.day_figures.specs.Rows.{figuresOf, walked, allFigures}
 use Rattle.day_figures.proofs.FiguresLaws.{slotsThere}
 use Rattle.day_figures.proofs.RowsLaws.{days-good, walked-adds-up, walked-none-doubled}
-use Rattle.logfile.specs.File.{isVersion, seasonsFit, fileBytesAs}
-use Rattle.logfile.specs.Read.{readFile}
+use Rattle.logfile.specs.File.{isVersion, seasonsFit, fileHeader, fileBytesAs, fileLengthAs, fileLength, cellsRight}
+use Rattle.logfile.specs.Read.{readCells, readFields, readFile}
+use Rattle.logfile.specs.Row.{rowAt, lapsesIn}
+use Rattle.logfile.specs.Write.{writtenFile}
+use Rattle.logfile.specs.declared.write.WriteAnswer.the-variants as wrote
 use Rattle.logfile.specs.declared.read.ReadAnswer.{ReadAnswer}
 use Rattle.logfile.specs.declared.read.ReadAnswer.the-variants as read
 use Rattle.logfile.proofs.FileLaws as file
 use Rattle.logger.specs.Book.{Call, AllBytes}
 use Rattle.logger.proofs.SeasonLaws.{run-kept}
 use Rattle.demands.specs.Demand3.{Start, begin, ran}
+use Rattle.demands.specs.Seasons.{Begun, Whole, Misplaced}
 use Rattle.demands.proofs.History.{start-seen, version-had}
+use Rattle.demands.proofs.Second.{missed}
 
 pub stay-gaps : (b : Both) (start : Start b) (calls : List Call) → AllBytes calls → (i : ℕ) → i < cellsOf (start .header)
     → existsAt (start .header) i ≡ false → let v = viewOf (ran b calls .left .log) in (v .cell i ≡ Good Gap) × (v .lapses i ≡ 0)
@@ -76,3 +88,60 @@ pub first-version-had : (b : Both) (out figs : List ℕ) (start : Start b) → l
     ≡ outcome (read.Done n) (both (b .log ++ drop n out) (allFigures h (viewOf (b .log) .cell) ++ drop (figuresOf h) figs))
 unfolding isVersion seasonsFit
 first-version-had b out figs start e none l m = version-had 1 b out figs start refl (eq-eqb _ _ e) (λ n. none) l m
+
+-- ---- files that are refused
+
+begun-read : (f out figs : List ℕ) → Begun f → readFile f out figs ≡ readFields f out figs
+unfolding readFile
+begun-read f out figs b = simp (le-leb 5 (length f) (omega (arith, b .long)), b .mark, b .known)
+
+wrong-header : (f out figs : List ℕ) → Begun f → fileHeader f ≡ Wrong → readFile f out figs ≡ outcome read.WrongHeader (both out figs)
+unfolding readFields
+wrong-header f out figs b e = begun-read f out figs b ∙ simp (le-leb 14 (length f) (b .long), e)
+
+pub wrong-length : (f out figs : List ℕ) (h : Header) → Begun f → fileHeader f ≡ Right h → (length f ≡ fileLengthAs (versionAt f) h → ⊥)
+    → readFile f out figs ≡ outcome read.WrongLength (both out figs)
+unfolding readFields
+wrong-length f out figs h b e n =
+    begun-read f out figs b ∙ simp (le-leb 14 (length f) (b .long), e, ne-eqb (length f) (fileLengthAs (versionAt f) h) n)
+
+fields-wrong : (f : List ℕ) → 1 < byteAt f 12 → fieldsRight f ≡ false
+unfolding fieldsRight isHeader headerAt
+fields-wrong f l =
+    let h = headerAt f in
+    missed (fieldsRight f) (λ e.
+    let a = both-halves (isHeader (headerAt f)) (eqb (byteAt f 13) 0) e in
+    let b = both-halves (isDate (h .start) && daysRight h && isMinutes (h .minutes) && leb 1 (h .ke) && leb (h .ke) 65535) (leb (byteAt f 12) 1) (a .0) in
+    omega (arith, l, leb-true (byteAt f 12) 1 (b .1)))
+
+pub other-byte : (f out figs : List ℕ) → Begun f → 1 < byteAt f 12 → readFile f out figs ≡ outcome read.WrongHeader (both out figs)
+unfolding fileHeader headerOf
+other-byte f out figs b l = wrong-header f out figs b (simp (fields-wrong f l))
+
+pub first-byte : (f out figs : List ℕ) → Begun f → versionAt f ≡ 1 → (byteAt f 12 ≡ 0 → ⊥) → readFile f out figs ≡ outcome read.WrongHeader (both out figs)
+unfolding fileHeader headerOf seasonsFit headerAt
+first-byte f out figs b e n = wrong-header f out figs b (go (fieldsRight f) refl)
+  where
+    go : (x : Bool) → fieldsRight f ≡ x → fileHeader f ≡ Wrong
+    go true k = simp (k, e, ne-eqb (byteAt f 12) 0 n)
+    go false k = simp k
+
+cells-wrong : (h : Header) (cell : ℕ → CellAnswer) (lapses : ℕ → ℕ) → Misplaced h cell lapses → cellsRight h cell lapses ≡ false
+unfolding cellsRight
+cells-wrong h cell lapses x =
+    missed (cellsRight h cell lapses) (λ e.
+    let b = both-halves (allGood (seenFrom cell 0 (cellsOf h))) (missingBare h cell lapses 0 (cellsOf h)) e in
+    let w = missing-bare h cell lapses (cellsOf h) 0 (b .1) (x .place) (omega arith) (omega (arith, x .among)) (x .missing) in
+    x .filled (w .gap) (w .none))
+
+pub misplaced-read : (f out figs : List ℕ) (h : Header) → Whole f h → Misplaced h (rowAt (versionAt f) f) (lapsesIn (versionAt f) f)
+    → readFile f out figs ≡ outcome read.WrongCell (both out figs)
+unfolding readFields readCells
+misplaced-read f out figs h w x =
+    begun-read f out figs (w .begun)
+    ∙ simp (le-leb 14 (length f) (w .begun .long), w .header, eq-eqb (length f) (fileLengthAs (versionAt f) h) (w .size), w .crc, cells-wrong h _ _ x)
+
+pub misplaced-written : (v : View) (h : Header) (out : List ℕ) → v .lent ≡ Sound h → Misplaced h (v .cell) (v .lapses) → fileLength h ≤ length out
+    → writtenFile v out ≡ outcome wrote.Unsound out
+unfolding writtenFile
+misplaced-written v h out e x l = simp (e, le-leb (fileLength h) (length out) l, cells-wrong h (v .cell) (v .lapses) x)

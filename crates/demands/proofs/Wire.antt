@@ -69,10 +69,10 @@ together [] ys b c i = c i
 together (x ∷ xs) ys b c zero = b 0
 together (x ∷ xs) ys b c (suc i) = together xs ys (λ j. b (suc j)) c i
 
-append : {xs ys : List ℕ} → OfBytes xs → OfBytes ys → OfBytes (xs ++ ys)
+pub append : {xs ys : List ℕ} → OfBytes xs → OfBytes ys → OfBytes (xs ++ ys)
 append {xs} {ys} b c = record { each = together xs ys (b .each) (c .each) }
 
-of-number : (k n : ℕ) → OfBytes (bytesOf k n)
+pub of-number : (k n : ℕ) → OfBytes (bytesOf k n)
 of-number k n = record { each = bytes-bytesOf k n }
 
 -- a count of two bytes fits them
@@ -119,7 +119,7 @@ slice-fits s k b = record { four = ap length (sym (four-counts s k)); below = go
 
 -- ---- the meter's data are bytes
 
-time-bytes : (t : DateTime) → isTime t ≡ true → OfBytes (dateTimeBytes t)
+pub time-bytes : (t : DateTime) → isTime t ≡ true → OfBytes (dateTimeBytes t)
 unfolding dateTimeBytes
 time-bytes t h =
     let r = time-ranges t h in
@@ -151,7 +151,7 @@ powers-bytes p detail = go (eqb detail 0)
     go true = append (of-number 4 (bitsOf (totalOf p))) (append (of-number 4 (bitsOf (p .a))) (append (of-number 4 (bitsOf (p .b))) (of-number 4 (bitsOf (p .c)))))
     go false = of-number 4 (bitsOf (phase p detail))
 
-row-bytes : (row : List ℕ) → OfBytes (rowBytes row)
+pub row-bytes : (row : List ℕ) → OfBytes (rowBytes row)
 unfolding rowBytes
 row-bytes row =
     append (of-number 2 (countAt row 0)) (append (of-number 2 (countAt row 1)) (append (of-number 2 (countAt row 2)) (of-number 2 (countAt row 3))))

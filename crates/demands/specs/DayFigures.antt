@@ -8,18 +8,24 @@ use Prim.Native.Nat.{ℕ, _+_, _*_, _≤_, _<_}
 use lib.ListN.{length, getD}
 use Rattle.refusal.specs.Outcome.{outcome}
 use Rattle.words.specs.Place.{written}
+use Rattle.calendar.specs.declared.date.Date.{Date}
 use Rattle.log.specs.Header.{soundOf}
+use Rattle.log.specs.Interval.{dayDate}
 use Rattle.log.specs.View.{viewOf}
 use Rattle.log.specs.declared.cell.Cell.{Cell}
 use Rattle.log.specs.declared.header.Header.{Header}
+use Rattle.log.specs.declared.interval.DayAnswer.the-variants.{On}
 use Rattle.log.specs.declared.header.Lent.the-variants.{Sound}
 use Rattle.day_figures.specs.Both.{Both}
 use Rattle.day_figures.specs.Figures.{rowNumbers}
 use Rattle.day_figures.specs.Put.{changeOf}
 use Rattle.day_figures.specs.Rows.{rowAt, walked, Right}
 use Rattle.day_figures.specs.declared.put.FigureAnswer.the-variants.{Done}
+use Rattle.dayreport.specs.Day.{dayText}
 use Rattle.dayreport.specs.Report.{reportOf}
+use Rattle.dayreport.specs.Text.{lineText, putText}
 use Rattle.dayreport.specs.declared.report.ReportAnswer.the-variants as report
+use Rattle.report_page.specs.Page.{reportLine}
 use Rattle.logger.specs.Book.{Call, plain, AllBytes}
 use Rattle.logger.specs.Held.{OpenFor}
 use Rattle.logger.specs.Run.{State, step}
@@ -41,6 +47,13 @@ pub record DayFigures : Type 0 where
   pub reported : (b : Both) (start : Start b) (calls : List Call) → AllBytes calls → let s = ran b calls .left in
       (d : ℕ) (row : List ℕ) → d < start .header .days → rowNumbers ≤ length row
       → reportOf (soundOf (s .log)) (s .figures) d row ≡ outcome report.Done (written row 0 (walked (start .header) (viewOf (s .log) .cell) d))
+  -- "The report's text is unchanged": after such calls a day's line, by itself and on the page, is its date with the walk's numbers
+  pub line : (b : Both) (start : Start b) (calls : List Call) → AllBytes calls → let s = ran b calls .left in
+      (d : ℕ) (date : Date) (out : List ℕ) → dayDate (start .header) d ≡ On date
+      → dayText (soundOf (s .log)) (s .figures) d out ≡ putText (lineText date (walked (start .header) (viewOf (s .log) .cell) d)) out
+  pub page-line : (b : Both) (start : Start b) (calls : List Call) → AllBytes calls → let s = ran b calls .left in
+      (d : ℕ) (date : Date) (out : List ℕ) → dayDate (start .header) d ≡ On date
+      → reportLine (s .log) (s .figures) (d + 1) out ≡ putText (lineText date (walked (start .header) (viewOf (s .log) .cell) d)) out
   -- no call alters the figures of another day than that of the cell whose ask was open before it, or how many there are, whatever is lent
   pub other-days : (s : State) (c : Call) (d : ℕ) → OtherDay s d → rowAt (step s c .left .figures) d ≡ rowAt (s .figures) d
   pub as-many : (s : State) (c : Call) → length (step s c .left .figures) ≡ length (s .figures)

@@ -26,7 +26,7 @@ use Rattle.meter_command.specs.declared.verdict.Verdict.{Verdict}
 use Rattle.meter.specs.Bench as bench
 use Rattle.meter.specs.Reply as meter
 use Rattle.meter_inquiry.specs.Inquiry as inquiry
-use Rattle.log.specs.Fresh.{freshNumber}
+use Rattle.log.specs.Fresh.{freshNumber, freshOf}
 use Rattle.log.specs.View.{View}
 use Rattle.log.specs.declared.header.Lent.{Lent}
 use Rattle.day_figures.specs.Both.{Both, both}
@@ -35,8 +35,10 @@ use Rattle.log.specs.declared.header.Header.{Header}
 use Rattle.dayreport.specs.Report as report
 use Rattle.dayreport.specs.Text as text
 use Rattle.dayreport.specs.Day as day
+use Rattle.dayreport.specs.Strip as strip
 use Rattle.logfile.specs.Read as reading
 use Rattle.logfile.specs.Write as writing
+use Rattle.report_page.specs.Page as page
 use Rattle.logger.specs.Ask as asking
 use Rattle.logger.specs.Take as taking
 use Rattle.logger.specs.Book as book
@@ -88,16 +90,21 @@ pub record Demand1 : Type 0 where
   pub lapse : (s : State) → EndsBy (λ (a : book.Answer). a .number) s (step s book.lapse)
   -- "with none open it still answers 0" (document 02, CR 7), whatever the log is
   pub lapse-none : (b : Both) → step (state b Closed) book.lapse ≡ outcome (book.plain 0) (state b Closed)
-  -- "and writes nothing into a lent buffer": an ask, which is lent the log only to be read; requests, fresh logs, reports, texts and files
+  -- "and writes nothing into a lent buffer": an ask, which is lent the log only to be read; requests, fresh logs (`fresh-image` is `log`'s call, which is
+  -- lent no figures), reports, texts and strips, files, and the lines and strips of what is printed for a file
   pub put-ask : (v : View) (held : OpenAsk) (address day slot : ℕ) (out : List ℕ) → let o = asking.asked v held address day slot out in
       Ends {A = OpenAsk × List ℕ} (asking.numberOf (o .result .answer)) (held, out) (o .result .held, o .left)
   pub put-request : (q : Request) (out : List ℕ) → EndsBy request.numberOf out (request.requested q out)
   pub fresh-log : (h : Header) (out figs : List ℕ) → EndsBy freshNumber (both out figs) (freshWith h out figs)
+  pub fresh-image : (h : Header) (out : List ℕ) → EndsBy freshNumber out (freshOf h out)
   pub day-report : (lent : Lent) (figs : List ℕ) (d : ℕ) (row : List ℕ) → EndsBy report.reportNumber row (report.reportOf lent figs d row)
   pub put-text : (line out : List ℕ) → EndsBy text.textNumber out (text.putText line out)
   pub put-day : (lent : Lent) (figs : List ℕ) (d : ℕ) (out : List ℕ) → EndsBy text.textNumber out (day.dayText lent figs d out)
+  pub put-strip : (v : View) (d : ℕ) (out : List ℕ) → EndsBy text.textNumber out (strip.stripText v d out)
   pub read-file : (f out figs : List ℕ) → EndsBy reading.readNumber (both out figs) (reading.readFile f out figs)
   pub write-file : (v : View) (out : List ℕ) → EndsBy writing.writeNumber out (writing.writtenFile v out)
+  pub put-page-line : (f : List ℕ) (i : ℕ) (out : List ℕ) → EndsBy text.textNumber out (page.pageLine f i out)
+  pub put-strip-line : (f : List ℕ) (d : ℕ) (out : List ℕ) → EndsBy text.textNumber out (page.stripLine f d out)
   -- "but the short refusal frame where the table gives one": what a refused command leaves in the output, how many bytes of it are the reply
   pub answer-output : (r : Record) (s f out : List ℕ) → let o = meter.answerOf r s f out in (answerNumber o ≡ 0 → ⊥)
       → o .out ≡ cond (givesFrame (answerNumber o)) (written out 0 (framed (meter.headOf (o .answer .verdict) f))) out

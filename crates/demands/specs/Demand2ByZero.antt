@@ -2,7 +2,7 @@
 -- everything above it must heed that. Reads by 0 go on. Changes, a new password too, and zeroing by 0 are refused; the protection commands are
 -- still accepted. Demand 2's 'access it needs' includes this." Proofs: `demand-2-by-zero`, proofs/Claims.antt.
 use mathlib.Core.Path.{_≡_}
-use mathlib.Core.Bool.{Bool, true, false, _&&_}
+use mathlib.Core.Bool.{Bool, true, false, _&&_, _||_}
 use mathlib.Core.List.{List, _∷_}
 use Prim.Native.Nat.{ℕ, _+_, _≤_, _<_}
 use lib.Dec.{eqb}
@@ -10,7 +10,7 @@ use lib.ListN.{length}
 use Rattle.words.specs.Number.{Bytes}
 use Rattle.words.specs.Place.{byteAt, written}
 use Rattle.frame.specs.Code.{functionOf}
-use Rattle.frame.specs.Layout.{addressPlace, bareSize}
+use Rattle.frame.specs.Layout.{addressPlace, resultPlace, bareSize}
 use Rattle.frame.specs.Sealing.{framed}
 use Rattle.frame.specs.Table.{rowOf}
 use Rattle.frame.specs.declared.code.Function.{Function}
@@ -63,6 +63,9 @@ pub record Demand2ByZero : Type 0 where
   -- "16, after 13 and before 14": past 11, 12 and 13 it is 16, whatever the access and the argument
   pub sixteen : (r : Record) (s f out : List ℕ) → Ready r s f out → met r f ≡ Zero → changes (functionIn f) ≡ true
       → formFits (functionIn f) f ≡ true → answerNumber (answerOf r s f out) ≡ 16
+  -- "refusal frame with the result used for 14": Appendix B's code 4 (002, page 22) stands in the frame of both
+  pub result : (r : Record) (s f out : List ℕ) → let o = answerOf r s f out in 64 ≤ length out → (eqb (answerNumber o) 14 || eqb (answerNumber o) 16) ≡ true
+      → byteAt (o .out) resultPlace ≡ 4
   -- "Reads by 0 go on"; "the protection commands are still accepted": what is no change and no zeroing is answered by 0 as by the meter's own address,
   -- for every function, every message that a frame has room for, and every sound meter
   pub others-alike : (r : Record) (s : List ℕ) (fn : ℕ) (message out : List ℕ) → changes (functionOf fn) ≡ false → fn < 256 → Bytes message

@@ -2,21 +2,23 @@
 -- `log`; that a refused lapse leaves all that it was lent, demand 1's; here stands what a reader of the request looks for beside them. Proofs: `lapses`,
 -- proofs/Claims.antt.
 use mathlib.Core.Path.{_≡_}
-use mathlib.Core.Bool.{true}
+use mathlib.Core.Bool.{true, cond}
 use mathlib.Core.List.{List, _++_}
-use Prim.Native.Nat.{ℕ, _+_, _≤_, _<_}
+use Prim.Native.Nat.{ℕ, _+_, _*_, _≤_, _<_}
+use lib.Dec.{ltb}
 use lib.ListN.{length, take, drop}
 use Rattle.refusal.specs.Outcome.{outcome}
 use Rattle.words.specs.Number.{Bytes}
-use Rattle.log.specs.Header.{versionAt, soundOf}
+use Rattle.log.specs.Header.{cellsOf, versionAt, soundOf}
 use Rattle.log.specs.View.{viewOf}
 use Rattle.log.specs.declared.cell.Cell.{Cell}
 use Rattle.log.specs.declared.cell.CellAnswer.the-variants.{Good}
 use Rattle.log.specs.declared.header.Header.{Header}
+use Rattle.log.specs.declared.header.HeaderAnswer.the-variants.{Right}
 use Rattle.log.specs.declared.header.Lent.the-variants.{Sound}
 use Rattle.day_figures.specs.Both.{Both, both}
 use Rattle.day_figures.specs.Rows.{figuresOf, allFigures}
-use Rattle.logfile.specs.File.{isVersion, seasonsFit, fileBytesAs}
+use Rattle.logfile.specs.File.{isVersion, seasonsFit, fileHeader, fileBytesAs}
 use Rattle.logfile.specs.Read.{readFile}
 use Rattle.logfile.specs.declared.read.ReadAnswer.the-variants as read
 use Rattle.logger.specs.Held.{OpenFor}
@@ -26,6 +28,7 @@ use Rattle.logger.specs.declared.held.OpenAsk.{OpenAsk}
 use Rattle.logger.specs.declared.held.OpenAsk.the-variants.{Closed}
 use Rattle.logger.specs.declared.no_reply.LapseAnswer.the-variants.{Done}
 use Rattle.demands.specs.Demand3.{Start}
+use Rattle.demands.specs.Seasons.{Begun}
 
 pub record Lapses : Type 0 where
   -- "A lapse with an open ask now changes that byte": by one, "staying at 255"; the cell stays, the ask closes, the answer is 0
@@ -43,3 +46,6 @@ pub record Lapses : Type 0 where
       isVersion v ≡ true → seasonsFit v h ≡ true → ((i : ℕ) → start .lapses i ≡ 0) → n ≤ length out → figuresOf h ≤ length figs
       → readFile (fileBytesAs v h (start .cells) (start .lapses)) out figs
       ≡ outcome (read.Done n) (both (b .log ++ drop n out) (allFigures h (viewOf (b .log) .cell) ++ drop (figuresOf h) figs))
+  -- "33 goes by the version's cell size": 9 bytes in versions 1 and 2, 10 in version 3, behind the header's 14 and before the CRC's 2
+  pub other-length : (f out figs : List ℕ) (h : Header) → Begun f → fileHeader f ≡ Right h → (length f ≡ 14 + cond (ltb (versionAt f) 3) 9 10 * cellsOf h + 2 → ⊥)
+      → readFile f out figs ≡ outcome read.WrongLength (both out figs)

@@ -6,10 +6,17 @@ pub mod Demand1Inquire
 pub mod Demand2Done
 pub mod Demand2ByZero
 pub mod Demand2Again
+pub mod Wire
+pub mod Demand2Password
+pub mod Demand2Second
+pub mod Demand2Put
 pub mod Function4
 pub mod Demand3
 pub mod Seasons
 pub mod Lapses
 pub mod DayFigures
 pub mod Faults
+pub mod RegisterToCell
+pub mod Metered
+pub mod Columns
 pub mod Examples

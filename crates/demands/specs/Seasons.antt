@@ -8,11 +8,13 @@ use Prim.Native.Nat.{ℕ, _+_, _-_, _≤_, _<_}
 use lib.ListN.{length, take, drop, getD}
 use Rattle.refusal.specs.Outcome.{outcome}
 use Rattle.words.specs.Number.{Bytes}
+use Rattle.words.specs.Place.{byteAt}
 use Rattle.frame.specs.Layout.{readSize}
+use Rattle.frame.specs.Sealing.{crcFits}
 use Rattle.slots.specs.Day.{slotsOf}
 use Rattle.season_nights.specs.Night.{isSpring, isAutumn}
 use Rattle.season_nights.specs.Run.{hourOf}
-use Rattle.log.specs.Header.{cellsOf, versionAt, soundOf}
+use Rattle.log.specs.Header.{headerSize, cellsOf, markRight, versionAt, soundOf}
 use Rattle.log.specs.Interval.{nightOn, exists, existsAt}
 use Rattle.log.specs.View.{View, viewOf}
 use Rattle.log.specs.declared.cell.Cell.{Cell}
@@ -20,10 +22,14 @@ use Rattle.log.specs.declared.cell.Cell.the-variants.{Gap}
 use Rattle.log.specs.declared.cell.CellAnswer.{CellAnswer}
 use Rattle.log.specs.declared.cell.CellAnswer.the-variants.{Good}
 use Rattle.log.specs.declared.header.Header.{Header}
+use Rattle.log.specs.declared.header.HeaderAnswer.the-variants.{Right}
 use Rattle.log.specs.declared.header.Lent.the-variants.{Sound}
 use Rattle.day_figures.specs.Both.{Both, both}
 use Rattle.day_figures.specs.Rows.{figuresOf, walked, allFigures}
-use Rattle.logfile.specs.File.{fileBytesAs}
+use Rattle.logfile.specs.File.{isVersion, fileHeader, fileBytesAs, fileLengthAs, fileLength}
+use Rattle.logfile.specs.Row.{rowAt, lapsesIn}
+use Rattle.logfile.specs.Write.{writtenFile}
+use Rattle.logfile.specs.declared.write.WriteAnswer.the-variants as wrote
 use Rattle.logfile.specs.Read.{readFile}
 use Rattle.logfile.specs.declared.read.ReadAnswer.the-variants as read
 use Rattle.logger.specs.Ask.{asked, answered}
@@ -38,6 +44,25 @@ use Rattle.polling.specs.Next.{nextWanted}
 use Rattle.polling.specs.declared.next.Next.the-variants.{Slot}
 use Rattle.polling.specs.declared.next.Wanted.{Wanted}
 use Rattle.demands.specs.Demand3.{Start, ran}
+
+-- what the file's reader has passed before a header, and before its cells
+pub record Begun (f : List ℕ) : Type 0 where
+  pub long : headerSize ≤ length f
+  pub mark : markRight f ≡ true
+  pub known : isVersion (versionAt f) ≡ true
+
+pub record Whole (f : List ℕ) (h : Header) : Type 0 where
+  pub begun : Begun f
+  pub header : fileHeader f ≡ Right h
+  pub size : length f ≡ fileLengthAs (versionAt f) h
+  pub crc : crcFits f ≡ true
+
+-- "a nonexistent slot that isn't a gap" (CR 5), "also for lapses in a slot that doesn't exist" (CR 7): one of the cells
+pub record Misplaced (h : Header) (cell : ℕ → CellAnswer) (lapses : ℕ → ℕ) : Type 0 where
+  pub place : ℕ
+  pub among : place < cellsOf h
+  pub missing : existsAt h place ≡ false
+  pub filled : cell place ≡ Good Gap → lapses place ≡ 0 → ⊥
 
 pub record Seasons : Type 0 where
   -- "their cells stay gap in the image", whatever calls come, and count no lapse (CR 7)
@@ -67,3 +92,11 @@ pub record Seasons : Type 0 where
       h .seasons ≡ 0 → ((i : ℕ) → start .lapses i ≡ 0) → n ≤ length out → figuresOf h ≤ length figs
       → readFile (fileBytesAs 1 h (start .cells) (start .lapses)) out figs
       ≡ outcome (read.Done n) (both (b .log ++ drop n out) (allFigures h (viewOf (b .log) .cell) ++ drop (figuresOf h) figs))
+  -- "32 for another header byte (version 1: any but 0)"
+  pub other-byte : (f out figs : List ℕ) → Begun f → 1 < byteAt f 12 → readFile f out figs ≡ outcome read.WrongHeader (both out figs)
+  pub first-byte : (f out figs : List ℕ) → Begun f → versionAt f ≡ 1 → (byteAt f 12 ≡ 0 → ⊥) → readFile f out figs ≡ outcome read.WrongHeader (both out figs)
+  -- "35 for a nonexistent slot that isn't a gap; 28 where a cell that 35 so refuses is written out": both before any output, and with lapses too (CR 7)
+  pub misplaced-read : (f out figs : List ℕ) (h : Header) → Whole f h → Misplaced h (rowAt (versionAt f) f) (lapsesIn (versionAt f) f)
+      → readFile f out figs ≡ outcome read.WrongCell (both out figs)
+  pub misplaced-written : (v : View) (h : Header) (out : List ℕ) → v .lent ≡ Sound h → Misplaced h (v .cell) (v .lapses) → fileLength h ≤ length out
+      → writtenFile v out ≡ outcome wrote.Unsound out

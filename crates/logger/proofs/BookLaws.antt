@@ -3,21 +3,32 @@
 use mathlib.Core.Path.{_≡_, refl, sym, ap, ap₂, _∙_}
 use mathlib.Core.Bool.{Bool, true, false, cond, not, _&&_}
 use mathlib.Core.List.{List, [], _∷_, _++_}
-use Prim.Native.Nat.{ℕ, zero, suc, _+_, _<_}
+use Prim.Native.Nat.{ℕ, zero, suc, _+_, _*_, _<_}
 use native.Mathlib.Nat.{add-zero, add-suc, suc-add, not-suc-le-zero}
 use native.Mathlib.Omega.{arith}
 use borrow.Author.Tests.{eq-eqb, ne-eqb}
 use lib.ListN.{length, getD, set}
+use Rattle.words.specs.Place.{byteAt, numberAt}
+use Rattle.log.proofs.ByteLaws.{two}
 use Rattle.log.specs.Cell.{noCounts, isCell, IsCell}
 use Rattle.log.proofs.CellLaws.{gap-is-cell, empty-is-cell}
 use Rattle.log.specs.declared.cell.Cell.{Cell}
 use Rattle.log.specs.declared.cell.Cell.the-variants.{Gap, Empty, Measured}
 use Rattle.logger.specs.Take.{updateOf, sameCounts}
 use Rattle.logger.proofs.TakeLaws.{RowFits}
-use Rattle.logger.specs.Reply.{Row}
-use Rattle.logger.specs.Book.{isZero, alike, First, none, counts, firstOf, byFirst, afresh, keptAnswer, keptWith, workedOut}
+use Rattle.logger.specs.Reply.{Row, rowOf}
+use Rattle.logger.specs.Book.{countsIn, isZero, alike, First, none, counts, firstOf, byFirst, afresh, keptAnswer, keptWith, workedOut}
 use Rattle.logger.specs.declared.take.Update.{Update}
 use Rattle.logger.specs.declared.take.Update.the-variants.{Put, Keep, Conflict}
+
+-- ---- the counts of a reply
+
+-- those that the book finds in its bytes are those that the log takes
+pub counts-in : (y : List ℕ) → countsIn y ≡ rowOf y
+unfolding countsIn rowOf
+counts-in y =
+    let count : (i : ℕ) → byteAt y i + 256 * byteAt y (i + 1) ≡ numberAt y i 2 = λ i. omega (arith, two y i) in
+    cc (count 4, count 6, count 8, count 10)
 
 -- ---- one reply more
 

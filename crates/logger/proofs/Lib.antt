@@ -5,3 +5,4 @@ pub mod BookLaws
 pub mod StepLaws
 pub mod SeasonLaws
 pub mod FigureLaws
+pub mod HeardLaws

@@ -42,8 +42,8 @@ use Rattle.day_figures.proofs.RowsLaws.{right-enough}
 use Rattle.day_figures.specs.declared.put.FigureAnswer.the-variants as figure
 use Rattle.logger.proofs.TakeLaws.{by-none, by-open, by-form, by-ok, Step, Heard, Cases, decided-cases, RowFits, row-fits, PutsCell, update-cell}
 use Rattle.logger.specs.Book.{Call, ask, lapse, reply, Answer, Book, entry, plain, faultAnswer, placeOf, keptWith, lapsesWith, keepReply, bookReply, bookAsk}
-use Rattle.logger.specs.Book.{bookLapse, bookStep, workedOut, cutAt255, lapsesOut, afresh, CallBytes}
-use Rattle.logger.proofs.BookLaws.{effect, updateNumber, cell-more, number-more, length-workedOut, workedOut-at, workedOut-with, Fitting, fitting-more, afresh-is-cell}
+use Rattle.logger.specs.Book.{countsIn, bookLapse, bookStep, workedOut, cutAt255, lapsesOut, afresh, CallBytes}
+use Rattle.logger.proofs.BookLaws.{counts-in, effect, updateNumber, cell-more, number-more, length-workedOut, workedOut-at, workedOut-with, Fitting, fitting-more, afresh-is-cell}
 use Rattle.logger.specs.Run.{State, step, takeAnswer}
 use Rattle.logger.specs.declared.held.OpenAsk.{OpenAsk}
 use Rattle.logger.specs.declared.held.OpenAsk.the-variants.{Closed, Open}
@@ -166,7 +166,7 @@ module _ (h : Header) (kept : ℕ → List Row) (lapses : ℕ → ℕ) (figs : L
   read-here i l = cell-in cells i (rw length-workedOut l)
 
   -- what the log that they give is made of, and what is seen of it
-  whole : isHeader h ≡ true → Whole h cells (lapsesOut lapses)
+  pub whole : isHeader h ≡ true → Whole h cells (lapsesOut lapses)
   unfolding cells
   whole e = record {
     right = e;
@@ -175,7 +175,7 @@ module _ (h : Header) (kept : ℕ → List Row) (lapses : ℕ → ℕ) (figs : L
     fit = λ i. cut-fits (lapses i);
   }
 
-  seen-here : isHeader h ≡ true → viewOf (imageOf h cells (lapsesOut lapses)) ≡ viewBy h cells (lapsesOut lapses)
+  pub seen-here : isHeader h ≡ true → viewOf (imageOf h cells (lapsesOut lapses)) ≡ viewBy h cells (lapsesOut lapses)
   seen-here e = let w = whole e in view-image h cells (lapsesOut lapses) (w .right) (w .count) (w .each)
 
   -- the figures are those of the cells
@@ -239,7 +239,7 @@ module _ (h : Header) (kept : ℕ → List Row) (lapses : ℕ → ℕ) (figs : L
         let kept-here = keep-agrees held i (o .ask) (rowOf y) (row-fits y bytes) e right l in
         subst (λ (x : Outcome Answer Book).
         Agree h (takeStep (imageOf h cells (lapsesOut lapses)) (Take.updated (Take.updateOf c (rowOf y)) (comesTwice h (o .ask .day) (o .ask .slot)) held (o .ask .day) i c figs)) x)
-        (sym (rw (o .ask .open-ask, o .formed, q, cell-asked held i (o .ask)) refl))
+        (sym (rw (o .ask .open-ask, o .formed, q, cell-asked held i (o .ask), counts-in y) refl))
         (subst (λ (x : Cell).
         Agree h (takeStep (imageOf h cells (lapsesOut lapses)) (Take.updated (Take.updateOf x (rowOf y)) (comesTwice h (o .ask .day) (o .ask .slot)) held (o .ask .day) i x figs))
         (keepReply kept lapses i (rowOf y))) (sym same) kept-here);
@@ -336,7 +336,7 @@ module _ (h : Header) (kept : ℕ → List Row) (lapses : ℕ → ℕ) (rows : (
       by-open KeepsSane held (λ o. same) (λ a d t o.
       by-form KeepsSane (sliceForm a y) (λ fault e. same) (λ e.
       by-ok KeepsSane (resultOf y) (λ e. record { inside = tt; rows = rows }) (λ e.
-      record { inside = tt; rows = kept-fits kept (placeOf h d t) (rowOf y) rows (row-fits y k) })))
+      record { inside = tt; rows = kept-fits kept (placeOf h d t) (countsIn y) rows (subst RowFits (sym (counts-in y)) (row-fits y k)) })))
 
 pub step-sane : (h : Header) (b : Book) (c : Call) → Sane h b → CallBytes c → Sane h (bookStep h b c .left)
 unfolding bookStep bookLapse

@@ -16,10 +16,11 @@ use Rattle.log.specs.declared.header.Header.{Header}
 use Rattle.log.specs.declared.cell.Cell.{Cell}
 use Rattle.log.specs.declared.cell.Cell.the-variants.{Gap, Empty, Measured}
 use Rattle.words.specs.Number.{Bytes}
+use Rattle.words.specs.Place.{byteAt}
 use Rattle.reader.specs.declared.form.Fault.{Fault}
 use Rattle.reader.specs.declared.form.Fault.the-variants as fault
 use Rattle.logger.specs.Held.{ifNone, ifOpen}
-use Rattle.logger.specs.Reply.{sliceForm, ifFormed, resultOf, ifOk, Row, rowOf}
+use Rattle.logger.specs.Reply.{sliceForm, ifFormed, resultOf, ifOk, Row}
 use Rattle.logger.specs.declared.held.OpenAsk.{OpenAsk}
 use Rattle.logger.specs.declared.held.OpenAsk.the-variants.{Closed, Open}
 
@@ -45,6 +46,17 @@ faultAnswer fault.Crc = plain 51
 faultAnswer fault.Address = plain 52
 faultAnswer fault.Function = plain 53
 faultAnswer fault.Parameter = plain 54
+
+-- the counts of a slice's reply, by its bytes: behind address, function, parameter and result those of 002's figure 18, "E+ E- R+ R-", 2 bytes each with
+-- function 3, lowest first
+unfoldable pub countsIn : List ℕ → Row
+countsIn y =
+    record {
+      e+ = byteAt y 4 + 256 * byteAt y 5;
+      e- = byteAt y 6 + 256 * byteAt y 7;
+      r+ = byteAt y 8 + 256 * byteAt y 9;
+      r- = byteAt y 10 + 256 * byteAt y 11;
+    }
 
 unfoldable pub isZero : Row → Bool
 isZero r = eqb (r .e+) 0 && eqb (r .e-) 0 && eqb (r .r+) 0 && eqb (r .r-) 0
@@ -122,12 +134,12 @@ keepReply kept lapses i r = entry (plain (keptAnswer (firstOf (kept i)) r)) Clos
 -- "A reply gets 20 with none open. If it isn't well formed it gets 23", now one of the five, "and the ask stays. Else the ask closes: a
 -- result other than 0 gets 24 with that result; any other reply is kept for the ask's interval"
 unfoldable pub bookReply : Header → OpenAsk → (ℕ → List Row) → (ℕ → ℕ) → List ℕ → Outcome Answer Book
-unfolding keepReply
+unfolding keepReply countsIn
 bookReply h held kept lapses y =
     ifOpen held (entry (plain 20) held kept lapses) (λ address day slot.
     ifFormed (sliceForm address y) (λ fault. entry (faultAnswer fault) held kept lapses) (
     ifOk (resultOf y) (entry (record { number = 24; result = resultOf y; length = 0 }) Closed kept lapses) (
-    keepReply kept lapses (placeOf h day slot) (rowOf y))))
+    keepReply kept lapses (placeOf h day slot) (countsIn y))))
 
 -- "An ask gets 1, 21 or 22 by the table, else 0 and opens"; document 02, CR 5: "22 also for a slot that doesn't exist"
 unfoldable pub bookAsk : Header → OpenAsk → (ℕ → List Row) → (ℕ → ℕ) → ℕ → ℕ → ℕ → List ℕ → Outcome Answer Book

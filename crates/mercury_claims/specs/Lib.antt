@@ -1,3 +1,4 @@
 pub mod MercuryDemand1
 pub mod Inverse
+pub mod MercuryWire
 pub mod Vectors

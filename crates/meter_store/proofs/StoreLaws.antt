@@ -123,7 +123,7 @@ module _ (s : List ℕ) (k : Key) (row : List ℕ) (p : ℕ) (l : length s ≡ s
   count-there j b =
       numberAt-written-behind s (11 * p) (placeBytesOf k row) j 2 (rw length-placeBytesOf b) (rw length-placeBytesOf (omega arith))
 
-  key-there : keyAt (written s (11 * p) (placeBytesOf k row)) p ≡ k
+  pub key-there : keyAt (written s (11 * p) (placeBytesOf k row)) p ≡ k
   unfolding keyAt placeBytesOf
   key-there = simp (rw add-zero at (byte-there 0 (omega arith)), byte-there 1 (omega arith), byte-there 2 (omega arith))
 
@@ -147,7 +147,7 @@ module _ (s : List ℕ) (k : Key) (row : List ℕ) (p i : ℕ) (d : p ≡ i → 
   count-elsewhere : (j : ℕ) → j + 2 ≤ 11 → numberAt (written s (11 * p) (placeBytesOf k row)) (11 * i + j) 2 ≡ numberAt s (11 * i + j) 2
   count-elsewhere j b = numberAt-kept s (11 * p) (placeBytesOf k row) (11 * i + j) 2 (apart j 2 b)
 
-  key-elsewhere : keyAt (written s (11 * p) (placeBytesOf k row)) i ≡ keyAt s i
+  pub key-elsewhere : keyAt (written s (11 * p) (placeBytesOf k row)) i ≡ keyAt s i
   unfolding keyAt
   key-elsewhere = simp (rw add-zero at (byte-elsewhere 0 (omega arith)), byte-elsewhere 1 (omega arith), byte-elsewhere 2 (omega arith))
 

@@ -2,8 +2,3 @@ pub mod BitsLaws
 pub mod WireLaws
 pub mod LogLaws
 pub mod CellLaws
-pub mod WidthLaws
-pub mod Ends
-pub mod History
-pub mod Kept
-pub mod Claims

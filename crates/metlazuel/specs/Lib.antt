@@ -4,7 +4,3 @@ pub mod CellCalls
 pub mod Bits
 pub mod WireCalls
 pub mod MeterCalls
-pub mod Demand1
-pub mod MeterRun
-pub mod Demand2
-pub mod Demand3

@@ -43,7 +43,8 @@ unfolding fittedTo
 fitted-right true n x h p = p
 fitted-right false n x h p = absurd (unsound≢sound h p)
 
-sound-size : (s : List ℕ) (h : Header) → soundOf s ≡ Sound h → length s ≡ lengthOf h
+-- a log is as long as its header says
+pub sound-size : (s : List ℕ) (h : Header) → soundOf s ≡ Sound h → length s ≡ lengthOf h
 unfolding soundOf headerOf
 sound-size s h p =
     let a = chosen (markRight s && versionRight s) (fittedTo (length s) (headerOf s)) Unsound p (unsound≢sound h) in
@@ -260,6 +261,13 @@ module _ (s : List ℕ) (h : Header) (i : ℕ) (p : soundOf s ≡ Sound h) (l : 
       seen-of (putLapses s i n) h (soundOf-putLapses s i n ∙ p)
       ∙ same-view h (λ j. cellAt-lapses s i j n) (λ j. lapses-put n j (eqb j i) refl)
       ∙ ap (changed (Lapses i n)) (sym (seen-of s h p))
+
+-- a change leaves the length
+pub length-applied : (ch : Change) (s : List ℕ) → length (applied ch s) ≡ length s
+unfolding applied putCell putLapses
+length-applied None s = refl
+length-applied (Put i c) s = length-written s (cellStart i) (countsBytes c)
+length-applied (Lapses i n) s = length-written s (lapsesPlace i) (n ∷ [])
 
 -- what is seen after a change that the log can hold is what was seen, so changed
 pub view-applied : (s : List ℕ) (ch : Change) → Holds (viewOf s) ch → viewOf (applied ch s) ≡ changed ch (viewOf s)

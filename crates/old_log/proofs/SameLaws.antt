@@ -114,89 +114,93 @@ old-length : (h : Header) (cs : List Cell) (lapses : ℕ → ℕ) → length cs 
 unfolding old.lengthOf
 old-length h cs lapses e = laws.length-imageOf lapses h cs ∙ omega (arith, e)
 
-images-made : (h : Header) (cs : List Cell) (lapses : ℕ → ℕ) (a b : List ℕ) → isHeader h ≡ true → length cs ≡ cellsOf h → AllCells cs → Rooms h a b
-    → Made (written a 0 (old.imageOf h cs lapses)) (written b 0 (imageOf h cs lapses))
-images-made h cs lapses a b right count each room =
+images-made : {A : Type 0} (done : ℕ → A) (h : Header) (cs : List Cell) (lapses : ℕ → ℕ) (a b figs : List ℕ) → isHeader h ≡ true → length cs ≡ cellsOf h
+    → AllCells cs → Rooms h a b
+    → Made done (outcome (done (rows .size h)) (both (written a 0 (old.imageOf h cs lapses)) figs))
+    (outcome (done (columns .size h)) (both (written b 0 (imageOf h cs lapses)) figs))
+images-made done h cs lapses a b figs right count each room =
     let p = front a (old.imageOf h cs lapses) (old.lengthOf h) (old-length h cs lapses count) (room .of-rows) in
     let q = front b (imageOf h cs lapses) (lengthOf h) (length-image h cs lapses count) (room .of-columns) in
     record {
       header = h;
+      old-told = refl;
+      new-told = refl;
       sound = ap (λ (x : List ℕ). viewOf x .lent) q ∙ sound-image lapses h cs right count;
       seen = ap old.viewOf p ∙ same-image h cs lapses right count each ∙ sym (ap viewOf q);
     }
 
 -- one of a call's checks, by both
-module _ {A : Type 0} (number : A → ℕ) (a b figs : List ℕ) where
-  same-refusal : (r : A) → 0 < number r → SameMade number a b (outcome r (both a figs)) (outcome r (both b figs))
+module _ {A : Type 0} (number : A → ℕ) (done : ℕ → A) (a b figs : List ℕ) where
+  same-refusal : (r : A) → 0 < number r → SameMade number done a b (outcome r (both a figs)) (outcome r (both b figs))
   same-refusal r l = record { answer = refl; figures = refl; made = λ e. absurd (omega (arith, l, e)); refused = λ n. (refl, refl) }
 
-  same-check : (c : Bool) (r : A) (x y : Outcome A Both) → 0 < number r → (c ≡ true → SameMade number a b x y)
-      → SameMade number a b (check c (outcome r (both a figs)) x) (check c (outcome r (both b figs)) y)
+  same-check : (c : Bool) (r : A) (x y : Outcome A Both) → 0 < number r → (c ≡ true → SameMade number done a b x y)
+      → SameMade number done a b (check c (outcome r (both a figs)) x) (check c (outcome r (both b figs)) y)
   same-check true r x y l f = f refl
   same-check false r x y l f = same-refusal r l
 
 -- the room is there
-room-check : {A : Type 0} (number : A → ℕ) (a b : List ℕ) (h : Header) (p q x y : Outcome A Both) → Rooms h a b → SameMade number a b x y
-    → SameMade number a b (check (leb (rows .size h) (length a)) p x) (check (leb (columns .size h) (length b)) q y)
-room-check number a b h p q x y room f = rw (le-leb _ _ (room .of-rows), le-leb _ _ (room .of-columns)) f
+room-check : {A : Type 0} (number : A → ℕ) (done : ℕ → A) (a b : List ℕ) (h : Header) (p q x y : Outcome A Both) → Rooms h a b → SameMade number done a b x y
+    → SameMade number done a b (check (leb (rows .size h) (length a)) p x) (check (leb (columns .size h) (length b)) q y)
+room-check number done a b h p q x y room f = rw (le-leb _ _ (room .of-rows), le-leb _ _ (room .of-columns)) f
 
 gaps-cells : (n : ℕ) → AllCells (gaps n)
 gaps-cells n i l = rw (gap-at n i (rw length-gaps at l)) gap-is-cell
 
-pub same-fresh : (h : Header) (a b figs : List ℕ) → Rooms h a b → SameMade freshNumber a b (freshIn rows h a figs) (freshIn columns h b figs)
+pub same-fresh : (h : Header) (a b figs : List ℕ) → Rooms h a b → SameMade freshNumber fresh.Done a b (freshIn rows h a figs) (freshIn columns h b figs)
 unfolding freshIn
 same-fresh h a b figs room =
-    same-check freshNumber a b figs (isHeader h) fresh.OutOfRange _ _ (omega arith) (λ right.
-    same-check freshNumber a b figs (enough h figs) fresh.TooShort _ _ (omega arith) (λ many.
-    room-check freshNumber a b h _ _ _ _ room (record {
+    same-check freshNumber fresh.Done a b figs (isHeader h) fresh.OutOfRange _ _ (omega arith) (λ right.
+    same-check freshNumber fresh.Done a b figs (enough h figs) fresh.TooShort _ _ (omega arith) (λ many.
+    room-check freshNumber fresh.Done a b h _ _ _ _ room (record {
       answer = refl;
       figures = refl;
-      made = λ e. images-made h (gaps (cellsOf h)) noLapses a b right (length-gaps (cellsOf h)) (gaps-cells (cellsOf h)) room;
+      made = λ e. images-made fresh.Done h (gaps (cellsOf h)) noLapses a b _ right (length-gaps (cellsOf h)) (gaps-cells (cellsOf h)) room;
       refused = λ n. absurd (n refl);
     })))
 
 module _ (f a b figs : List ℕ) (bytes : Bytes f) where
-  same-cells : (h : Header) → isHeader h ≡ true → Rooms h a b → SameMade readNumber a b (readCellsIn rows f h a figs) (readCellsIn columns f h b figs)
+  same-cells : (h : Header) → isHeader h ≡ true → Rooms h a b → SameMade readNumber Done a b (readCellsIn rows f h a figs) (readCellsIn columns f h b figs)
   unfolding readCellsIn
   same-cells h right room =
       let cell = rowAt (versionAt f) f in
       let lapses = lapsesIn (versionAt f) f in
       let cs = cellsIn f (cellsOf h) in
-      same-check readNumber a b figs (cellsRight h cell lapses) WrongCell _ _ (omega arith) (λ good.
-      room-check readNumber a b h _ _ _ _ room (
-      same-check readNumber a b figs (enough h figs) TooShort _ _ (omega arith) (λ many.
+      same-check readNumber Done a b figs (cellsRight h cell lapses) WrongCell _ _ (omega arith) (λ good.
+      room-check readNumber Done a b h _ _ _ _ room (
+      same-check readNumber Done a b figs (enough h figs) TooShort _ _ (omega arith) (λ many.
       let seen = passed cell (cellsOf h) 0 (right-good h cell lapses good) in
       record {
         answer = refl;
         figures = refl;
         made = λ e.
-            images-made h cs lapses a b right (seen .count)
+            images-made Done h cs lapses a b _ right (seen .count)
             (λ j l. read-is-cell (versionAt f) f bytes (0 + j) (getD cs j Gap) (seen .each j (rw (seen .count) at l))) room;
         refused = λ n. absurd (n refl);
       })))
 
-  same-fields : FileRooms f a b → SameMade readNumber a b (readFieldsIn rows f a figs) (readFieldsIn columns f b figs)
+  same-fields : FileRooms f a b → SameMade readNumber Done a b (readFieldsIn rows f a figs) (readFieldsIn columns f b figs)
   unfolding readFieldsIn
-  same-fields room = same-check readNumber a b figs (leb headerSize (length f)) WrongHeader _ _ (omega arith) (λ enough. go (fileHeader f) refl)
+  same-fields room = same-check readNumber Done a b figs (leb headerSize (length f)) WrongHeader _ _ (omega arith) (λ enough. go (fileHeader f) refl)
     where
       go : (r : HeaderAnswer) → fileHeader f ≡ r
-          → SameMade readNumber a b
+          → SameMade readNumber Done a b
           (ifRight r (outcome WrongHeader (both a figs)) (λ h.
           check (eqb (length f) (fileLengthAs (versionAt f) h)) (outcome WrongLength (both a figs)) (
           check (crcFits f) (outcome WrongCrc (both a figs)) (readCellsIn rows f h a figs))))
           (ifRight r (outcome WrongHeader (both b figs)) (λ h.
           check (eqb (length f) (fileLengthAs (versionAt f) h)) (outcome WrongLength (both b figs)) (
           check (crcFits f) (outcome WrongCrc (both b figs)) (readCellsIn columns f h b figs))))
-      go Wrong p = same-refusal readNumber a b figs WrongHeader (omega arith)
+      go Wrong p = same-refusal readNumber Done a b figs WrongHeader (omega arith)
       go (Right h) p =
-          same-check readNumber a b figs (eqb (length f) (fileLengthAs (versionAt f) h)) WrongLength _ _ (omega arith) (λ size.
-          same-check readNumber a b figs (crcFits f) WrongCrc _ _ (omega arith) (λ crc. same-cells h (file-header-right f h p) (room h p)))
+          same-check readNumber Done a b figs (eqb (length f) (fileLengthAs (versionAt f) h)) WrongLength _ _ (omega arith) (λ size.
+          same-check readNumber Done a b figs (crcFits f) WrongCrc _ _ (omega arith) (λ crc. same-cells h (file-header-right f h p) (room h p)))
 
-  pub same-read : FileRooms f a b → SameMade readNumber a b (readIn rows f a figs) (readIn columns f b figs)
+  pub same-read : FileRooms f a b → SameMade readNumber Done a b (readIn rows f a figs) (readIn columns f b figs)
   unfolding readIn
   same-read room =
-      same-check readNumber a b figs (leb markSize (length f) && markRight f) WrongMark _ _ (omega arith) (λ mark.
-      same-check readNumber a b figs (isVersion (versionAt f)) WrongVersion _ _ (omega arith) (λ known. same-fields room))
+      same-check readNumber Done a b figs (leb markSize (length f) && markRight f) WrongMark _ _ (omega arith) (λ mark.
+      same-check readNumber Done a b figs (isVersion (versionAt f)) WrongVersion _ _ (omega arith) (λ known. same-fields room))
 
 -- ---- a list of calls
 

@@ -12,11 +12,13 @@ use Rattle.log.specs.View.{View}
 use Rattle.log.specs.declared.header.Header.{Header}
 use Rattle.log.specs.declared.header.HeaderAnswer.the-variants.{Right}
 use Rattle.log.specs.declared.header.Lent.the-variants.{Sound}
+use Rattle.log.specs.declared.fresh.FreshAnswer.the-variants as fresh
 use Rattle.day_figures.specs.Both.{Both, both}
 use Rattle.day_figures.specs.Fresh.{freshWith}
 use Rattle.logfile.specs.File.{fileHeader}
 use Rattle.logfile.specs.Read.{readNumber, readFile}
 use Rattle.logfile.specs.Write.{writtenFile}
+use Rattle.logfile.specs.declared.read.ReadAnswer.the-variants as read
 use Rattle.dayreport.specs.Report.{reportOf}
 use Rattle.dayreport.specs.Day.{dayText}
 use Rattle.dayreport.specs.Strip.{stripText}
@@ -49,17 +51,20 @@ pub record SameBoth {A : Type 0} (o n : Outcome A Both) : Type 0 where
   pub seen : Alike (o .left .log) (n .left .log)
   pub figures : o .left .figures ≡ n .left .figures
 
--- at the front of an old and a new output stand logs with one header, as long as each layout asks, and the same is seen of both
-pub record Made (s t : List ℕ) : Type 0 where
+-- at the front of an old and a new output stand logs with one header, as long as each layout asks, which is the length that is told, and the same is seen of
+-- both
+pub record Made {A : Type 0} (done : ℕ → A) (o n : Outcome A Both) : Type 0 where
   pub header : Header
-  pub sound : columns .view (take (columns .size header) t) .lent ≡ Sound header
-  pub seen : Alike (take (rows .size header) s) (take (columns .size header) t)
+  pub old-told : o .result ≡ done (rows .size header)
+  pub new-told : n .result ≡ done (columns .size header)
+  pub sound : columns .view (take (columns .size header) (n .left .log)) .lent ≡ Sound header
+  pub seen : Alike (take (rows .size header) (o .left .log)) (take (columns .size header) (n .left .log))
 
 -- of one that makes a log, by the number of its answer: 0 comes with each layout's own length. A refusal leaves both outputs
-pub record SameMade {A : Type 0} (number : A → ℕ) (a b : List ℕ) (o n : Outcome A Both) : Type 0 where
+pub record SameMade {A : Type 0} (number : A → ℕ) (done : ℕ → A) (a b : List ℕ) (o n : Outcome A Both) : Type 0 where
   pub answer : number (o .result) ≡ number (n .result)
   pub figures : o .left .figures ≡ n .left .figures
-  pub made : number (n .result) ≡ 0 → Made (o .left .log) (n .left .log)
+  pub made : number (n .result) ≡ 0 → Made done o n
   pub refused : (number (n .result) ≡ 0 → ⊥) → (o .left .log ≡ a) × (n .left .log ≡ b)
 
 -- of what calls hand on to each other
@@ -108,7 +113,7 @@ pub record SameAnswers : Type 1 where
   pub write : (s t : List ℕ) → Alike s t → (out : List ℕ) → writtenFile (rows .view s) out ≡ writtenFile (columns .view t) out
   -- any other look at a log goes by its view too: the functions for C that tell a cell and the next gap (`cellForC`, `nextGapForC`), the console's `cell`
   pub look : (s t : List ℕ) → Alike s t → {A : Type 0} (f : View → A) → f (rows .view s) ≡ f (columns .view t)
-  pub fresh : (h : Header) (a b figs : List ℕ) → Rooms h a b → SameMade freshNumber a b (freshIn rows h a figs) (freshIn columns h b figs)
-  pub read : (f a b figs : List ℕ) → Bytes f → FileRooms f a b → SameMade readNumber a b (readIn rows f a figs) (readIn columns f b figs)
+  pub fresh : (h : Header) (a b figs : List ℕ) → Rooms h a b → SameMade freshNumber fresh.Done a b (freshIn rows h a figs) (freshIn columns h b figs)
+  pub read : (f a b figs : List ℕ) → Bytes f → FileRooms f a b → SameMade readNumber read.Done a b (readIn rows f a figs) (readIn columns f b figs)
   -- and so from every list of asks, lapses and replies, each of which gets what the one before left
   pub run : (s t : State) → SameState s t → (calls : List Call) → AllBytes calls → SameRun (runIn rows s calls) (runIn columns t calls)

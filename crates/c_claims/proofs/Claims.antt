@@ -1,10 +1,16 @@
 -- The theorems: every claim of specs/ with its proof, which has the claim's name.
-use Rattle.metlazuel.specs.Demand1.{Demand1C}
-use Rattle.metlazuel.specs.Demand2.{Demand2C}
-use Rattle.metlazuel.specs.Demand3.{Demand3C}
-use Rattle.metlazuel.proofs.Ends as ends
-use Rattle.metlazuel.proofs.History as history
-use Rattle.metlazuel.proofs.Kept as kept
+use Rattle.c_claims.specs.Demand1.{Demand1C}
+use Rattle.c_claims.specs.Demand2.{Demand2C}
+use Rattle.c_claims.specs.Demand3.{Demand3C}
+use Rattle.c_claims.specs.Beginnings.{Beginnings}
+use Rattle.c_claims.specs.Reading.{ReadForC}
+use Rattle.c_claims.specs.RegisterToCell.{RegisterToCellC}
+use Rattle.c_claims.proofs.Ends as ends
+use Rattle.c_claims.proofs.History as history
+use Rattle.c_claims.proofs.Kept as kept
+use Rattle.c_claims.proofs.Beginnings as begin
+use Rattle.c_claims.proofs.Reading as reads
+use Rattle.c_claims.proofs.RegisterToCell as round
 
 pub demand-1 : Demand1C
 demand-1 = record {
@@ -48,3 +54,12 @@ demand-3 = record {
   as-many = history.as-many;
   unread = history.unread;
 }
+
+pub beginnings : Beginnings
+beginnings = record { none-open = begin.none-open; fresh = begin.fresh; fresh-had = begin.fresh-had; file = begin.file; file-had = begin.file-had }
+
+pub reading : ReadForC
+reading = record { read = reads.read; inquired = reads.inquired }
+
+pub register-to-cell : RegisterToCellC
+register-to-cell = record { met = round.met; joined = round.joined }

@@ -22,8 +22,8 @@ use Rattle.meter_command.specs.Access.{changeAllowed}
 use Rattle.meter_command.specs.Parts.{functionIn, parameterIn}
 use Rattle.meter.specs.Reply.{answerOf}
 use Rattle.demands.specs.Changes.{Permitted}
 use Rattle.metlazuel.specs.MeterCalls.{madeIn, makeForC}
-use Rattle.metlazuel.specs.MeterRun.{MeterCall, make, second, powers, ratios, slice, frame, Meter, meter, recordStep, bytesStep, meterRun}
+use Rattle.c_claims.specs.MeterRun.{MeterCall, make, second, powers, ratios, slice, frame, Meter, meter, recordStep, bytesStep, meterRun}
 
 -- the lent bytes are read as the record, whose numbers fit their widths, and the stores are the same
 pub record Holds (m : Meter (List ℕ)) (x : Meter Record) : Type 0 where

@@ -34,10 +34,10 @@ use Rattle.c_values.specs.declared.ask.AskRead.the-variants.{Read, Unreadable}
 use Rattle.demands.specs.Demand3.{OtherCell, Elsewhere, SameCell, begin, booked, logAfresh}
 use Rattle.demands.specs.DayFigures.{OtherDay}
 use Rattle.demands.proofs.Claims as claims
 use Rattle.metlazuel.specs.Calls.{resultAfter, receivedAfter}
 use Rattle.metlazuel.specs.LogCalls.{askForC, lapseForC, takeForC}
-use Rattle.metlazuel.specs.Demand3.{Lent, stateOf, told, stepForC, ranForC, Begins}
-use Rattle.metlazuel.proofs.LogLaws as left
+use Rattle.c_claims.specs.Demand3.{Lent, stateOf, told, stepForC, ranForC, Begins}
+use Rattle.c_claims.proofs.LogLaws as left
 
 -- ---- what C is told is the call's answer
 
@@ -114,7 +114,7 @@ step-alike m held (reply y) e = record {
   answer = rw e (taken-told y (m .result) (m .size) (viewOf (m .log)) (m .figures) held);
   holds = record {
     log = rw e refl;
-    figures = rw e refl;
+    figures = ap (λ (a : AskRead). takeForC a (both (m .log) (m .figures)) (m .ask) y (m .result) (m .size) .left .2 .figures) e;
     ask = left.take-left (m .ask) (both (m .log) (m .figures)) held y (m .result) (m .size) e;
   };
 }
@@ -137,6 +137,10 @@ module _ (m : Lent) (b : Begins m) (calls : List Call) (k : AllBytes calls) wher
 
   whole : Holds (ranForC m calls .left) (run (begin first) calls .left) × (ranForC m calls .result ≡ run (begin first) calls .result)
   whole = run-alike m (begin first) calls (record { log = refl; figures = refl; ask = b .closed })
+
+  -- the memory after them is what the calls below leave
+  pub same-both : let after = ranForC m calls .left in let s = run (begin first) calls .left in both (after .log) (after .figures) ≡ both (s .log) (s .figures)
+  same-both = ap₂ both (whole .0 .log) (whole .0 .figures)
 
   pub log : ranForC m calls .left .log ≡ logAfresh (b .start) calls
   log = whole .0 .log ∙ claims.demand-3 .log first (b .start) calls k

@@ -43,7 +43,7 @@ use Rattle.log.specs.declared.header.Lent.{Lent}
 use Rattle.day_figures.specs.Both.{Both, both}
 use Rattle.day_figures.specs.Fresh.{freshWith}
 use Rattle.dayreport.specs.Report.{reportOf, reportNumber}
-use Rattle.logfile.specs.Read.{readFile, readNumber}
+use Rattle.logfile.specs.Read.{ifRead, readFile, readNumber}
 use Rattle.logfile.specs.Write.{writtenFile, writeNumber}
 use Rattle.logfile.specs.declared.read.ReadAnswer.{ReadAnswer}
 use Rattle.logfile.specs.declared.read.ReadAnswer.the-variants as file
@@ -61,13 +61,13 @@ use Rattle.c_values.specs.declared.ask.AskRead.the-variants.{Read, Unreadable}
 use Rattle.demands.specs.Demand1.{inTable, Ends, EndsBy, givesFrame}
 use Rattle.demands.proofs.Calls.{done, stays}
 use Rattle.demands.proofs.Claims as claims
 use Rattle.metlazuel.specs.Calls.{numbered, sized, unreadNumber, resultAfter, receivedAfter}
 use Rattle.metlazuel.specs.LogCalls.{headerFrom, imageLength, fileLength, lengthAfter, askLeft, askForC, lapseCloses, lapseForC, closes, takeForC}
 use Rattle.metlazuel.specs.CellCalls.{cellForC, nextGapForC}
 use Rattle.metlazuel.specs.WireCalls.{requestFrom, countAfter, decodedForC, decodeForC}
 use Rattle.metlazuel.specs.MeterCalls.{telemetryFrom, clockFrom, phasesFrom, ratiosFrom, key, row, madeIn, secondIn, powersIn, ratiosIn, sliceIn}
 use Rattle.metlazuel.specs.MeterCalls.{bytesAfter, benchForC, makeForC, putForC, bytesLeft, sentLength, answerForC}
-use Rattle.metlazuel.specs.Demand1.{EndsForC, RefusedOutput}
+use Rattle.c_claims.specs.Demand1.{EndsForC, RefusedOutput}
 
 -- 1 or 28 for bytes that are no ask or no record, and nothing done
 unread : {A : Type 0} (room least : ℕ) (x : A) → Ends (unreadNumber room least) x x
@@ -81,7 +81,8 @@ sized-ends : {A L : Type 0} (number : A → ℕ) (size : A → ℕ → ℕ) → 
 sized-ends number size left o out n e =
     record { in-table = e .in-table; unchanged = λ r. rw (left (o .result) n r, e .unchanged r) }
 
-image-kept : (a : FreshAnswer) (n : ℕ) → (freshNumber a ≡ 0 → ⊥) → imageLength a n ≡ n
+-- a refused log leaves the word behind `length`
+pub image-kept : (a : FreshAnswer) (n : ℕ) → (freshNumber a ≡ 0 → ⊥) → imageLength a n ≡ n
 unfolding imageLength
 image-kept (made.Done k) n r = absurd (r refl)
 image-kept made.OutOfRange n r = refl
@@ -93,16 +94,21 @@ file-kept (wrote.Done k) n r = absurd (r refl)
 file-kept wrote.Unsound n r = refl
 file-kept wrote.TooShort n r = refl
 
-length-kept : (a : ReadAnswer) (n : ℕ) → (readNumber a ≡ 0 → ⊥) → lengthAfter a n ≡ n
+-- a file that is refused gives nothing
+pub read-refused : {A : Type 0} (a : ReadAnswer) (other : A) (f : ℕ → A) → (readNumber a ≡ 0 → ⊥) → ifRead a other f ≡ other
+read-refused (file.Done k) other f r = absurd (r refl)
+read-refused file.WrongMark other f r = refl
+read-refused file.WrongVersion other f r = refl
+read-refused file.WrongHeader other f r = refl
+read-refused file.WrongLength other f r = refl
+read-refused file.WrongCrc other f r = refl
+read-refused file.WrongCell other f r = refl
+read-refused file.TooShort other f r = refl
+
+-- and so does a refused file
+pub length-kept : (a : ReadAnswer) (n : ℕ) → (readNumber a ≡ 0 → ⊥) → lengthAfter a n ≡ n
 unfolding lengthAfter
-length-kept (file.Done k) n r = absurd (r refl)
-length-kept file.WrongMark n r = refl
-length-kept file.WrongVersion n r = refl
-length-kept file.WrongHeader n r = refl
-length-kept file.WrongLength n r = refl
-length-kept file.WrongCrc n r = refl
-length-kept file.WrongCell n r = refl
-length-kept file.TooShort n r = refl
+length-kept a n r = read-refused a n (λ k. k) r
 
 pub log-fresh : (year month day days minutes ke seasons : ℕ) (log figs : List ℕ) (n : ℕ)
     → EndsForC (n, both log figs) (sized freshNumber imageLength (freshWith (headerFrom year month day days minutes ke seasons) log figs) n)

@@ -44,10 +44,10 @@ use Rattle.meter.specs.Reply.{isSound, heard, verdictOn, replied, answerOf}
 use Rattle.meter.proofs.KeepLaws as keep
 use Rattle.demands.specs.Changes.{Permitted}
 use Rattle.demands.proofs.Claims as claims
 use Rattle.metlazuel.specs.MeterCalls.{phasesFrom, ratiosFrom, madeIn, secondIn, powersIn, ratiosIn, sliceIn, bytesAfter, makeForC, bytesLeft, answerForC}
-use Rattle.metlazuel.specs.MeterRun.{MeterCall, make, second, powers, ratios, slice, frame, Meter, meter, Told, recordAfter, recordStep, bytesStep, meterRun}
-use Rattle.metlazuel.specs.Demand2.{Holds, EndAlike, CallFits, AllFit}
-use Rattle.metlazuel.proofs.WidthLaws.{fresh-fits, later-fits, from-fits, powers-fit, ratios-fit, place-fits, after-fits, read-back, read-again, read-fits}
+use Rattle.c_claims.specs.MeterRun.{MeterCall, make, second, powers, ratios, slice, frame, Meter, meter, Told, recordAfter, recordStep, bytesStep, meterRun}
+use Rattle.c_claims.specs.Demand2.{Holds, EndAlike, CallFits, AllFit}
+use Rattle.c_claims.proofs.WidthLaws.{fresh-fits, later-fits, from-fits, powers-fit, ratios-fit, place-fits, after-fits, read-back, read-again, read-fits}
 
 -- bytes that are read as a record whose numbers fit
 abbrev Reads : List ℕ → Record → Type 0

@@ -1,0 +1,9 @@
+pub mod LogLaws
+pub mod WidthLaws
+pub mod Ends
+pub mod History
+pub mod Kept
+pub mod Beginnings
+pub mod Reading
+pub mod RegisterToCell
+pub mod Claims
