@@ -7,10 +7,17 @@ mod verb;
 use console_io::Rest;
 use console_log::Kept;
 use frame::code::Reading;
+use frame::layout::LONGEST;
 use logger::OpenAsk;
 use mercury_bench::Meter;
 use meter_record::Record;
 use meter_record::RecordAnswer;
+ghost use mathlib.Core.Path.{_≡_};
+ghost use mathlib.Core.Bool.{cond};
+ghost use lib.Dec.{eqb, leb};
+ghost use Rattle.refusal.specs.Outcome.{outcome};
+ghost use Rattle.console_meter.specs.Lines.{meterAfter};
+ghost use Rattle.console_mercury.specs.Lines.{mercuryAfter};
 
 // The program's own name.
 const ITS_WORDS: usize = 1;
@@ -108,16 +115,35 @@ fn read(verb: usize, line: &[u8], image: &[u8], figures: &[u32], held: OpenAsk) 
     }
 }
 
-fn on_meter(verb: usize, line: &[u8], store: &mut [u8], r: Record) -> Record {
+// Record and store are those that the line's call leaves.
+fn on_meter(verb: usize, line: &[u8], store: &mut [u8], r: Record) -> Record
+    ensures { λ a. ⌜ outcome a (now (store .exit))
+        ≡ cond (leb verb 15) (outcome r (now (store .entry))) (meterAfter r (now (line .entry)) (now (store .entry))) ⌝ }
+{
     if verb <= verb::MERCURY {
         return r;
     }
-    console_meter::called(line, store, r)
+    let mut out = [0u8; LONGEST];
+    let called = console_meter::called(line, store, r, &mut out);
+    console_meter::print(called, &out);
+    called.after
 }
 
-fn on_mercury(verb: usize, line: &[u8], m: Meter) -> Meter {
+fn on_mercury(verb: usize, line: &[u8], m: Meter) -> Meter
+    ensures { λ a. ⌜ a ≡ cond (eqb verb 15) (mercuryAfter m (now (line .entry))) m ⌝ }
+{
     if verb == verb::MERCURY {
-        return console_mercury::called(line, m);
+        return mercury_called(line, m);
     }
     m
+}
+
+fn mercury_called(line: &[u8], m: Meter) -> Meter
+    ensures { λ a. ⌜ a ≡ mercuryAfter m (now (line .entry)) ⌝ }
+{
+    let mut out = [0u8; LONGEST];
+    let called = console_mercury::called(line, m, &mut out);
+    let answer = called.answer;
+    console_mercury::print(answer, &out);
+    called.after
 }

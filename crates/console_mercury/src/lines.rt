@@ -1,129 +1,106 @@
-// The lines that make, answer and decode frames, each with its answer on standard output.
+// The lines that make, answer and decode frames, which leave the meter as it is.
+use crate::answer::Answer;
 use console::BYTE;
 use console::BytesAnswer;
 use console::LONG;
-use console_io::say;
-use frame::layout::LONGEST;
-use mercury::Decoded;
-use mercury::Frequency;
-use mercury::Load;
 use mercury::RequestAnswer;
-use mercury::Tariffs;
 use mercury::layout::BARE_BYTES;
 use mercury_bench::Answered;
 use mercury_bench::Meter;
+ghost use mathlib.Core.Path.{_≡_};
+ghost use Rattle.refusal.specs.Outcome.{outcome};
+ghost use Rattle.console_mercury.specs.Lines.{replyLength, requestLength, frameOf, frameLine, askOf, askLine, decodedFrom, decodeBytes, decodeLine};
 
 // As many bytes as the longest line has.
 const LINE_BYTES: usize = 2048;
 
 // mercury-frame BYTES
-pub fn frame(line: &[u8], m: Meter) {
+pub fn frame(line: &[u8], m: Meter, out: &mut [u8]) -> Answer
+    ensures { λ a. ⌜ outcome a (now (out .exit)) ≡ frameLine m (now (line .entry)) (now (out .entry)) ⌝ }
+{
     if console::spaces(line) != 1 {
-        say::unread();
-        return;
+        return Answer::Unread;
     }
     let mut bytes = [0u8; LINE_BYTES];
     match console::read_bytes(console::word(line, 1), &mut bytes) {
-        BytesAnswer::Bytes(n) => answer(console::part(&bytes, n), m),
-        BytesAnswer::Unread => say::unread(),
+        BytesAnswer::Bytes(n) => frame_of(console::part(&bytes, n), m, out),
+        BytesAnswer::Unread => Answer::Unread,
     }
 }
 
-fn answer(request: &[u8], m: Meter) {
-    let mut out = [0u8; LONGEST];
-    let answered = mercury_bench::answer(m, request, &mut out);
+fn frame_of(request: &[u8], m: Meter, out: &mut [u8]) -> Answer
+    ensures { λ a. ⌜ outcome a (now (out .exit)) ≡ frameOf m (now (request .entry)) (now (out .entry)) ⌝ }
+{
+    let answered = mercury_bench::answer(m, request, out);
     let number = answered.number();
-    say::first(number);
+    Answer::Frame(number, reply_length(answered))
+}
+
+fn reply_length(answered: Answered) -> usize
+    ensures { λ n. ⌜ n ≡ replyLength answered ⌝ }
+{
     match answered {
-        Answered::Done(n) => say::hex(console::part(&out, n)),
-        Answered::TooShort => {}
-        Answered::OutOfRange => {}
-        Answered::Silent(_) => {}
+        Answered::Done(n) => n,
+        Answered::TooShort => 0,
+        Answered::OutOfRange => 0,
+        Answered::Silent(_) => 0,
     }
-    say::end_of(number);
 }
 
 // mercury-ask ADDRESS COMMAND
-pub fn ask(line: &[u8]) {
+pub fn ask(line: &[u8], out: &mut [u8]) -> Answer
+    ensures { λ a. ⌜ outcome a (now (out .exit)) ≡ askLine (now (line .entry)) (now (out .entry)) ⌝ }
+{
     if console::is_form(line, &[LONG, BYTE]) {
-        request(console::long(line, 1), console::byte(line, 2));
-    } else {
-        say::unread();
+        return ask_of(console::long(line, 1), console::byte(line, 2), out);
     }
+    Answer::Unread
 }
 
-fn request(address: u32, code: u8) {
-    let mut out = [0u8; BARE_BYTES];
-    let answer = mercury::put_request(address, code, &mut out);
+fn ask_of(address: u32, code: u8, out: &mut [u8]) -> Answer
+    ensures { λ a. ⌜ outcome a (now (out .exit)) ≡ askOf address code (now (out .entry)) ⌝ }
+{
+    let answer = mercury::put_request(address, code, out);
     let number = answer.number();
-    say::first(number);
+    Answer::Frame(number, request_length(answer))
+}
+
+fn request_length(answer: RequestAnswer) -> usize
+    ensures { λ n. ⌜ n ≡ requestLength answer ⌝ }
+{
     match answer {
-        RequestAnswer::Done => say::hex(&out),
-        RequestAnswer::TooShort => {}
-        RequestAnswer::UnknownCommand => {}
+        RequestAnswer::Done => BARE_BYTES,
+        RequestAnswer::TooShort => 0,
+        RequestAnswer::UnknownCommand => 0,
     }
-    say::end_of(number);
 }
 
 // mercury-decode ADDRESS COMMAND BYTES; without BYTES there are none.
-pub fn decode(line: &[u8]) {
+pub fn decode(line: &[u8]) -> Answer
+    ensures { λ a. ⌜ a ≡ decodeLine (now (line .entry)) ⌝ }
+{
     if console::are_numbers(line, &[LONG, BYTE]) {
-        match console::spaces(line) {
+        return match console::spaces(line) {
             2 => decoded(line, b""),
             3 => decode_bytes(line),
-            _ => say::unread(),
-        }
-    } else {
-        say::unread();
+            _ => Answer::Unread,
+        };
     }
+    Answer::Unread
 }
 
-fn decode_bytes(line: &[u8]) {
+fn decode_bytes(line: &[u8]) -> Answer
+    ensures { λ a. ⌜ a ≡ decodeBytes (now (line .entry)) ⌝ }
+{
     let mut bytes = [0u8; LINE_BYTES];
     match console::read_bytes(console::word(line, 3), &mut bytes) {
         BytesAnswer::Bytes(n) => decoded(line, console::part(&bytes, n)),
-        BytesAnswer::Unread => say::unread(),
+        BytesAnswer::Unread => Answer::Unread,
     }
 }
 
-fn decoded(line: &[u8], reply: &[u8]) {
-    let d = mercury::decode(console::long(line, 1), console::byte(line, 2), reply);
-    let number = d.number();
-    say::first(number);
-    match d {
-        Decoded::Tariffs(t) => tariffs(t),
-        Decoded::Load(l) => load(l),
-        Decoded::Frequency(f) => frequency(f),
-        Decoded::Malformed(_) => {}
-        Decoded::NotDecimal => {}
-    }
-    say::end_of(number);
-}
-
-fn tariffs(t: Tariffs) {
-    let first = t.first;
-    let second = t.second;
-    let third = t.third;
-    let fourth = t.fourth;
-    say::number(first.0 as u64);
-    say::number(second.0 as u64);
-    say::number(third.0 as u64);
-    say::number(fourth.0 as u64);
-}
-
-fn load(l: Load) {
-    let voltage = l.voltage;
-    let current = l.current;
-    let power = l.power;
-    say::short(voltage.0);
-    say::short(current.0);
-    say::number(power.0 as u64);
-}
-
-// The seven bytes behind the frequency as one word.
-fn frequency(f: Frequency) {
-    let frequency = f.frequency;
-    let r = f.rest;
-    say::short(frequency.0);
-    say::hex(&[r.0, r.1, r.2, r.3, r.4, r.5, r.6]);
+fn decoded(line: &[u8], reply: &[u8]) -> Answer
+    ensures { λ a. ⌜ a ≡ decodedFrom (now (line .entry)) (now (reply .entry)) ⌝ }
+{
+    Answer::Told(mercury::decode(console::long(line, 1), console::byte(line, 2), reply))
 }

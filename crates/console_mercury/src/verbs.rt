@@ -1,9 +1,13 @@
 // A line by its first word.
+use crate::answer::Answer;
+use crate::answer::Called;
 use crate::lines;
 use crate::setting::MeterLine;
 use crate::setting::set;
-use console_io::say;
 use mercury_bench::Meter;
+ghost use mathlib.Core.Path.{_≡_};
+ghost use Rattle.refusal.specs.Outcome.{outcome};
+ghost use Rattle.console_mercury.specs.Lines.{verbOf, isNamed, isSetting, settingOf, askedBy, calledLine};
 
 const METER: usize = 0;
 
@@ -13,7 +17,9 @@ const ASK: usize = 2;
 
 const DECODE: usize = 3;
 
-fn verb_of(line: &[u8]) -> usize {
+fn verb_of(line: &[u8]) -> usize
+    ensures { λ r. ⌜ r ≡ verbOf (now (line .entry)) ⌝ }
+{
     console::place_of(
         console::word(line, 0),
         b"mercury mercury-frame mercury-ask mercury-decode",
@@ -21,44 +27,61 @@ fn verb_of(line: &[u8]) -> usize {
 }
 
 // Whether a line is about the Mercury 206.
-pub fn is_named(line: &[u8]) -> bool {
+pub fn is_named(line: &[u8]) -> bool
+    ensures { λ r. ⌜ r ≡ isNamed (now (line .entry)) ⌝ }
+{
     verb_of(line) <= DECODE
 }
 
 // Whether it sets the bench's meter.
-pub fn is_setting(line: &[u8]) -> bool {
+pub fn is_setting(line: &[u8]) -> bool
+    ensures { λ r. ⌜ r ≡ isSetting (now (line .entry)) ⌝ }
+{
     verb_of(line) == METER
 }
 
-// Takes the bench's meter, and gives the one that stands after the line.
-pub fn called(line: &[u8], m: Meter) -> Meter {
+// Takes the bench's meter, and gives the one that stands after the line; frames go to the front of the output.
+pub fn called(line: &[u8], m: Meter, out: &mut [u8]) -> Called
+    ensures { λ a. ⌜ outcome a (now (out .exit)) ≡ calledLine m (now (line .entry)) (now (out .entry)) ⌝ }
+{
     let verb = verb_of(line);
-    match verb {
-        METER => {
-            return setting(line, m);
-        }
-        FRAME => lines::frame(line, m),
-        ASK => lines::ask(line),
-        DECODE => lines::decode(line),
-        _ => say::unread(),
+    if verb == METER {
+        return setting(set(line), m);
     }
-    m
+    Called {
+        answer: asked(verb, line, m, out),
+        after: m,
+    }
+}
+
+// What leaves the meter as it is.
+fn asked(verb: usize, line: &[u8], m: Meter, out: &mut [u8]) -> Answer
+    ensures { λ a. ⌜ outcome a (now (out .exit)) ≡ askedBy verb m (now (line .entry)) (now (out .entry)) ⌝ }
+{
+    match verb {
+        FRAME => lines::frame(line, m, out),
+        ASK => lines::ask(line, out),
+        DECODE => lines::decode(line),
+        _ => Answer::Unread,
+    }
 }
 
 // One that is refused or not read keeps the meter.
-fn setting(line: &[u8], m: Meter) -> Meter {
-    match set(line) {
-        MeterLine::Set(after) => {
-            say::number_line(refusal::DONE);
-            after
-        }
-        MeterLine::OutOfRange => {
-            say::number_line(refusal::OUT_OF_RANGE);
-            m
-        }
-        MeterLine::Unread => {
-            say::unread();
-            m
-        }
+fn setting(line: MeterLine, m: Meter) -> Called
+    ensures { λ a. ⌜ a ≡ settingOf line m ⌝ }
+{
+    match line {
+        MeterLine::Set(after) => Called {
+            answer: Answer::Number(refusal::DONE),
+            after: after,
+        },
+        MeterLine::OutOfRange => Called {
+            answer: Answer::Number(refusal::OUT_OF_RANGE),
+            after: m,
+        },
+        MeterLine::Unread => Called {
+            answer: Answer::Unread,
+            after: m,
+        },
     }
 }

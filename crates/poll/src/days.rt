@@ -6,6 +6,7 @@ ghost use Rattle.day_figures.specs.Both.{both};
 ghost use Rattle.logger.specs.Run.{state};
 ghost use Rattle.polling.specs.Fate.{settled};
 ghost use Rattle.polling.specs.Reached.{Reached, Polled};
+use crate::part::file_of;
 use crate::part::front;
 use crate::say;
 use crate::wire;
@@ -419,7 +420,7 @@ fn saved(wire: Wire, path: &[u8], image: &[u8]) -> bool {
         say::new_line(wire.terminal);
         return say::refused(path, answer.number());
     };
-    if file_io::stored(path, front(&file, n)) {
+    if file_io::stored(path, file_of(image, &file, n)) {
         return true;
     }
     say::new_line(wire.terminal);

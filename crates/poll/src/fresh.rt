@@ -1,6 +1,7 @@
 // The file of a fresh log.
 use crate::arguments;
 use crate::arguments::Start;
+use crate::part::file_of;
 use crate::part::front;
 use crate::say;
 use day_figures::FIGURES_MOST;
@@ -36,7 +37,7 @@ fn put(path: &[u8], image: &[u8]) -> bool {
     let WriteAnswer::Done(n) = answer else {
         return say::refused(path, answer.number());
     };
-    if file_io::made(path, front(&file, n)) {
+    if file_io::made(path, file_of(image, &file, n)) {
         return true;
     }
     say::failed(path)

@@ -15,11 +15,12 @@ pub fn say() {
 fn words() {
     put(b"DEVICE  the serial line, opened for reading and writing\n");
     put(
-        b"SCRIPT  a file of the console's lines meter, power, slice and second, which make the meter, or mercury, which\n",
+        b"SCRIPT  a file of the console's lines meter, power, slice, second, ratio and frame, which make the meter, or mercury,\n",
     );
     put(
-        b"        makes it a Mercury 206; lines that only ask, empty lines and # lines are passed over\n",
+        b"        which makes it a Mercury 206; lines that only ask, empty lines and # lines are passed over; one that is\n",
     );
+    put(b"        refused or not read ends serve\n");
     put(b"COUNT   how many frames are read at most; else serve goes on until DEVICE is closed\n\n");
     put(
         b"The SS-301's clock goes on with the wall clock; a Mercury 206's figures stay as they are.\n",

@@ -2,10 +2,11 @@
 use crate::say;
 use frame::layout::LONGEST;
 use meter_record::Record;
+ghost use Rattle.console_meter.specs.Served.{standing, Reached};
 
 // The meter and its wall clock as they stand, and the frames so far.
 pub struct Served {
-    pub record: Record,
+    pub meter: Record,
     // The wall clock when it was last looked at.
     pub seen: u64,
     pub read: u64,
@@ -16,10 +17,13 @@ pub struct Served {
 // Longer than any frame, so that one which is too long is seen as that.
 pub const FRAME_ROOM: usize = 256;
 
-// Until the device is closed, or so many frames were read.
-pub fn serve(fd: i32, count: u64, device: &[u8], store: &mut [u8], record: Record) {
+// Until the device is closed, or so many frames were read. Whatever the line carries, record and store go on by the meter's answers and its
+// seconds alone.
+pub fn serve(fd: i32, count: u64, device: &[u8], store: &mut [u8], first: Record) -> Served
+    ensures { λ r. ⌜ Reached (standing first (now (store .entry))) (standing (r .meter) (now (store .exit))) ⌝ }
+{
     let mut served = Served {
-        record: record,
+        meter: first,
         seen: machine_clock::seconds(),
         read: 0,
         answered: 0,
@@ -35,9 +39,13 @@ pub fn serve(fd: i32, count: u64, device: &[u8], store: &mut [u8], record: Recor
         }
     }
     say::ended(served.read, served.answered);
+    served
 }
 
-fn turn(fd: i32, device: &[u8], store: &mut [u8], s: Served) -> Served {
+// The seconds since the last look, and then the frame.
+fn turn(fd: i32, device: &[u8], store: &mut [u8], s: Served) -> Served
+    ensures { λ r. ⌜ Reached (standing (s .meter) (now (store .entry))) (standing (r .meter) (now (store .exit))) ⌝ }
+{
     let mut frame = [0u8; FRAME_ROOM];
     let got = libc::read(fd, &mut frame);
     if got < 1 {
@@ -46,16 +54,13 @@ fn turn(fd: i32, device: &[u8], store: &mut [u8], s: Served) -> Served {
     }
     let n = io::count(got, &frame);
     let now = machine_clock::seconds();
-    let record = console_setup::seconds_later(
-        s.record,
-        console_setup::seconds_between(s.seen, now),
-    );
+    let later = console_setup::seconds_later(s.meter, console_setup::seconds_between(s.seen, now));
     answer(
         fd,
         store,
         &frame[..n],
         Served {
-            record: record,
+            meter: later,
             seen: now,
             ..s
         },
@@ -74,14 +79,16 @@ pub fn nothing_read(fd: i32, device: &[u8], got: isize) {
     }
 }
 
-fn answer(fd: i32, store: &mut [u8], frame: &[u8], s: Served) -> Served {
+fn answer(fd: i32, store: &mut [u8], frame: &[u8], s: Served) -> Served
+    ensures { λ r. ⌜ Reached (standing (s .meter) (now (store .entry))) (standing (r .meter) (now (store .exit))) ⌝ }
+{
     let mut out = [0u8; LONGEST];
-    let record = s.record;
-    let a = meter::answer(record, store, frame, &mut out);
+    let before = s.meter;
+    let a = meter::answer(before, store, frame, &mut out);
     let length = a.length;
     let after = a.after;
     Served {
-        record: after,
+        meter: after,
         seen: s.seen,
         read: next(s.read),
         answered: replied(fd, console::part(&out, length), s.answered),

@@ -1,8 +1,9 @@
-// The script: the console's lines that set the meter.
+// The script: the console's lines that make the meter.
 use crate::say;
 use console_io::Rest;
-use console_mercury::MeterLine;
-use console_setup::LineAnswer;
+use console_meter::Answer;
+use console_meter::Called;
+use frame::layout::LONGEST;
 use mercury_bench::Meter;
 use meter_record::Record;
 use meter_record::RecordAnswer;
@@ -102,59 +103,75 @@ fn ready_of(made: Made) -> Ready {
     }
 }
 
-// How many names there are of lines that only ask.
-const ASKING: usize = 7;
-
-// What only asks a meter changes nothing here.
+// A line as the console takes it, but for its answer: `frame` changes the meter as the frame says, and what only asks changes nothing.
 fn set(line: &[u8], store: &mut [u8], made: Made) -> Step {
     if console::is_passed_over(line) {
         return Step::Made(made);
     }
-    if asks(line) {
-        return Step::Made(made);
+    let mut out = [0u8; LONGEST];
+    if console_mercury::is_named(line) {
+        let second = made.second;
+        return mercury_step(
+            console_mercury::called(line, mercury_of(second), &mut out),
+            made,
+        );
     }
-    let record = made.record;
-    let second = made.second;
-    if console_mercury::is_setting(line) {
-        return mercury_step(console_mercury::set(line), record);
-    }
-    step_of(console_setup::set(line, store, record), second)
-}
-
-fn asks(line: &[u8]) -> bool {
-    console::place_of(
-        console::word(line, 0),
-        b"frame record shown inquire mercury-frame mercury-ask mercury-decode",
+    step_of(
+        console_meter::called(line, store, made.record, &mut out),
+        made,
     )
-        < ASKING
 }
 
-fn mercury_step(line: MeterLine, record: Record) -> Step {
-    match line {
-        MeterLine::Set(m) => Step::Made(Made {
-            record: record,
-            second: Second::Mercury(m),
-        }),
-        MeterLine::OutOfRange => Step::Refused(refusal::OUT_OF_RANGE),
-        MeterLine::Unread => Step::Unread,
+// The console's first where the script has made none.
+fn mercury_of(second: Second) -> Meter {
+    match second {
+        Second::Mercury(m) => m,
+        Second::None => console_mercury::first(),
     }
 }
 
-fn step_of(line: LineAnswer, second: Second) -> Step {
-    match line {
-        LineAnswer::Answered(a) => record_step(a, second),
-        LineAnswer::Unread => Step::Unread,
+fn mercury_step(called: console_mercury::Called, made: Made) -> Step {
+    let answer = called.answer;
+    let m = called.after;
+    match answer {
+        console_mercury::Answer::Unread => Step::Unread,
+        console_mercury::Answer::Number(n) => numbered(n, with_mercury(made, m)),
+        console_mercury::Answer::Frame(_, _) => Step::Made(made),
+        console_mercury::Answer::Told(_) => Step::Made(made),
     }
 }
 
-fn record_step(a: RecordAnswer, second: Second) -> Step {
-    match a {
-        RecordAnswer::Done(record) => Step::Made(Made {
-            record: record,
-            second: second,
-        }),
-        _ => Step::Refused(a.number()),
+fn with_mercury(made: Made, m: Meter) -> Made {
+    let record = made.record;
+    Made {
+        record: record,
+        second: Second::Mercury(m),
     }
+}
+
+fn step_of(called: Called, made: Made) -> Step {
+    let answer = called.answer;
+    let record = called.after;
+    let second = made.second;
+    let after = Made {
+        record: record,
+        second: second,
+    };
+    match answer {
+        Answer::Unread => Step::Unread,
+        Answer::Number(n) => numbered(n, after),
+        Answer::Reply(n, _) => numbered(n, after),
+        Answer::Recorded => Step::Made(made),
+        Answer::Shown => Step::Made(made),
+        Answer::Inquired(_) => Step::Made(made),
+    }
+}
+
+fn numbered(n: u8, after: Made) -> Step {
+    if n == refusal::DONE {
+        return Step::Made(after);
+    }
+    Step::Refused(n)
 }
 
 // One that was not done is named on standard error.

@@ -1,16 +1,33 @@
-// What the bench meter's lines answer beside a number.
+// The answers of the bench meter's lines, on standard output.
+use crate::answer::Answer;
+use crate::answer::Called;
 use console_io::say;
 use meter_clock::Level;
 use meter_clock::Protection;
 use meter_clock::Season;
 use meter_clock::Time;
+use meter_inquiry::Inquired;
 use meter_record::Ratios;
 use meter_record::Record;
 
 const FIRST_YEAR: u16 = 2000;
 
+// What a line came to, with the output that it was lent.
+pub fn print(called: Called, out: &[u8]) {
+    let answer = called.answer;
+    let after = called.after;
+    match answer {
+        Answer::Unread => say::unread(),
+        Answer::Number(n) => say::number_line(n),
+        Answer::Reply(n, length) => reply(n, console::part(out, length)),
+        Answer::Recorded => record(after),
+        Answer::Shown => shown(after),
+        Answer::Inquired(told) => inquired(told, out),
+    }
+}
+
 // A reply; none where the meter is silent.
-pub fn reply(number: u8, bytes: &[u8]) {
+fn reply(number: u8, bytes: &[u8]) {
     say::first(number);
     if 0 < bytes.len() {
         say::hex(bytes);
@@ -18,11 +35,7 @@ pub fn reply(number: u8, bytes: &[u8]) {
     say::end_of(number);
 }
 
-pub fn record(line: &[u8], r: Record) {
-    if console::spaces(line) != 0 {
-        say::unread();
-        return;
-    }
+fn record(r: Record) {
     say::first(refusal::DONE);
     say::number(r.address as u64);
     protection(r.protection);
@@ -64,14 +77,22 @@ fn time(t: Time) {
 }
 
 // What the display shows, as the six bytes of a mask.
-pub fn shown(line: &[u8], r: Record) {
-    if console::spaces(line) != 0 {
-        say::unread();
-        return;
-    }
+fn shown(r: Record) {
     let mut bytes = [0u8; 6];
     figures::put_display_mask(&mut bytes, meter_record::shown(r.mask));
     say::first(refusal::DONE);
     say::hex(&bytes);
     say::end();
+}
+
+fn inquired(told: Inquired, reply: &[u8]) {
+    let number = told.number();
+    say::first(number);
+    match told {
+        Inquired::Told(decoded) => console_log::say_figures(decoded, reply),
+        Inquired::TooShort => {}
+        Inquired::Unsound => {}
+        Inquired::Silent => {}
+    }
+    say::end_of(number);
 }
