@@ -110,7 +110,9 @@ uint16_t metlazuel_crc16(const uint8_t *bytes, size_t n);
 // *length; a refusal leaves both. The other calls are lent exactly these bytes. A slot's cell is a gap as long as no well-formed reply with
 // result 0 came for it; empty where such replies came and all were zeros, which the meter answers for a slice that it does not have, too;
 // and else measured, with the counts of the first such reply that was not all zeros. With its kind and counts a cell has its lapses: how many
-// asks for it ended in one, 255 also for more. So a gap with 0 lapses was never asked for, or its asks were refused by the meter or are still open.
+// asks for it ended in one, 255 also for more. So a gap with lapses was asked for in vain at least that often. One with 0 was never asked for, or its asks
+// were refused by the meter, are still open, or ended without metlazuel_lapse, as where power or the line's device failed; or the log was read from a file
+// of version 1 or 2, which tells no lapses.
 //
 // A log follows the automatic seasons or does not. Where it does, the last Sunday of March has no time between 02:00 and 03:00: those slots
 // (4 and 5 of 30 minutes, 8 to 11 of 15) do not exist on that day. Their cells stay gaps, but they are NOT_IN_LOG to metlazuel_ask,
