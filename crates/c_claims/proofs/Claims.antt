@@ -5,12 +5,14 @@ use Rattle.c_claims.specs.Demand3.{Demand3C}
 use Rattle.c_claims.specs.Beginnings.{Beginnings}
 use Rattle.c_claims.specs.Reading.{ReadForC}
 use Rattle.c_claims.specs.RegisterToCell.{RegisterToCellC}
+use Rattle.c_claims.specs.PollingOrder.{PollingOrderC}
 use Rattle.c_claims.proofs.Ends as ends
 use Rattle.c_claims.proofs.History as history
 use Rattle.c_claims.proofs.Kept as kept
 use Rattle.c_claims.proofs.Beginnings as begin
 use Rattle.c_claims.proofs.Reading as reads
 use Rattle.c_claims.proofs.RegisterToCell as round
+use Rattle.c_claims.proofs.PollingOrder as order
 
 pub demand-1 : Demand1C
 demand-1 = record {
@@ -63,3 +65,6 @@ reading = record { read = reads.read; inquired = reads.inquired }
 
 pub register-to-cell : RegisterToCellC
 register-to-cell = record { met = round.met; joined = round.joined }
+
+pub polling-order : PollingOrderC
+polling-order = record { list-equal = order.list-equal; list-elsewhere = order.list-elsewhere; equal = order.equal; elsewhere = order.elsewhere }

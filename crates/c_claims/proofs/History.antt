@@ -132,10 +132,11 @@ run-alike m s (c ∷ calls) h =
     (rest .0, ap₂ (λ (x : Answer) (xs : List Answer). x ∷ xs) (next .answer) (rest .1))
 
 module _ (m : Lent) (b : Begins m) (calls : List Call) (k : AllBytes calls) where
-  abbrev first : Both
+  abbrev pub first : Both
   first = both (m .log) (m .figures)
 
-  whole : Holds (ranForC m calls .left) (run (begin first) calls .left) × (ranForC m calls .result ≡ run (begin first) calls .result)
+  -- their memory holds the state that the calls below leave, and they tell what those answer
+  pub whole : Holds (ranForC m calls .left) (run (begin first) calls .left) × (ranForC m calls .result ≡ run (begin first) calls .result)
   whole = run-alike m (begin first) calls (record { log = refl; figures = refl; ask = b .closed })
 
   -- the memory after them is what the calls below leave

@@ -6,4 +6,5 @@ pub mod Kept
 pub mod Beginnings
 pub mod Reading
 pub mod RegisterToCell
+pub mod PollingOrder
 pub mod Claims

@@ -5,3 +5,4 @@ pub mod Demand3
 pub mod Beginnings
 pub mod Reading
 pub mod RegisterToCell
+pub mod PollingOrder

@@ -1,6 +1,7 @@
 // The program's arguments.
 use calendar::Date;
 use log::Header;
+use polling::Order;
 use polling::Wanted;
 use text::NumberAnswer;
 
@@ -17,6 +18,7 @@ pub enum Chosen {
 pub struct Options {
     pub chosen: Chosen,
     pub wanted: Wanted,
+    pub order: Order,
     // A clock that is more than a day off is no reason to stop.
     pub anyway: bool,
 }
@@ -62,6 +64,8 @@ const SECOND_OPTION: usize = 5;
 
 const THIRD_OPTION: usize = 6;
 
+const FOURTH_OPTION: usize = 7;
+
 // The first word, among `new mercury`.
 const NEW: usize = 0;
 
@@ -75,6 +79,8 @@ pub const MERCURY_ADDRESS: usize = 3;
 const AGAIN: usize = 0;
 
 const ANYWAY: usize = 1;
+
+const NEWEST: usize = 2;
 
 pub const NEW_LOG: usize = 2;
 
@@ -117,11 +123,13 @@ pub fn said_options() -> Options {
     let none = Options {
         chosen: Chosen::All,
         wanted: Wanted::Gaps,
+        order: Order::OldestFirst,
         anyway: false,
     };
     let one = with_word(none, FIRST_OPTION);
     let two = with_word(one, SECOND_OPTION);
-    with_word(two, THIRD_OPTION)
+    let three = with_word(two, THIRD_OPTION);
+    with_word(three, FOURTH_OPTION)
 }
 
 fn with_word(o: Options, i: usize) -> Options {
@@ -132,20 +140,30 @@ fn with_word(o: Options, i: usize) -> Options {
     let n = os::arg(i, &mut word);
     let chosen = o.chosen;
     let wanted = o.wanted;
-    match console::place_of(&word[..n], b"again anyway") {
+    let order = o.order;
+    match console::place_of(&word[..n], b"again anyway newest") {
         AGAIN => Options {
             chosen: chosen,
             wanted: Wanted::GapsAndEmpties,
+            order: order,
             anyway: o.anyway,
         },
         ANYWAY => Options {
             chosen: chosen,
             wanted: wanted,
+            order: order,
             anyway: true,
+        },
+        NEWEST => Options {
+            chosen: chosen,
+            wanted: wanted,
+            order: Order::NewestFirst,
+            anyway: o.anyway,
         },
         _ => Options {
             chosen: one_day(i),
             wanted: wanted,
+            order: order,
             anyway: o.anyway,
         },
     }

@@ -23,6 +23,7 @@ use logger::OpenAsk;
 use polling::Fate;
 use polling::Faults;
 use polling::Next;
+use polling::Order;
 use polling::Passed;
 use polling::Settled;
 use polling::Standing;
@@ -30,12 +31,13 @@ use polling::Tally;
 use polling::Wanted;
 use slots::SLOTS_MOST;
 
-// What is asked for: of this log's intervals those that are wanted and over at a moment.
+// What is asked for: of this log's intervals those that are wanted and over at a moment, in an order.
 pub struct Plan {
     pub header: Header,
     // The meter's clock, in minutes since 2000.
     pub now: u32,
     pub wanted: Wanted,
+    pub order: Order,
 }
 
 pub enum End {
@@ -68,15 +70,17 @@ pub fn poll(
 ) -> Course
     ensures { λ _. ⌜ Polled (both (now (image .entry)) (now (figures .entry))) (both (now (image .exit)) (now (figures .exit))) ⌝ }
 {
+    let order = plan.order;
     let mut course = nothing(OpenAsk::Closed);
-    let mut day = from;
-    while day < end {
+    let mut turn = from;
+    while turn < end {
+        let day = polling::day_in_order(order, from, end, turn);
         let earlier = course;
         course = one_day(wire, plan, device, path, image, figures, day, earlier);
         if is_over(course) {
             return course;
         }
-        day += 1;
+        turn += 1;
     }
     course
 }
@@ -175,10 +179,11 @@ fn asks(
         (state (both (now (image .exit)) (now (figures .exit))) (r .held)) ⌝ }
 {
     let wanted = plan.wanted;
+    let order = plan.order;
     let mut course = nothing(held);
-    let mut slot: u8 = 0;
-    while slot < SLOTS_MOST {
-        let Next::Slot(next) = polling::next_wanted(image, day, slot, wanted) else {
+    let mut passed: u8 = 0;
+    while passed < SLOTS_MOST {
+        let Next::Slot(next) = polling::next_in_order(image, day, passed, wanted, order) else {
             return course;
         };
         let earlier = course;
@@ -186,7 +191,7 @@ fn asks(
         if is_over(course) {
             return course;
         }
-        slot = next + 1;
+        passed = polling::passed_with(order, next);
     }
     course
 }

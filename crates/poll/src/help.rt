@@ -8,7 +8,7 @@ pub fn show() {
 }
 
 fn uses() {
-    put(b"poll DEVICE ADDRESS LOGFILE [DAY] [again] [anyway]\n");
+    put(b"poll DEVICE ADDRESS LOGFILE [DAY] [again] [anyway] [newest]\n");
     put(
         b"    asks the meter with this address (0 to 255) for every interval of the log that is still a gap and is over by the\n",
     );
@@ -28,6 +28,9 @@ fn uses() {
         b"    and so does a clock more than a day off this machine's, unless `anyway` is said. Intervals that ended 300 days\n",
     );
     put(b"    before are not asked for: the wire names no year.\n");
+    put(
+        b"    `newest` asks for the newest interval first, in a day and over all days: the log is the same in the end.\n",
+    );
     put(b"    One poll at a time has a log (LOGFILE.lock) and a line (/var/lock/LCK..NAME).\n");
     put(b"poll new LOGFILE YEAR MONTH DAY DAYS MINUTES KE SEASONS\n");
     put(

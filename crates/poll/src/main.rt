@@ -21,7 +21,7 @@ const MERCURY_WORDS: usize = 4;
 
 const LEAST_WORDS: usize = 4;
 
-const MOST_WORDS: usize = 7;
+const MOST_WORDS: usize = 8;
 
 fn main() {
     let count = os::arg_count();

@@ -7,6 +7,7 @@ use log::Header;
 use polling::DAY_MINUTES;
 use polling::Faults;
 use polling::Learned;
+use polling::Order;
 use polling::Passed;
 use polling::Tally;
 use reader::Fault;
@@ -270,6 +271,14 @@ fn time(date: Date, hour: u8, minute: u8) {
     words::put_byte(&mut text, DATE_BYTES + 3, b':');
     text::put_two(&mut text, DATE_BYTES + 4, minute);
     put(&text);
+}
+
+// The order in which it goes by a day's intervals and the days.
+pub fn order(order: Order) {
+    match order {
+        Order::OldestFirst => put(b"poll: the oldest interval is asked for first\n"),
+        Order::NewestFirst => put(b"poll: the newest interval is asked for first\n"),
+    }
 }
 
 // A terminal shows each slot on one line, which is written over.

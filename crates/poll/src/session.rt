@@ -185,12 +185,15 @@ fn on_wire(
 ) -> bool {
     say::asking(device, wire.address);
     let wanted = options.wanted;
+    let order = options.order;
     match meter::met(wire, device, h, options.anyway) {
         Known::At(now) => {
+            say::order(order);
             let plan = Plan {
                 header: h,
                 now: now,
                 wanted: wanted,
+                order: order,
             };
             polled(wire, device, path, image, figures, plan, span)
         }

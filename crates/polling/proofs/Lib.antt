@@ -1,4 +1,5 @@
 pub mod NextLaws
+pub mod OrderLaws
 pub mod ReplyLaws
 pub mod FateLaws
 pub mod MomentLaws

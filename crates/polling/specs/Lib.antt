@@ -1,4 +1,5 @@
 pub mod Next
+pub mod Order
 pub mod Reply
 pub mod Fate
 pub mod Moment

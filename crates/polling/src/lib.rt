@@ -1,8 +1,9 @@
-// What a poller of the log decides: which interval it asks for next, when a reply is whole and when to stop listening, what becomes of
+// What a poller of the log decides: which interval it asks for next and in which order, when a reply is whole and when to stop listening, what becomes of
 // an ask, and the tally of that. Reading and writing the line is the caller's. The log changes by the logger's calls alone.
 mod fate;
 mod moment;
 mod next;
+mod order;
 mod question;
 mod reply;
 mod standing;
@@ -21,6 +22,10 @@ pub use next::Next;
 pub use next::Wanted;
 pub use next::next_gap;
 pub use next::next_wanted;
+pub use order::Order;
+pub use order::day_in_order;
+pub use order::next_in_order;
+pub use order::passed_with;
 pub use question::Learned;
 pub use question::Question;
 pub use question::answer_bytes;

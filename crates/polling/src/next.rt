@@ -57,7 +57,7 @@ fn first_wanted(log: &[u8], h: Header, day: u8, slot: u8, wanted: Wanted) -> Nex
 }
 
 // A slot that is not in the log is never asked for, and one that does not exist is not in it.
-fn asks_for(log: &[u8], h: Header, day: u8, slot: u8, wanted: Wanted) -> bool
+pub fn asks_for(log: &[u8], h: Header, day: u8, slot: u8, wanted: Wanted) -> bool
     ensures { λ r. ⌜ r ≡ asksFor wanted h (cellAt (now (log .entry))) day slot ⌝ }
 {
     match log::interval_of(h, day, slot) {

@@ -1,26 +1,26 @@
--- Between two turns log and figures are ones that a poll may make of the first, and each ask goes on from there; the next slot lies behind the last.
-use borrow.Author.Needs.{needs}
-use Prim.Native.Nat.{_-_}
-use mathlib.Core.Path.{_≡_, refl, sym, _∙_}
-use lib.ListN.{length}
-use native.Mathlib.Omega.{arith}
-use Rattle.slots.proofs.DayLaws.{slotsMost}
-use Rattle.log.specs.View.{viewOf}
-use Rattle.polling.proofs.NextLaws.{next-bounds}
-use Rattle.day_figures.specs.Both.{both}
-use Rattle.logger.specs.Run.{state}
-use Rattle.polling.specs.Reached.{Reached}
+-- Between two turns log and figures are ones that a poll may make of the first, and each ask goes on from there; the next slot passes more of the day.
 use Rattle.polling.proofs.ReachedLaws.{stays, onward}
+use Rattle.polling.specs.Reached.{Reached}
+use Rattle.logger.specs.Run.{state}
+use Rattle.day_figures.specs.Both.{both}
+use Rattle.polling.proofs.OrderLaws.{order-bounds}
+use Rattle.log.specs.View.{viewOf}
+use Rattle.slots.proofs.DayLaws.{slotsMost}
+use native.Mathlib.Omega.{arith}
+use lib.ListN.{length}
+use mathlib.Core.Path.{_≡_, refl, sym, _∙_}
+use Prim.Native.Nat.{_-_}
+use borrow.Author.Needs.{needs}
 use Rattle.poll.proofs.days.asks.Statement.{statement}
 use Rattle.poll.proofs.days.asks.Tie as tie
 
 abbrev Inv-loop : tie.InvT-loop
-Inv-loop wire plan device path image₀ figures₀ day wanted course₀ slot₀ image figures course slot =
+Inv-loop wire plan device path image₀ figures₀ day wanted order course₀ passed₀ image figures course passed =
     (length image ≡ length image₀) × (length figures ≡ length figures₀)
     × Reached (state (both image₀ figures₀) (course₀ .held)) (state (both image figures) (course .held))
 
 abbrev μ-loop : tie.MeasureT-loop
-μ-loop wire plan device path image₀ figures₀ day wanted course₀ slot₀ image figures course slot = slotsMost - slot
+μ-loop wire plan device path image₀ figures₀ day wanted order course₀ passed₀ image figures course passed = slotsMost - passed
 
 nothing-requires : tie.Need-nothing-requires Inv-loop μ-loop
 nothing-requires c κs = search needs
@@ -28,8 +28,8 @@ nothing-requires c κs = search needs
 loop-holds : tie.Need-loop-holds Inv-loop μ-loop
 loop-holds c = (refl, refl, stays _)
 
-next-wanted-requires : tie.Need-next-wanted-requires Inv-loop μ-loop
-next-wanted-requires c κs = search needs
+next-in-order-requires : tie.Need-next-in-order-requires Inv-loop μ-loop
+next-in-order-requires c κs = search needs
 
 enum-known-next : tie.Need-enum-known-next Inv-loop μ-loop
 enum-known-next c = search needs
@@ -71,28 +71,24 @@ returns-2 c =
     let at-one-slot = c .before .before .before .before .before .before .one-slot in
     rw (sym (at-nothing .ensures)) (onward (at-loop .inv .2) (at-one-slot .ensures))
 
-add-slot : tie.Need-add-slot Inv-loop μ-loop
-add-slot c =
-    let at-loop = c .before .before .before .before .before .before .before .before .before .before .before .before .before .before .before .loop in
-    let at-args = c .before .before .before .before .before .before .before .before .before .before .before .before .before .before .before .before .before .before .before .before .before .args in
-    let at-next-wanted = c .before .before .before .before .before .before .before .before .before .before .before .before .next-wanted in
-    let at-next = c .before .before .before .before .before .before .before .before .before .before .next in
-    omega (arith, next-bounds _ (viewOf (at-loop .image)) (at-args .day) (at-loop .slot) _ (sym (at-next-wanted .ensures) ∙ at-next .given .1))
+passed-with-requires : tie.Need-passed-with-requires Inv-loop μ-loop
+passed-with-requires c κs = search needs
 
 loop-less : tie.Need-loop-less Inv-loop μ-loop
 loop-less c =
-    let at-loop = c .before .before .before .before .before .before .before .before .before .before .before .before .before .before .before .loop in
-    let at-args = c .before .before .before .before .before .before .before .before .before .before .before .before .before .before .before .before .before .before .before .before .before .args in
-    let at-next-wanted = c .before .before .before .before .before .before .before .before .before .before .before .before .next-wanted in
-    let at-next = c .before .before .before .before .before .before .before .before .before .before .next in
-    omega (arith, next-bounds _ (viewOf (at-loop .image)) (at-args .day) (at-loop .slot) _ (sym (at-next-wanted .ensures) ∙ at-next .given .1))
+    let next-found = c .before .before .before .before .before .before .before .before .before .before .before in
+    let tested = next-found .before .before .before .before in
+    let turn = tested .before in
+    let args = turn .before .before .before .before .before .before .args in
+    let found = sym (next-found .before .before .next-in-order .ensures) ∙ next-found .next .given .1 in
+    omega (arith, order-bounds _ _ (viewOf (turn .loop .image)) (args .day) (turn .loop .passed) _ found, c .passed-with .ensures, tested .loop-test .taken)
 
 loop-again : tie.Need-loop-again Inv-loop μ-loop
 loop-again c =
-    let at-image = c .before .before .before .before .before .image in
-    let at-loop = c .before .before .before .before .before .before .before .before .before .before .before .before .before .before .before .loop in
-    let at-figures = c .before .before .before .figures in
-    let at-one-slot = c .before .before .before .before .before .before .one-slot in
+    let at-image = c .before .before .before .before .before .before .image in
+    let at-loop = c .before .before .before .before .before .before .before .before .before .before .before .before .before .before .before .before .loop in
+    let at-figures = c .before .before .before .before .figures in
+    let at-one-slot = c .before .before .before .before .before .before .before .one-slot in
     (at-image .given ∙ at-loop .inv .0, at-figures .given ∙ at-loop .inv .1, onward (at-loop .inv .2) (at-one-slot .ensures))
 
 same-length-5 : tie.Need-same-length-5 Inv-loop μ-loop
@@ -112,7 +108,7 @@ asks-spec =
     μ-loop
     nothing-requires
     loop-holds
-    next-wanted-requires
+    next-in-order-requires
     enum-known-next
     enum-told
     same-length
@@ -123,7 +119,7 @@ asks-spec =
     same-length-3
     same-length-4
     returns-2
-    add-slot
+    passed-with-requires
     loop-less
     loop-again
     same-length-5

@@ -1,30 +1,33 @@
--- Between two days log and figures are ones that a poll may make of the first, and each day goes on from there.
-use borrow.Author.Needs.{needs}
-use Prim.Native.Nat.{_-_}
-use native.Mathlib.Omega.{arith}
-use mathlib.Core.Path.{_≡_, refl, _∙_}
-use lib.ListN.{length}
-use Rattle.logger.specs.declared.held.OpenAsk.the-variants.{Closed}
-use Rattle.day_figures.specs.Both.{both}
-use Rattle.logger.specs.Run.{state}
-use Rattle.polling.specs.Reached.{Reached}
+-- Between two days log and figures are ones that a poll may make of the first, and each day goes on from there, whichever is next.
 use Rattle.polling.proofs.ReachedLaws.{stays, onward}
+use Rattle.polling.specs.Reached.{Reached}
+use Rattle.logger.specs.Run.{state}
+use Rattle.day_figures.specs.Both.{both}
+use Rattle.logger.specs.declared.held.OpenAsk.the-variants.{Closed}
+use lib.ListN.{length}
+use mathlib.Core.Path.{_≡_, refl, _∙_}
+use native.Mathlib.Omega.{arith}
+use Prim.Native.Nat.{_-_}
+use borrow.Author.Needs.{needs}
 use Rattle.poll.proofs.days.poll.Statement.{statement}
 use Rattle.poll.proofs.days.poll.Tie as tie
 
 abbrev Inv-loop : tie.InvT-loop
-Inv-loop wire plan device path image₀ figures₀ from end course₀ day₀ image figures course day =
+Inv-loop wire plan device path image₀ figures₀ from end order course₀ turn₀ image figures course turn =
     (length image ≡ length image₀) × (length figures ≡ length figures₀)
     × Reached (state (both image₀ figures₀) Closed) (state (both image figures) (course .held))
 
 abbrev μ-loop : tie.MeasureT-loop
-μ-loop wire plan device path image₀ figures₀ from end course₀ day₀ image figures course day = end - day
+μ-loop wire plan device path image₀ figures₀ from end order course₀ turn₀ image figures course turn = end - turn
 
 nothing-requires : tie.Need-nothing-requires Inv-loop μ-loop
 nothing-requires c κs = search needs
 
 loop-holds : tie.Need-loop-holds Inv-loop μ-loop
 loop-holds c = (refl, refl, rw (c .nothing .ensures) (stays _))
+
+day-in-order-requires : tie.Need-day-in-order-requires Inv-loop μ-loop
+day-in-order-requires c κs = search needs
 
 one-day-requires : tie.Need-one-day-requires Inv-loop μ-loop
 one-day-requires c κs = search needs
@@ -41,12 +44,12 @@ same-length-2 c = search needs
 returns : tie.Need-returns Inv-loop μ-loop
 returns c =
     let at-one-day = c .before .before .before .before .before .before .one-day in
-    let at-loop = c .before .before .before .before .before .before .before .before .before .before .loop in
+    let at-loop = c .before .before .before .before .before .before .before .before .before .before .before .loop in
     record { held = at-one-day .result .held; reached = onward (at-loop .inv .2) (at-one-day .ensures) }
 
-add-day : tie.Need-add-day Inv-loop μ-loop
-add-day c =
-    let tested = c .before .before .before .before .before .before .before .before .before in
+add-turn : tie.Need-add-turn Inv-loop μ-loop
+add-turn c =
+    let tested = c .before .before .before .before .before .before .before .before .before .before in
     let fits = tested .before .before .before .before .before .before .before .fits in
     omega (arith, tested .loop-test .taken, fits .end .fits)
 
@@ -56,7 +59,7 @@ loop-less c = search needs
 loop-again : tie.Need-loop-again Inv-loop μ-loop
 loop-again c =
     let at-image = c .before .before .before .before .before .image in
-    let at-loop = c .before .before .before .before .before .before .before .before .before .before .loop in
+    let at-loop = c .before .before .before .before .before .before .before .before .before .before .before .loop in
     let at-figures = c .before .before .before .figures in
     let at-one-day = c .before .before .before .before .before .before .one-day in
     (at-image .given ∙ at-loop .inv .0, at-figures .given ∙ at-loop .inv .1, onward (at-loop .inv .2) (at-one-day .ensures))
@@ -78,12 +81,13 @@ poll-spec =
     μ-loop
     nothing-requires
     loop-holds
+    day-in-order-requires
     one-day-requires
     is-over-requires
     same-length
     same-length-2
     returns
-    add-day
+    add-turn
     loop-less
     loop-again
     same-length-3

@@ -1,0 +1,5 @@
+pub mod Completed
+pub mod Rounds
+pub mod Order
+pub mod Premises
+pub mod PollingOrder
