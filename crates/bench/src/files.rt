@@ -1,15 +1,15 @@
 // The log's file.
 use console_io::say;
-use console_log::Kept;
+use console_log::ConsoleLog;
 use file_io::FileAnswer;
 use libc::STDERR_FILENO;
-use logfile::FILE_MOST;
-use logfile::WriteAnswer;
+use log_file::FILE_MOST;
+use log_file::WriteAnswer;
 
 // One byte more than the longest file, so that a longer one shows by its length.
 const READ_ROOM: usize = FILE_MOST + 1;
 
-pub fn load(line: &[u8], image: &mut [u8], figures: &mut [u32], kept: Kept) -> Kept {
+pub fn load(line: &[u8], image: &mut [u8], figures: &mut [u32], kept: ConsoleLog) -> ConsoleLog {
     if console::spaces(line) != 1 {
         say::unread();
         return kept;
@@ -30,7 +30,7 @@ pub fn save(line: &[u8], image: &[u8]) {
         return;
     }
     let mut bytes = [0u8; FILE_MOST];
-    let answer = logfile::write_file(image, &mut bytes);
+    let answer = log_file::write_file(image, &mut bytes);
     let WriteAnswer::Done(n) = answer else {
         say::number_line(answer.number());
         return;

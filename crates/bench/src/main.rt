@@ -5,13 +5,13 @@ mod typing;
 mod verb;
 
 use console_io::Rest;
-use console_log::Kept;
-use frame::code::Reading;
+use console_log::ConsoleLog;
 use frame::layout::LONGEST;
 use logger::OpenAsk;
 use mercury_bench::Meter;
 use meter_record::Record;
 use meter_record::RecordAnswer;
+use parameters::code::Reading;
 ghost use mathlib.Core.Path.{_≡_};
 ghost use mathlib.Core.Bool.{cond};
 ghost use lib.Dec.{eqb, leb};
@@ -32,12 +32,12 @@ fn main() {
 
 fn begin() {
     // The longest image and its figures, the meter's 2,976 places for slices, all unused, the longest line, and a block of the input.
-    let mut image = [0u8; log::IMAGE_MOST];
-    let mut figures = [0u32; day_figures::FIGURES_MOST];
+    let mut image = [0u8; log_header::IMAGE_MOST];
+    let mut figures = [0u32; day_rows::FIGURES_MOST];
     let mut store = [0u8; 32736];
     let mut line = [0u8; console_io::LINE_ROOM];
     let mut block = [0u8; 4096];
-    let RecordAnswer::Done(record) = console_setup::first() else {
+    let RecordAnswer::Done(record) = console_meter::first() else {
         return;
     };
     typing::greet();
@@ -59,7 +59,7 @@ fn session(
     block: &mut [u8],
     first: Record,
 ) {
-    let mut kept = Kept {
+    let mut kept = ConsoleLog {
         length: 0,
         held: OpenAsk::Closed,
     };
@@ -84,7 +84,13 @@ fn session(
     }
 }
 
-fn on_log(verb: usize, line: &[u8], image: &mut [u8], figures: &mut [u32], kept: Kept) -> Kept {
+fn on_log(
+    verb: usize,
+    line: &[u8],
+    image: &mut [u8],
+    figures: &mut [u32],
+    kept: ConsoleLog,
+) -> ConsoleLog {
     match verb {
         verb::LOG => console_log::fresh(line, image, figures, kept),
         verb::LOAD => files::load(line, image, figures, kept),

@@ -7,33 +7,33 @@ use native.Mathlib.Omega.{arith}
 use lib.ListN.{length, take, drop}
 use lib.Seq.{take-at}
 use Rattle.refusal.specs.Outcome.{outcome}
-use Rattle.words.specs.Number.{Bytes}
-use Rattle.log.specs.Header.{isHeader, cellsOf, lengthOf}
+use Rattle.byte_numbers.specs.Number.{Bytes}
+use Rattle.log_header.specs.Header.{isHeader, cellsOf, lengthOf}
 use Rattle.log.specs.Fresh.{gaps, noLapses, freshNumber, freshImage}
 use Rattle.log.specs.Image.{cellAt, imageOf}
 use Rattle.log.specs.View.{viewOf}
-use Rattle.log.proofs.CellLaws.{gap-is-cell}
+use Rattle.log_cell.proofs.CellLaws.{gap-is-cell}
 use Rattle.log.proofs.FreshLaws.{length-gaps, gap-at}
 use Rattle.log.proofs.ImageLaws.{sound-image}
-use Rattle.log.specs.declared.cell.Cell.{Cell}
-use Rattle.log.specs.declared.cell.CellAnswer.{CellAnswer}
-use Rattle.log.specs.declared.header.Header.{Header}
+use Rattle.log_cell.specs.declared.cell.Cell.{Cell}
+use Rattle.log_cell.specs.declared.cell.CellAnswer.{CellAnswer}
+use Rattle.log_header.specs.declared.header.Header.{Header}
 use Rattle.log.specs.declared.fresh.FreshAnswer.{FreshAnswer}
 use Rattle.log.specs.declared.fresh.FreshAnswer.the-variants as fresh-answer
-use Rattle.day_figures.specs.Both.{Both}
-use Rattle.day_figures.specs.Fresh.{freshWith}
-use Rattle.day_figures.specs.Rows.{figuresOf, Right}
-use Rattle.day_figures.proofs.FreshLaws.{fresh-made}
-use Rattle.logfile.specs.File.{fileBytes}
-use Rattle.logfile.specs.Read.{readFile, readNumber}
-use Rattle.logfile.specs.declared.read.ReadAnswer.{ReadAnswer}
-use Rattle.logfile.specs.declared.read.ReadAnswer.the-variants as read-answer
-use Rattle.logfile.proofs.FileLaws.{IsLog, accepted, image-front}
+use Rattle.day_rows.specs.LogAndRows.{LogAndRows}
+use Rattle.day_rows.specs.Fresh.{freshWith}
+use Rattle.day_rows.specs.Rows.{figuresOf, Right}
+use Rattle.day_rows.proofs.FreshLaws.{fresh-made}
+use Rattle.log_file.specs.File.{fileBytes}
+use Rattle.log_file.specs.Read.{readFile, readNumber}
+use Rattle.log_file.specs.declared.read.ReadAnswer.{ReadAnswer}
+use Rattle.log_file.specs.declared.read.ReadAnswer.the-variants as read-answer
+use Rattle.log_file.proofs.FileLaws.{IsLog, accepted, image-front}
 use Rattle.logger.specs.declared.held.OpenAsk.the-variants.{Closed}
 use Rattle.c_values.specs.Ask.{askOf}
 use Rattle.c_values.specs.declared.ask.AskRead.the-variants.{Read}
-use Rattle.demands.specs.Demand3.{Start}
-use Rattle.demands.proofs.Claims as claims
+use Rattle.claims.specs.Demand3.{Start}
+use Rattle.claims.proofs.Claims as claims
 use Rattle.metlazuel.specs.LogCalls.{headerFrom, imageLength, lengthAfter}
 use Rattle.c_claims.specs.Demand3.{Lent}
 use Rattle.c_claims.specs.Beginnings.{freshForC, readForC, lentAfter, BeginsAs, BeginsFrom}
@@ -135,7 +135,7 @@ file f log figs word bs result size bytes closed z =
       begins = begins-as _ (a .header) (a .cells) (a .lapses) (a .whole) (image-front f log figs (o .left .log) (o .left .figures) n a) (a .right) closed;
     }
 
-pub file-had : (b : Both) (start : Start b) (log figs : List ℕ) (word : ℕ)
+pub file-had : (b : LogAndRows) (start : Start b) (log figs : List ℕ) (word : ℕ)
     → let h = start .header in let o = readForC (fileBytes h (start .cells) (start .lapses)) log figs word in
     length (b .log) ≤ length log → figuresOf h ≤ length figs → (o .result ≡ 0) × (take (o .left .0) (o .left .1 .log) ≡ b .log)
 unfolding lengthAfter

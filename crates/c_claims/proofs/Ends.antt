@@ -7,11 +7,11 @@ use native.Mathlib.Omega.{arith}
 use borrow.Author.Tests.{ne-eqb}
 use lib.Dec.{ltb}
 use lib.ListN.{length}
-use Rattle.case_laws.proofs.Test.{either}
-use Rattle.words.specs.Place.{written}
+use Rattle.test_laws.proofs.Test.{either}
+use Rattle.byte_numbers.specs.Place.{written}
 use Rattle.refusal.specs.Outcome.{Outcome, outcome}
 use Rattle.frame.specs.Layout.{bareSize, readSize, longest}
-use Rattle.frame.specs.declared.code.Reading.{Reading}
+use Rattle.parameters.specs.declared.code.Reading.{Reading}
 use Rattle.request.specs.Request as request-of
 use Rattle.request.specs.Subject.{subjectOf, mostSlots}
 use Rattle.request.specs.declared.request.Request.{Request}
@@ -32,23 +32,23 @@ use Rattle.meter.specs.Reply as reply
 use Rattle.meter.specs.Reply.{isSound, heard, verdictOn, replied, answerOf}
 use Rattle.slots.specs.declared.key.Key.{Key}
 use Rattle.log.specs.View.{View}
-use Rattle.log.specs.Interval.{intervalOf}
-use Rattle.log.proofs.HeaderLaws.{by-sound}
-use Rattle.log.proofs.IntervalLaws.{by-at}
-use Rattle.log.proofs.CellLaws.{by-good}
+use Rattle.log_header.specs.Interval.{intervalOf}
+use Rattle.log_header.proofs.HeaderLaws.{by-sound}
+use Rattle.log_header.proofs.IntervalLaws.{by-at}
+use Rattle.log_cell.proofs.CellLaws.{by-good}
 use Rattle.log.specs.Fresh.{freshNumber}
 use Rattle.log.specs.declared.fresh.FreshAnswer.{FreshAnswer}
 use Rattle.log.specs.declared.fresh.FreshAnswer.the-variants as made
-use Rattle.log.specs.declared.header.Lent.{Lent}
-use Rattle.day_figures.specs.Both.{Both, both}
-use Rattle.day_figures.specs.Fresh.{freshWith}
-use Rattle.dayreport.specs.Report.{reportOf, reportNumber}
-use Rattle.logfile.specs.Read.{ifRead, readFile, readNumber}
-use Rattle.logfile.specs.Write.{writtenFile, writeNumber}
-use Rattle.logfile.specs.declared.read.ReadAnswer.{ReadAnswer}
-use Rattle.logfile.specs.declared.read.ReadAnswer.the-variants as file
-use Rattle.logfile.specs.declared.write.WriteAnswer.{WriteAnswer}
-use Rattle.logfile.specs.declared.write.WriteAnswer.the-variants as wrote
+use Rattle.log_header.specs.declared.header.LogHeader.{LogHeader}
+use Rattle.day_rows.specs.LogAndRows.{LogAndRows, logAndRows}
+use Rattle.day_rows.specs.Fresh.{freshWith}
+use Rattle.day_report.specs.Report.{reportOf, reportNumber}
+use Rattle.log_file.specs.Read.{ifRead, readFile, readNumber}
+use Rattle.log_file.specs.Write.{writtenFile, writeNumber}
+use Rattle.log_file.specs.declared.read.ReadAnswer.{ReadAnswer}
+use Rattle.log_file.specs.declared.read.ReadAnswer.the-variants as file
+use Rattle.log_file.specs.declared.write.WriteAnswer.{WriteAnswer}
+use Rattle.log_file.specs.declared.write.WriteAnswer.the-variants as wrote
 use Rattle.log.specs.Image.{applied}
 use Rattle.logger.specs.Lapse as lapse-of
 use Rattle.logger.specs.Run.{State, step}
@@ -58,11 +58,11 @@ use Rattle.c_values.specs.Ask.{askOf, askBytes}
 use Rattle.c_values.specs.Row.{figuresFor, figureRow}
 use Rattle.c_values.specs.declared.ask.AskRead.{AskRead}
 use Rattle.c_values.specs.declared.ask.AskRead.the-variants.{Read, Unreadable}
-use Rattle.demands.specs.Demand1.{inTable, Ends, EndsBy, givesFrame}
-use Rattle.demands.proofs.Calls.{done, stays}
-use Rattle.demands.proofs.Claims as claims
+use Rattle.claims.specs.Demand1.{inTable, Ends, EndsBy, givesFrame}
+use Rattle.claims.proofs.Calls.{done, stays}
+use Rattle.claims.proofs.Claims as claims
 use Rattle.metlazuel.specs.Calls.{numbered, sized, unreadNumber, resultAfter, receivedAfter}
-use Rattle.metlazuel.specs.LogCalls.{headerFrom, imageLength, fileLength, lengthAfter, askLeft, askForC, lapseCloses, lapseForC, closes, takeForC}
+use Rattle.metlazuel.specs.LogCalls.{headerFrom, imageLength, fileLength, lengthAfter, askLeft, askForC, lapseCloses, lapseForC, closesAsk, takeForC}
 use Rattle.metlazuel.specs.CellCalls.{cellForC, nextGapForC}
 use Rattle.metlazuel.specs.WireCalls.{requestFrom, countAfter, decodedForC, decodeForC}
 use Rattle.metlazuel.specs.MeterCalls.{telemetryFrom, clockFrom, phasesFrom, ratiosFrom, key, row, madeIn, secondIn, powersIn, ratiosIn, sliceIn}
@@ -111,20 +111,20 @@ unfolding lengthAfter
 length-kept a n r = read-refused a n (λ k. k) r
 
 pub log-fresh : (year month day days minutes ke seasons : ℕ) (log figs : List ℕ) (n : ℕ)
-    → EndsForC (n, both log figs) (sized freshNumber imageLength (freshWith (headerFrom year month day days minutes ke seasons) log figs) n)
+    → EndsForC (n, logAndRows log figs) (sized freshNumber imageLength (freshWith (headerFrom year month day days minutes ke seasons) log figs) n)
 log-fresh year month day days minutes ke seasons log figs n =
     let h = headerFrom year month day days minutes ke seasons in
-    sized-ends freshNumber imageLength image-kept (freshWith h log figs) (both log figs) n (claims.demand-1 .fresh-log h log figs)
+    sized-ends freshNumber imageLength image-kept (freshWith h log figs) (logAndRows log figs) n (claims.demand-1 .fresh-log h log figs)
 
-pub day-report : (lent : Lent) (figs : List ℕ) (day : ℕ) (row : List ℕ) → EndsForC row (numbered reportNumber (reportOf lent figs day row))
+pub day-report : (lent : LogHeader) (figs : List ℕ) (day : ℕ) (row : List ℕ) → EndsForC row (numbered reportNumber (reportOf lent figs day row))
 day-report lent figs day row = claims.demand-1 .day-report lent figs day row
 
 pub write-file : (v : View) (out : List ℕ) (n : ℕ) → EndsForC (n, out) (sized writeNumber fileLength (writtenFile v out) n)
 write-file v out n = sized-ends writeNumber fileLength file-kept (writtenFile v out) out n (claims.demand-1 .write-file v out)
 
-pub read-file : (f out figs : List ℕ) (n : ℕ) → EndsForC (n, both out figs) (sized readNumber lengthAfter (readFile f out figs) n)
+pub read-file : (f out figs : List ℕ) (n : ℕ) → EndsForC (n, logAndRows out figs) (sized readNumber lengthAfter (readFile f out figs) n)
 read-file f out figs n =
-    sized-ends readNumber lengthAfter length-kept (readFile f out figs) (both out figs) n (claims.demand-1 .read-file f out figs)
+    sized-ends readNumber lengthAfter length-kept (readFile f out figs) (logAndRows out figs) n (claims.demand-1 .read-file f out figs)
 
 -- ---- single cells
 
@@ -179,10 +179,10 @@ unfolding askLeft
 closed-bytes true held left bs e = rw e
 closed-bytes false held left bs e = refl
 
-take-read : (a : AskRead) (b : Both) (bs reply : List ℕ) (result size : ℕ) → let o = takeForC a b bs reply result size in let n = o .result in
-    Ends {A = ℕ × ℕ × Both × List ℕ} n
-    (resultAfter n reply result, receivedAfter n reply size, b, cond (closes n) (written bs 0 (askBytes Closed)) bs) (o .left)
-unfolding takeForC closes resultAfter receivedAfter inTable
+take-read : (a : AskRead) (b : LogAndRows) (bs reply : List ℕ) (result size : ℕ) → let o = takeForC a b bs reply result size in let n = o .result in
+    Ends {A = ℕ × ℕ × LogAndRows × List ℕ} n
+    (resultAfter n reply result, receivedAfter n reply size, b, cond (closesAsk n) (written bs 0 (askBytes Closed)) bs) (o .left)
+unfolding takeForC closesAsk resultAfter receivedAfter inTable
 take-read (Read held) b bs reply result size =
     let e = claims.demand-1 .take-reply b held reply in
     record {
@@ -191,18 +191,18 @@ take-read (Read held) b bs reply result size =
     }
 take-read Unreadable b bs reply result size = record { in-table = refl; unchanged = λ n. refl }
 
-pub take : (b : Both) (bs reply : List ℕ) (result size : ℕ) → let o = takeForC (askOf bs) b bs reply result size in let n = o .result in
-    Ends {A = ℕ × ℕ × Both × List ℕ} n
-    (resultAfter n reply result, receivedAfter n reply size, b, cond (closes n) (written bs 0 (askBytes Closed)) bs) (o .left)
+pub take : (b : LogAndRows) (bs reply : List ℕ) (result size : ℕ) → let o = takeForC (askOf bs) b bs reply result size in let n = o .result in
+    Ends {A = ℕ × ℕ × LogAndRows × List ℕ} n
+    (resultAfter n reply result, receivedAfter n reply size, b, cond (closesAsk n) (written bs 0 (askBytes Closed)) bs) (o .left)
 take b bs reply result size = take-read (askOf bs) b bs reply result size
 
-read-length : (a : AskRead) (b : Both) (bs reply : List ℕ) (result size : ℕ) → let o = takeForC a b bs reply result size in
+read-length : (a : AskRead) (b : LogAndRows) (bs reply : List ℕ) (result size : ℕ) → let o = takeForC a b bs reply result size in
     o .left .1 ≡ receivedAfter (o .result) reply size
 unfolding takeForC receivedAfter
 read-length (Read held) b bs reply result size = refl
 read-length Unreadable b bs reply result size = refl
 
-pub take-length : (b : Both) (bs reply : List ℕ) (result size : ℕ) → let o = takeForC (askOf bs) b bs reply result size in
+pub take-length : (b : LogAndRows) (bs reply : List ℕ) (result size : ℕ) → let o = takeForC (askOf bs) b bs reply result size in
     o .left .1 ≡ receivedAfter (o .result) reply size
 take-length b bs reply result size = read-length (askOf bs) b bs reply result size
 

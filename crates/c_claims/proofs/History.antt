@@ -5,12 +5,12 @@ use mathlib.Core.List.{List, [], _∷_}
 use Prim.Native.Nat.{ℕ, _<_}
 use lib.ListN.{length}
 use Rattle.refusal.specs.Outcome.{Outcome, outcome}
-use Rattle.words.specs.Place.{byteAt}
-use Rattle.log.specs.Interval.{comesTwice}
+use Rattle.byte_numbers.specs.Place.{byteAt}
+use Rattle.log_header.specs.Interval.{comesTwice}
 use Rattle.log.specs.Pair.{pairOf}
 use Rattle.log.specs.View.{View, viewOf}
-use Rattle.day_figures.specs.Both.{Both, both}
-use Rattle.day_figures.specs.Rows.{rowAt, Right}
+use Rattle.day_rows.specs.LogAndRows.{LogAndRows, logAndRows}
+use Rattle.day_rows.specs.Rows.{rowAt, Right}
 use Rattle.logger.specs.Ask as ask-of
 use Rattle.logger.specs.Take as take
 use Rattle.reader.specs.declared.form.Fault.{Fault}
@@ -31,9 +31,9 @@ use Rattle.logger.specs.declared.held.OpenAsk.{OpenAsk}
 use Rattle.c_values.specs.Ask.{askOf}
 use Rattle.c_values.specs.declared.ask.AskRead.{AskRead}
 use Rattle.c_values.specs.declared.ask.AskRead.the-variants.{Read, Unreadable}
-use Rattle.demands.specs.Demand3.{OtherCell, Elsewhere, SameCell, begin, booked, logAfresh}
-use Rattle.demands.specs.DayFigures.{OtherDay}
-use Rattle.demands.proofs.Claims as claims
+use Rattle.claims.specs.Demand3.{OtherCell, Elsewhere, SameCell, begin, booked, logAfresh}
+use Rattle.claims.specs.DayFigures.{OtherDay}
+use Rattle.claims.proofs.Claims as claims
 use Rattle.metlazuel.specs.Calls.{resultAfter, receivedAfter}
 use Rattle.metlazuel.specs.LogCalls.{askForC, lapseForC, takeForC}
 use Rattle.c_claims.specs.Demand3.{Lent, stateOf, told, stepForC, ranForC, Begins}
@@ -114,8 +114,8 @@ step-alike m held (reply y) e = record {
   answer = rw e (taken-told y (m .result) (m .size) (viewOf (m .log)) (m .figures) held);
   holds = record {
     log = rw e refl;
-    figures = ap (λ (a : AskRead). takeForC a (both (m .log) (m .figures)) (m .ask) y (m .result) (m .size) .left .2 .figures) e;
-    ask = left.take-left (m .ask) (both (m .log) (m .figures)) held y (m .result) (m .size) e;
+    figures = ap (λ (a : AskRead). takeForC a (logAndRows (m .log) (m .figures)) (m .ask) y (m .result) (m .size) .left .2 .figures) e;
+    ask = left.take-left (m .ask) (logAndRows (m .log) (m .figures)) held y (m .result) (m .size) e;
   };
 }
 
@@ -132,16 +132,16 @@ run-alike m s (c ∷ calls) h =
     (rest .0, ap₂ (λ (x : Answer) (xs : List Answer). x ∷ xs) (next .answer) (rest .1))
 
 module _ (m : Lent) (b : Begins m) (calls : List Call) (k : AllBytes calls) where
-  abbrev pub first : Both
-  first = both (m .log) (m .figures)
+  abbrev pub first : LogAndRows
+  first = logAndRows (m .log) (m .figures)
 
   -- their memory holds the state that the calls below leave, and they tell what those answer
   pub whole : Holds (ranForC m calls .left) (run (begin first) calls .left) × (ranForC m calls .result ≡ run (begin first) calls .result)
   whole = run-alike m (begin first) calls (record { log = refl; figures = refl; ask = b .closed })
 
   -- the memory after them is what the calls below leave
-  pub same-both : let after = ranForC m calls .left in let s = run (begin first) calls .left in both (after .log) (after .figures) ≡ both (s .log) (s .figures)
-  same-both = ap₂ both (whole .0 .log) (whole .0 .figures)
+  pub same-both : let after = ranForC m calls .left in let s = run (begin first) calls .left in logAndRows (after .log) (after .figures) ≡ logAndRows (s .log) (s .figures)
+  same-both = ap₂ logAndRows (whole .0 .log) (whole .0 .figures)
 
   pub log : ranForC m calls .left .log ≡ logAfresh (b .start) calls
   log = whole .0 .log ∙ claims.demand-3 .log first (b .start) calls k

@@ -5,15 +5,15 @@ use mathlib.Core.List.{List, [], _∷_}
 use Prim.Native.Nat.{ℕ, _^_, _<_}
 use lib.Dec.{eqb, ltb}
 use lib.ListN.{length}
-use Rattle.case_laws.proofs.Test.{both, either}
+use Rattle.test_laws.proofs.Test.{both, either}
 use Rattle.refusal.specs.Outcome.{Outcome}
-use Rattle.words.specs.Number.{Bytes}
+use Rattle.byte_numbers.specs.Number.{Bytes}
 use Rattle.calendar.specs.declared.time.DateTime.{DateTime}
-use Rattle.figures.specs.Telemetry.{FitsTelemetry}
-use Rattle.figures.specs.declared.telemetry.Telemetry.{Telemetry}
+use Rattle.wire_values.specs.Telemetry.{FitsTelemetry}
+use Rattle.wire_values.specs.declared.telemetry.Telemetry.{Telemetry}
 use Rattle.frame.specs.Layout.{longest}
-use Rattle.frame.specs.declared.code.Function.{Function}
-use Rattle.frame.specs.declared.code.Function.the-variants as function
+use Rattle.parameters.specs.declared.code.Function.{Function}
+use Rattle.parameters.specs.declared.code.Function.the-variants as function
 use Rattle.slots.specs.Day.{slotsOf}
 use Rattle.slots.specs.Key.{isLegal}
 use Rattle.slots.specs.declared.key.Key.{Key}
@@ -36,14 +36,14 @@ use Rattle.meter_command.specs.Access.{changeAllowed}
 use Rattle.meter_command.specs.Parts.{functionIn, parameterIn}
 use Rattle.meter_command.specs.Verdict.{isDone}
 use Rattle.meter_command.specs.declared.verdict.Verdict.the-variants.{Silent, Unsound}
-use Rattle.meter_reading.specs.Reading.{isRead}
+use Rattle.meter_reply_data.specs.Reading.{isRead}
 use Rattle.meter.specs.Bench.{slicePut}
 use Rattle.meter.specs.Effect.{afterBy, afterOf}
 use Rattle.meter.specs.Reply as reply
 use Rattle.meter.specs.Reply.{isSound, heard, verdictOn, replied, answerOf}
 use Rattle.meter.proofs.KeepLaws as keep
-use Rattle.demands.specs.Changes.{Permitted}
-use Rattle.demands.proofs.Claims as claims
+use Rattle.claims.specs.Changes.{Permitted}
+use Rattle.claims.proofs.Claims as claims
 use Rattle.metlazuel.specs.MeterCalls.{phasesFrom, ratiosFrom, madeIn, secondIn, powersIn, ratiosIn, sliceIn, bytesAfter, makeForC, bytesLeft, answerForC}
 use Rattle.c_claims.specs.MeterRun.{MeterCall, make, second, powers, ratios, slice, frame, Meter, meter, Told, recordAfter, recordStep, bytesStep, meterRun}
 use Rattle.c_claims.specs.Demand2.{Holds, EndAlike, CallFits, AllFit}

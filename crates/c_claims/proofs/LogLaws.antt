@@ -9,13 +9,13 @@ use lib.ListN.{length}
 use Rattle.refusal.specs.Outcome.{Outcome}
 use Rattle.logger.specs.declared.ask.Asked.{Asked}
 use Rattle.logger.specs.declared.take.Taken.{Taken}
-use Rattle.case_laws.proofs.Test.{either}
+use Rattle.test_laws.proofs.Test.{either}
 use Rattle.frame.specs.Layout.{readSize}
-use Rattle.log.proofs.HeaderLaws.{by-sound}
+use Rattle.log_header.proofs.HeaderLaws.{by-sound}
 use Rattle.log.specs.View.{View, viewOf}
-use Rattle.day_figures.specs.Both.{Both}
-use Rattle.log.specs.Interval.{intervalOf}
-use Rattle.log.proofs.IntervalLaws.{by-at}
+use Rattle.day_rows.specs.LogAndRows.{LogAndRows}
+use Rattle.log_header.specs.Interval.{intervalOf}
+use Rattle.log_header.proofs.IntervalLaws.{by-at}
 use Rattle.logger.proofs.LapseLaws.{isRefused, lapsing-ways}
 use Rattle.logger.proofs.TakeLaws.{Step, by-none, decided-ways}
 use Rattle.logger.specs.declared.no_reply.LapseAnswer.{LapseAnswer}
@@ -25,14 +25,14 @@ use Rattle.log.specs.declared.image.Change.{Change}
 use Rattle.log.specs.declared.image.Change.the-variants as change
 use Rattle.logger.specs.declared.held.OpenAsk.{OpenAsk}
 use Rattle.logger.specs.declared.held.OpenAsk.the-variants.{Closed, Open}
-use Rattle.demands.proofs.Calls.{number-closes}
+use Rattle.claims.proofs.Calls.{number-closes}
 use Rattle.c_values.specs.Ask.{askOf}
 use Rattle.c_values.proofs.AskLaws.{ask-size, ask-again}
 use Rattle.c_values.specs.declared.ask.AskRead.the-variants.{Read}
 use Rattle.logger.specs.Ask as ask
 use Rattle.logger.specs.Lapse as lapse
 use Rattle.logger.specs.Take as take
-use Rattle.metlazuel.specs.LogCalls.{askLeft, askForC, lapseCloses, lapseForC, closes, takeForC}
+use Rattle.metlazuel.specs.LogCalls.{askLeft, askForC, lapseCloses, lapseForC, closesAsk, takeForC}
 
 module _ (bs : List ℕ) where
   -- the bytes after an ask's outcome are its ask
@@ -66,7 +66,7 @@ module _ (bs : List ℕ) where
   refused-left (Open address day slot) lapse-answer.NotInLog n e = e
   refused-left (Open address day slot) lapse-answer.Unsound n e = e
 
-  closed-left : (held : OpenAsk) (done : Change) → askOf bs ≡ Read held → Lapses held (lapse.closes done)
+  closed-left : (held : OpenAsk) (done : Change) → askOf bs ≡ Read held → Lapses held (lapse.lapseCloses done)
   unfolding askLeft lapseCloses
   closed-left Closed done e = e
   closed-left (Open address day slot) done e = ask-again bs Closed (ask-size bs (Open address day slot) e)
@@ -82,11 +82,11 @@ module _ (bs : List ℕ) where
       }))
 
   -- the bytes after a reply's outcome are its ask
-  abbrev Left : Outcome Taken Both → Type 0
-  Left o = askOf (askLeft (closes (take.numberOf (o .result .answer))) (o .result .held) bs) ≡ Read (o .result .held)
+  abbrev Left : Outcome Taken LogAndRows → Type 0
+  Left o = askOf (askLeft (closesAsk (take.numberOf (o .result .answer))) (o .result .held) bs) ≡ Read (o .result .held)
 
-  log-left : (b : Both) (held : OpenAsk) (y : List ℕ) → askOf bs ≡ Read held → Left (take.taken b held y)
-  unfolding take.taken askLeft closes
+  log-left : (b : LogAndRows) (held : OpenAsk) (y : List ℕ) → askOf bs ≡ Read held → Left (take.taken b held y)
+  unfolding take.taken askLeft closesAsk
   log-left b held y e =
       let closed = ask-again bs Closed (ask-size bs held e) in
       decided-ways (λ (d : Step). Left (take.done d (b .log))) (viewOf (b .log)) (b .figures) held y (record {
@@ -95,7 +95,7 @@ module _ (bs : List ℕ) where
         put = λ h i old c s o g is done. closed;
       })
 
-  pub take-left : (b : Both) (held : OpenAsk) (y : List ℕ) (result size : ℕ) → askOf bs ≡ Read held
+  pub take-left : (b : LogAndRows) (held : OpenAsk) (y : List ℕ) (result size : ℕ) → askOf bs ≡ Read held
       → askOf (takeForC (askOf bs) b bs y result size .left .3) ≡ Read (take.taken b held y .result .held)
   unfolding takeForC
   take-left b held y result size e = rw e (log-left b held y e)

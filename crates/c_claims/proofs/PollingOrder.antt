@@ -1,7 +1,7 @@
 -- The polling order at the boundary: C's calls leave the log and the figures that the proved calls below them leave, whatever the list.
 use mathlib.Core.Path.{_≡_, sym, ap₂, _∙_}
 use mathlib.Core.List.{List}
-use Rattle.day_figures.specs.Both.{Both, both}
+use Rattle.day_rows.specs.LogAndRows.{LogAndRows, logAndRows}
 use Rattle.logger.specs.Book.{Call, AllBytes}
 use Rattle.polling_order.specs.Completed.{Completed, asksIn}
 use Rattle.polling_order.specs.Order.{Reordered, OneReplyEach}
@@ -13,12 +13,12 @@ use Rattle.c_claims.specs.PollingOrder.{afterForC}
 use Rattle.c_claims.proofs.History.{whole}
 
 module _ (m : Lent) (b : Begins m) where
-  abbrev lent : Both
-  lent = both (m .log) (m .figures)
+  abbrev lent : LogAndRows
+  lent = logAndRows (m .log) (m .figures)
 
   -- what C's calls leave is what the calls below leave
   below : (calls : List Call) → AllBytes calls → afterForC m calls ≡ after lent calls
-  below calls k = ap₂ both (whole m b calls k .0 .log) (whole m b calls k .0 .figures)
+  below calls k = ap₂ logAndRows (whole m b calls k .0 .log) (whole m b calls k .0 .figures)
 
   above : (asks : List Completed) (these those : List Call) → AllBytes these → AllBytes those → SameElsewhere (b .start) asks (after lent these) (after lent those)
       → SameElsewhere (b .start) asks (afterForC m these) (afterForC m those)

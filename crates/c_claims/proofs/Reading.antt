@@ -9,18 +9,18 @@ use lib.Dec.{eqb}
 use lib.ListN.{length, take}
 use borrow.Author.Tests.{le-ltb, eq-eqb, ne-eqb}
 use Rattle.refusal.specs.Outcome.{Outcome, outcome}
-use Rattle.words.specs.Number.{Bytes}
-use Rattle.words.specs.Place.{written}
+use Rattle.byte_numbers.specs.Number.{Bytes}
+use Rattle.byte_numbers.specs.Place.{written}
 use Rattle.slots.specs.Day.{slotsOf}
 use Rattle.slots.proofs.DayLaws.{slots-at-most}
-use Rattle.figures.specs.declared.power.Phases.{Phases}
+use Rattle.wire_values.specs.declared.power.Phases.{Phases}
 use Rattle.frame.proofs.SealingLaws.{length-framed}
-use Rattle.frame.specs.Table.{rowOf, parameterOf, opensTo}
-use Rattle.frame.specs.declared.code.Function.the-variants as function
-use Rattle.frame.specs.declared.code.Parameter.{Parameter}
-use Rattle.frame.specs.declared.code.Parameter.the-variants as parameter
-use Rattle.frame.specs.declared.code.Reading.{Reading}
-use Rattle.frame.specs.declared.code.Reading.the-variants.{Stored, Displayed}
+use Rattle.parameters.specs.Table.{parameterRow, parameterOf, opensTo}
+use Rattle.parameters.specs.declared.code.Function.the-variants as function
+use Rattle.parameters.specs.declared.code.Parameter.{Parameter}
+use Rattle.parameters.specs.declared.code.Parameter.the-variants as parameter
+use Rattle.parameters.specs.declared.code.Reading.{Reading}
+use Rattle.parameters.specs.declared.code.Reading.the-variants.{Stored, Displayed}
 use Rattle.request.specs.Request.{requestFrame, requested}
 use Rattle.request.specs.Subject.{keyOf, subjectOf, mostSlots, askable}
 use Rattle.request.specs.declared.request.Request.{Request}
@@ -36,18 +36,18 @@ use Rattle.meter_record_bytes.specs.Record.{recordOf}
 use Rattle.meter_record_bytes.specs.declared.record.RecordRead.the-variants.{Read}
 use Rattle.meter_command.specs.Parts.{functionIn}
 use Rattle.meter_command.specs.Verdict.{isDone}
-use Rattle.meter_reading.specs.Reading.{phase}
+use Rattle.meter_reply_data.specs.Reading.{phase}
 use Rattle.meter.specs.Reply as reply
 use Rattle.meter.specs.declared.reply.Answered.{Answered}
 use Rattle.c_values.specs.Row.{figuresFor, figureRow, powersRow, timeRow, sliceRow, energiesRow, countsRow, sixRow}
 use Rattle.c_values.proofs.RowLaws.{decoded-foretold}
-use Rattle.demands.specs.Demand1.{answerNumber}
-use Rattle.demands.specs.Demand2.{FitsRequest, replyIn, answered}
-use Rattle.demands.specs.Figures.{ownPower, fourCounts, fourEnergies, ownFigures, ownAs}
-use Rattle.demands.proofs.Claims as claims
-use Rattle.demands.proofs.Range.{hears-request}
-use Rattle.demands.proofs.Replies.{passed, asked, request-read}
-use Rattle.demands.proofs.Wire.{front-again}
+use Rattle.claims.specs.Demand1.{answerNumber}
+use Rattle.claims.specs.Demand2.{FitsRequest, replyIn, answered}
+use Rattle.claims.specs.Figures.{ownPower, fourCounts, fourEnergies, ownFigures, ownAs}
+use Rattle.claims.proofs.Claims as claims
+use Rattle.claims.proofs.Range.{hears-request}
+use Rattle.claims.proofs.Replies.{passed, asked, request-read}
+use Rattle.claims.proofs.Wire.{front-again}
 use Rattle.metlazuel.specs.Calls.{resultAfter, receivedAfter}
 use Rattle.metlazuel.specs.MeterCalls.{bytesLeft, sentLength, answerForC}
 use Rattle.metlazuel.specs.WireCalls.{countAfter, decodeForC}
@@ -97,7 +97,7 @@ power-given p detail = go (eqb detail 0) refl
     go true e = rw e refl
     go false e = rw e refl
 
-given : (x : Reading) (p : Parameter) (r : Record) (s : List ℕ) (q : Request) → opensTo x (rowOf p) ≡ true → numberOf (ownAs x p r s q) ≡ 0
+given : (x : Reading) (p : Parameter) (r : Record) (s : List ℕ) (q : Request) → opensTo x (parameterRow p) ≡ true → numberOf (ownAs x p r s q) ≡ 0
 given Displayed p r s q h = refl
 given Stored parameter.ActivePower r s q h = power-given (r .active) (q .detail)
 given Stored parameter.ReactivePower r s q h = power-given (r .reactive) (q .detail)

@@ -11,27 +11,27 @@ use lib.Dec.{eqb}
 use lib.ListN.{length, take, drop, drop-of-length-le}
 use Rattle.refusal.specs.Outcome as call
 use Rattle.refusal.specs.Outcome.{Outcome}
-use Rattle.words.specs.Number.{Bytes}
-use Rattle.words.specs.Place.{written}
-use Rattle.words.proofs.PlaceLaws.{written-fits}
+use Rattle.byte_numbers.specs.Number.{Bytes}
+use Rattle.byte_numbers.specs.Place.{written}
+use Rattle.byte_numbers.proofs.PlaceLaws.{written-fits}
 use Rattle.calendar.specs.declared.date.Date.{Date}
 use Rattle.slots.specs.Day.{slotsOf}
-use Rattle.frame.specs.Code.{functionOf}
+use Rattle.parameters.specs.Code.{functionOf}
 use Rattle.frame.specs.Sealing.{framed}
-use Rattle.frame.specs.declared.code.Function.the-variants as function
-use Rattle.frame.specs.declared.code.Reading.the-variants.{Stored}
+use Rattle.parameters.specs.declared.code.Function.the-variants as function
+use Rattle.parameters.specs.declared.code.Reading.the-variants.{Stored}
 use Rattle.meter_record.specs.declared.record.Record.{Record}
 use Rattle.meter_command.specs.Parts.{functionIn}
 use Rattle.meter.specs.Reply as reply
 use Rattle.log.specs.View.{View, viewOf}
-use Rattle.log.specs.Interval.{intervalOf}
-use Rattle.log.specs.declared.cell.Cell.{Cell}
-use Rattle.log.specs.declared.cell.Cell.the-variants.{Gap, Empty, Measured}
-use Rattle.log.specs.declared.cell.CellAnswer.the-variants.{Good}
-use Rattle.log.specs.declared.header.Header.{Header}
-use Rattle.log.specs.declared.header.Lent.the-variants.{Sound}
-use Rattle.log.specs.declared.interval.Interval.the-variants.{At}
-use Rattle.day_figures.specs.Both.{Both, both}
+use Rattle.log_header.specs.Interval.{intervalOf}
+use Rattle.log_cell.specs.declared.cell.Cell.{Cell}
+use Rattle.log_cell.specs.declared.cell.Cell.the-variants.{Gap, Empty, Measured}
+use Rattle.log_cell.specs.declared.cell.CellAnswer.the-variants.{Good}
+use Rattle.log_header.specs.declared.header.Header.{Header}
+use Rattle.log_header.specs.declared.header.LogHeader.the-variants.{Sound}
+use Rattle.log_header.specs.declared.interval.Interval.the-variants.{At}
+use Rattle.day_rows.specs.LogAndRows.{LogAndRows, logAndRows}
 use Rattle.logger.specs.Book.{Call, AllBytes}
 use Rattle.logger.specs.Take as take-of
 use Rattle.logger.specs.declared.ask.Asked.{Asked}
@@ -42,13 +42,13 @@ use Rattle.c_values.specs.Ask.{askOf, askBytes}
 use Rattle.c_values.specs.declared.ask.AskRead.{AskRead}
 use Rattle.c_values.specs.declared.ask.AskRead.the-variants.{Read}
 use Rattle.c_values.proofs.AskLaws.{ask-size}
-use Rattle.demands.specs.Demand2.{replyIn}
-use Rattle.demands.specs.RegisterToCell as rattle
-use Rattle.demands.specs.RegisterToCell.{allZero, areCounts, cellAfter, numberAfter, sliceFrame, sliceOn, SlotOn, MeterAt, LogWith}
-use Rattle.demands.proofs.Claims as claims
-use Rattle.demands.proofs.RegisterToCell.{interval-on, answer-bytes}
+use Rattle.claims.specs.Demand2.{replyIn}
+use Rattle.claims.specs.RegisterToCell as rattle
+use Rattle.claims.specs.RegisterToCell.{allZero, areCounts, cellAfter, numberAfter, sliceFrame, sliceOn, SlotOn, MeterAt, LogWith}
+use Rattle.claims.proofs.Claims as claims
+use Rattle.claims.proofs.RegisterToCell.{interval-on, answer-bytes}
 use Rattle.metlazuel.specs.Calls.{resultAfter, receivedAfter}
-use Rattle.metlazuel.specs.LogCalls.{askLeft, askForC, closes, takenForC, takeForC}
+use Rattle.metlazuel.specs.LogCalls.{askLeft, askForC, closesAsk, takenForC, takeForC}
 use Rattle.metlazuel.specs.MeterCalls.{sentLength, answerForC}
 use Rattle.metlazuel.specs.CellCalls.{kindOf, countsOf, cellForC}
 use Rattle.c_claims.specs.Demand3.{Lent, ranForC, Begins}
@@ -65,12 +65,12 @@ whole bs xs p q =
 
 -- the numbers of a slice that is taken close the ask, and store neither result nor length
 record Closing (n : ℕ) : Type 0 where
-  shut : closes n ≡ true
+  shut : closesAsk n ≡ true
   no-result : eqb n 24 ≡ false
   no-length : eqb n 50 ≡ false
 
 number-closing : (c : Cell) (row : List ℕ) → Closing (numberAfter c row)
-unfolding numberAfter closes
+unfolding numberAfter closesAsk
 number-closing Gap row = record { shut = refl; no-result = refl; no-length = refl }
 number-closing Empty row = record { shut = refl; no-result = refl; no-length = refl }
 number-closing (Measured e+ e- r+ r-) row = go (allZero row) (areCounts e+ e- r+ r- row)
@@ -104,7 +104,7 @@ frame-read : (address : ℕ) (d : Date) (slot : ℕ) (rest : List ℕ) → funct
 unfolding sliceFrame framed functionOf
 frame-read address d slot rest = refl
 
-module _ (bs : List ℕ) (r : Record) (store : List ℕ) (b : Both) (h : Header) (ask : List ℕ) (address day slot : ℕ) (date : Date) (c : Cell)
+module _ (bs : List ℕ) (r : Record) (store : List ℕ) (b : LogAndRows) (h : Header) (ask : List ℕ) (address day slot : ℕ) (date : Date) (c : Cell)
     (room out : List ℕ) (word result size : ℕ) (on : SlotOn h day slot date) (m : MeterBytes bs r store (h .minutes) address)
     (l : LogWith b h (day * slotsOf (h .minutes) + slot) c) (closed : askOf ask ≡ Read Closed) (asks : 8 ≤ length room) (hears : 64 ≤ length out) where
   -- the calls in Rattle, and what they come to
@@ -114,7 +114,7 @@ module _ (bs : List ℕ) (r : Record) (store : List ℕ) (b : Both) (h : Header)
   abbrev o : reply.Outcome
   o = rattle.answering r store a out
 
-  abbrev t : call.Outcome Taken Both
+  abbrev t : call.Outcome Taken LogAndRows
   t = rattle.taking b a o
 
   abbrev row : List ℕ
@@ -160,7 +160,7 @@ module _ (bs : List ℕ) (r : Record) (store : List ℕ) (b : Both) (h : Header)
   answered = rw answered-whole (record { number = refl; size = refl; kept = refl; slices = refl; reply = reply-whole ∙ below .0 .reply })
 
   -- the reply taken
-  abbrev taken-c : Outcome ℕ (ℕ × ℕ × Both × List ℕ)
+  abbrev taken-c : Outcome ℕ (ℕ × ℕ × LogAndRows × List ℕ)
   taken-c = taking b asked-c answered-c result size
 
   abbrev opened : List ℕ
@@ -207,7 +207,7 @@ module _ (bs : List ℕ) (r : Record) (store : List ℕ) (b : Both) (h : Header)
       let w = below .1 in
       let i = day * slotsOf (h .minutes) + slot in
       let seen = cell-told (viewOf (t .left .log)) h day slot i (cellAfter c row) kind counts lapses (w .lent) (interval-on h day slot date on) (w .cell) in
-      rw (ap (λ (x : Outcome ℕ (ℕ × ℕ × Both × List ℕ)). telling x day slot kind counts lapses) taken-whole ∙ seen)
+      rw (ap (λ (x : Outcome ℕ (ℕ × ℕ × LogAndRows × List ℕ)). telling x day slot kind counts lapses) taken-whole ∙ seen)
       (record { number = refl; kind = kind-shown (cellAfter c row); counts = counts-shown (cellAfter c row); lapsed = lapses-stay i })
 
   pub joined : (kind : ℕ) (counts : List ℕ) (lapses : ℕ)
@@ -218,7 +218,7 @@ module _ (bs : List ℕ) (r : Record) (store : List ℕ) (b : Both) (h : Header)
 -- ---- a log that C's calls leave
 
 pub met : (m : Lent) (b : Begins m) (calls : List Call) → AllBytes calls → let h = b .start .header in let after = ranForC m calls .left in
-    (i : ℕ) → i < h .days * slotsOf (h .minutes) → (c : Cell) × LogWith (both (after .log) (after .figures)) h i c
+    (i : ℕ) → i < h .days * slotsOf (h .minutes) → (c : Cell) × LogWith (logAndRows (after .log) (after .figures)) h i c
 met m b calls k i l =
-    subst (λ (x : Both). (c : Cell) × LogWith x (b .start .header) i c) (sym (same-both m b calls k))
-    (claims.metered .met (both (m .log) (m .figures)) (b .start) calls k i l)
+    subst (λ (x : LogAndRows). (c : Cell) × LogWith x (b .start .header) i c) (sym (same-both m b calls k))
+    (claims.metered .met (logAndRows (m .log) (m .figures)) (b .start) calls k i l)

@@ -11,26 +11,26 @@ use lib.Ieee.Scale.{finite}
 use lib.Ieee.Bits.{ofBits-fits}
 use lib.ListN.{length, drop}
 use lib.Seq.{getD-drop}
-use Rattle.case_laws.proofs.Test.{either}
-use Rattle.words.specs.Number.{Bytes}
-use Rattle.words.specs.Place.{numberAt, written}
-use Rattle.words.proofs.PlaceLaws.{numberAt-split, numberAt-one}
+use Rattle.test_laws.proofs.Test.{either}
+use Rattle.byte_numbers.specs.Number.{Bytes}
+use Rattle.byte_numbers.specs.Place.{numberAt, written}
+use Rattle.byte_numbers.proofs.PlaceLaws.{numberAt-split, numberAt-one}
 use Rattle.calendar.specs.declared.time.DateTime.{DateTime}
-use Rattle.figures.specs.Mask.{maskOf}
-use Rattle.figures.specs.Power.{floatAt, powerOf, together as three, phasesOf, FitsPhases}
-use Rattle.figures.specs.declared.power.Power.{Power}
-use Rattle.figures.specs.declared.power.Power.the-variants as power
-use Rattle.figures.specs.declared.power.PhasesAnswer.{PhasesAnswer}
-use Rattle.figures.specs.declared.power.PhasesAnswer.the-variants as phases
-use Rattle.figures.specs.Telemetry.{FitsTelemetry, telemetryOf}
-use Rattle.figures.specs.declared.mask.DisplayMask.{DisplayMask}
-use Rattle.figures.specs.declared.power.Phases.{Phases}
-use Rattle.figures.specs.declared.telemetry.Telemetry.{Telemetry}
-use Rattle.figures.proofs.PowerLaws.{FinitePhases}
-use Rattle.frame.specs.Table.{codeOf}
-use Rattle.frame.specs.declared.code.Function.{Function}
-use Rattle.frame.specs.declared.code.Function.the-variants as function
-use Rattle.frame.specs.declared.code.Parameter.{Parameter}
+use Rattle.wire_values.specs.Mask.{maskOf}
+use Rattle.wire_values.specs.Power.{floatAt, powerOf, together as three, phasesOf, FitsPhases}
+use Rattle.wire_values.specs.declared.power.Power.{Power}
+use Rattle.wire_values.specs.declared.power.Power.the-variants as power
+use Rattle.wire_values.specs.declared.power.PhasesAnswer.{PhasesAnswer}
+use Rattle.wire_values.specs.declared.power.PhasesAnswer.the-variants as phases
+use Rattle.wire_values.specs.Telemetry.{FitsTelemetry, telemetryOf}
+use Rattle.wire_values.specs.declared.mask.DisplayMask.{DisplayMask}
+use Rattle.wire_values.specs.declared.power.Phases.{Phases}
+use Rattle.wire_values.specs.declared.telemetry.Telemetry.{Telemetry}
+use Rattle.wire_values.proofs.PowerLaws.{FinitePhases}
+use Rattle.parameters.specs.Table.{codeOf}
+use Rattle.parameters.specs.declared.code.Function.{Function}
+use Rattle.parameters.specs.declared.code.Function.the-variants as function
+use Rattle.parameters.specs.declared.code.Parameter.{Parameter}
 use Rattle.meter_clock.specs.declared.protection.Protection.{Protection}
 use Rattle.meter_clock.specs.declared.season.Season.{Season}
 use Rattle.meter_clock.specs.declared.season.Time.{Time}

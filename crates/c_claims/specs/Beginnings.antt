@@ -6,33 +6,33 @@ use mathlib.Core.List.{List, [], _∷_}
 use Prim.Native.Nat.{ℕ, _≤_}
 use lib.ListN.{length, take}
 use Rattle.refusal.specs.Outcome.{Outcome}
-use Rattle.words.specs.Number.{Bytes}
-use Rattle.log.specs.Header.{isHeader, cellsOf, lengthOf}
+use Rattle.byte_numbers.specs.Number.{Bytes}
+use Rattle.log_header.specs.Header.{isHeader, cellsOf, lengthOf}
 use Rattle.log.specs.Fresh.{gaps, noLapses, freshNumber}
-use Rattle.log.specs.declared.cell.Cell.{Cell}
-use Rattle.log.specs.declared.header.Header.{Header}
-use Rattle.day_figures.specs.Both.{Both}
-use Rattle.day_figures.specs.Fresh.{freshWith}
-use Rattle.day_figures.specs.Rows.{figuresOf}
-use Rattle.logfile.specs.File.{isVersion, fileBytes, fileBytesAs}
-use Rattle.logfile.specs.Read.{readFile, readNumber}
+use Rattle.log_cell.specs.declared.cell.Cell.{Cell}
+use Rattle.log_header.specs.declared.header.Header.{Header}
+use Rattle.day_rows.specs.LogAndRows.{LogAndRows}
+use Rattle.day_rows.specs.Fresh.{freshWith}
+use Rattle.day_rows.specs.Rows.{figuresOf}
+use Rattle.log_file.specs.File.{isVersion, fileBytes, fileBytesAs}
+use Rattle.log_file.specs.Read.{readFile, readNumber}
 use Rattle.logger.specs.declared.held.OpenAsk.the-variants.{Closed}
 use Rattle.c_values.specs.Ask.{askOf}
 use Rattle.c_values.specs.declared.ask.AskRead.the-variants.{Read}
-use Rattle.demands.specs.Demand3.{Start}
+use Rattle.claims.specs.Demand3.{Start}
 use Rattle.metlazuel.specs.Calls.{sized}
 use Rattle.metlazuel.specs.LogCalls.{headerFrom, imageLength, lengthAfter}
 use Rattle.c_claims.specs.Demand3.{Lent, Begins}
 
 -- `metlazuel_log_fresh` and `metlazuel_read_file`, as their contracts have them: number, length, and log with its figures
-abbrev pub freshForC : Header → List ℕ → List ℕ → ℕ → Outcome ℕ (ℕ × Both)
+abbrev pub freshForC : Header → List ℕ → List ℕ → ℕ → Outcome ℕ (ℕ × LogAndRows)
 freshForC h log figs word = sized freshNumber imageLength (freshWith h log figs) word
 
-abbrev pub readForC : List ℕ → List ℕ → List ℕ → ℕ → Outcome ℕ (ℕ × Both)
+abbrev pub readForC : List ℕ → List ℕ → List ℕ → ℕ → Outcome ℕ (ℕ × LogAndRows)
 readForC f log figs word = sized readNumber lengthAfter (readFile f log figs) word
 
 -- what C then lends: so many bytes as were told, the figures, an ask's bytes, and any words
-abbrev pub lentAfter : Outcome ℕ (ℕ × Both) → List ℕ → ℕ → ℕ → Lent
+abbrev pub lentAfter : Outcome ℕ (ℕ × LogAndRows) → List ℕ → ℕ → ℕ → Lent
 lentAfter o bs result size =
     record { log = take (o .left .0) (o .left .1 .log); figures = o .left .1 .figures; ask = bs; result = result; size = size }
 
@@ -68,6 +68,6 @@ pub record Beginnings : Type 0 where
   pub file : (f log figs : List ℕ) (word : ℕ) (bs : List ℕ) (result size : ℕ) → Bytes f → askOf bs ≡ Read Closed → let o = readForC f log figs word in
       o .result ≡ 0 → BeginsFrom f (lentAfter o bs result size)
   -- and with the room for it the file of every start is read, and gives that log
-  pub file-had : (b : Both) (start : Start b) (log figs : List ℕ) (word : ℕ)
+  pub file-had : (b : LogAndRows) (start : Start b) (log figs : List ℕ) (word : ℕ)
       → let h = start .header in let o = readForC (fileBytes h (start .cells) (start .lapses)) log figs word in
       length (b .log) ≤ length log → figuresOf h ≤ length figs → (o .result ≡ 0) × (take (o .left .0) (o .left .1 .log) ≡ b .log)

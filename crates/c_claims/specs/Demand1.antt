@@ -8,11 +8,11 @@ use mathlib.Core.Path.{_≡_}
 use mathlib.Core.Bool.{cond}
 use mathlib.Core.List.{List}
 use Prim.Native.Nat.{ℕ}
-use Rattle.words.specs.Place.{written}
+use Rattle.byte_numbers.specs.Place.{written}
 use Rattle.refusal.specs.Outcome.{Outcome, outcome}
 use Rattle.frame.specs.Layout.{bareSize}
 use Rattle.frame.specs.Sealing.{framed}
-use Rattle.frame.specs.declared.code.Reading.{Reading}
+use Rattle.parameters.specs.declared.code.Reading.{Reading}
 use Rattle.request.specs.Request as request
 use Rattle.request.specs.declared.request.Request.{Request}
 use Rattle.meter_record.specs.declared.record.Record.{Record}
@@ -23,18 +23,18 @@ use Rattle.meter_command.specs.declared.verdict.Verdict.{Verdict}
 use Rattle.meter.specs.Reply.{headOf, answerOf}
 use Rattle.log.specs.View.{View}
 use Rattle.log.specs.Fresh.{freshNumber}
-use Rattle.log.specs.declared.header.Lent.{Lent}
-use Rattle.day_figures.specs.Both.{Both, both}
-use Rattle.day_figures.specs.Fresh.{freshWith}
-use Rattle.dayreport.specs.Report.{reportOf, reportNumber}
-use Rattle.logfile.specs.Read.{readFile, readNumber}
-use Rattle.logfile.specs.Write.{writtenFile, writeNumber}
+use Rattle.log_header.specs.declared.header.LogHeader.{LogHeader}
+use Rattle.day_rows.specs.LogAndRows.{LogAndRows, logAndRows}
+use Rattle.day_rows.specs.Fresh.{freshWith}
+use Rattle.day_report.specs.Report.{reportOf, reportNumber}
+use Rattle.log_file.specs.Read.{readFile, readNumber}
+use Rattle.log_file.specs.Write.{writtenFile, writeNumber}
 use Rattle.logger.specs.declared.held.OpenAsk.the-variants.{Closed}
 use Rattle.c_values.specs.Ask.{askOf, askBytes}
 use Rattle.c_values.specs.declared.ask.AskRead.the-variants.{Read}
-use Rattle.demands.specs.Demand1.{Ends, givesFrame}
+use Rattle.claims.specs.Demand1.{Ends, givesFrame}
 use Rattle.metlazuel.specs.Calls.{numbered, sized, resultAfter, receivedAfter}
-use Rattle.metlazuel.specs.LogCalls.{headerFrom, imageLength, fileLength, lengthAfter, askForC, lapseForC, closes, takeForC}
+use Rattle.metlazuel.specs.LogCalls.{headerFrom, imageLength, fileLength, lengthAfter, askForC, lapseForC, closesAsk, takeForC}
 use Rattle.metlazuel.specs.CellCalls.{cellForC, nextGapForC}
 use Rattle.metlazuel.specs.WireCalls.{requestFrom, decodeForC}
 use Rattle.metlazuel.specs.MeterCalls.{telemetryFrom, clockFrom, phasesFrom, ratiosFrom, key, row, madeIn, secondIn, powersIn, ratiosIn, sliceIn}
@@ -53,12 +53,12 @@ pub record RefusedOutput (number : ℕ) (f before after : List ℕ) : Type 0 whe
 pub record Demand1C : Type 0 where
   -- the log: length, image and figures; the row; length and file
   pub log-fresh : (year month day days minutes ke seasons : ℕ) (log figures : List ℕ) (length : ℕ)
-      → EndsForC (length, both log figures)
+      → EndsForC (length, logAndRows log figures)
       (sized freshNumber imageLength (freshWith (headerFrom year month day days minutes ke seasons) log figures) length)
-  pub day-report : (lent : Lent) (figures : List ℕ) (day : ℕ) (row : List ℕ) → EndsForC row (numbered reportNumber (reportOf lent figures day row))
+  pub day-report : (lent : LogHeader) (figures : List ℕ) (day : ℕ) (row : List ℕ) → EndsForC row (numbered reportNumber (reportOf lent figures day row))
   pub write-file : (v : View) (out : List ℕ) (length : ℕ) → EndsForC (length, out) (sized writeNumber fileLength (writtenFile v out) length)
   pub read-file : (file out figures : List ℕ) (length : ℕ)
-      → EndsForC (length, both out figures) (sized readNumber lengthAfter (readFile file out figures) length)
+      → EndsForC (length, logAndRows out figures) (sized readNumber lengthAfter (readFile file out figures) length)
   -- single cells: kind, counts and lapses, and the slot
   pub cell : (v : View) (day slot kind : ℕ) (counts : List ℕ) (lapses : ℕ) → EndsForC (kind, counts, lapses) (cellForC v day slot kind counts lapses)
   pub next-gap : (v : View) (day from slot : ℕ) → EndsForC slot (nextGapForC v day from slot)
@@ -70,11 +70,11 @@ pub record Demand1C : Type 0 where
   pub lapse-none : (log bs : List ℕ) → askOf bs ≡ Read Closed → lapseForC (askOf bs) log bs ≡ outcome 0 (log, bs)
   -- result, length, log with its figures, and ask: 24 "meter's result not 0; returned; ask closed, log kept", 25 "ask closed, log kept"; and the last 28,
   -- for a figure that cannot follow, as any 28
-  pub take : (b : Both) (bs reply : List ℕ) (result length : ℕ) → let o = takeForC (askOf bs) b bs reply result length in let n = o .result in
-      Ends {A = ℕ × ℕ × Both × List ℕ} n
-      (resultAfter n reply result, receivedAfter n reply length, b, cond (closes n) (written bs 0 (askBytes Closed)) bs) (o .left)
+  pub take : (b : LogAndRows) (bs reply : List ℕ) (result length : ℕ) → let o = takeForC (askOf bs) b bs reply result length in let n = o .result in
+      Ends {A = ℕ × ℕ × LogAndRows × List ℕ} n
+      (resultAfter n reply result, receivedAfter n reply length, b, cond (closesAsk n) (written bs 0 (askBytes Closed)) bs) (o .left)
   -- 50 alone gives the length received, and every other answer, 0 too, leaves the lent one
-  pub take-length : (b : Both) (bs reply : List ℕ) (result length : ℕ) → let o = takeForC (askOf bs) b bs reply result length in
+  pub take-length : (b : LogAndRows) (bs reply : List ℕ) (result length : ℕ) → let o = takeForC (askOf bs) b bs reply result length in
       o .left .1 ≡ receivedAfter (o .result) reply length
   -- requests, and replies decoded: count, result, length and row; with function 3, and with function 4 `metlazuel_request4` and `metlazuel_decode4`
   pub request : (reading : Reading) (address parameter offset tariff detail : ℕ) (out : List ℕ)

@@ -1,5 +1,5 @@
 -- Demand 2 of the functions that firmware links, whose meter's record is lent bytes: what a call leaves is what the next one reads, for any list
--- of calls. So what demands/specs/Demand2.antt says of the record holds of its bytes: "A change happens only with the access it needs, and then
+-- of calls. So what claims/specs/Demand2.antt says of the record holds of its bytes: "A change happens only with the access it needs, and then
 -- changes the named parameter alone, save that protection's 240 seconds start again."
 --
 -- The calls run by the definitions that their contracts cite (specs/MeterRun.antt). Proofs: `demand-2`, proofs/Claims.antt.
@@ -8,11 +8,11 @@ use mathlib.Core.List.{List, [], _∷_}
 use Prim.Native.Nat.{ℕ, _^_, _<_}
 use lib.ListN.{length}
 use Rattle.refusal.specs.Outcome.{Outcome}
-use Rattle.words.specs.Number.{Bytes}
+use Rattle.byte_numbers.specs.Number.{Bytes}
 use Rattle.calendar.specs.declared.time.DateTime.{DateTime}
-use Rattle.figures.specs.Telemetry.{FitsTelemetry}
-use Rattle.figures.specs.declared.telemetry.Telemetry.{Telemetry}
-use Rattle.frame.specs.declared.code.Function.the-variants as function
+use Rattle.wire_values.specs.Telemetry.{FitsTelemetry}
+use Rattle.wire_values.specs.declared.telemetry.Telemetry.{Telemetry}
+use Rattle.parameters.specs.declared.code.Function.the-variants as function
 use Rattle.meter_record.specs.Widths.{FitsRecord}
 use Rattle.meter_record.specs.declared.record.Record.{Record}
 use Rattle.meter_record.specs.declared.record.RecordAnswer.the-variants.{Done}
@@ -21,7 +21,7 @@ use Rattle.meter_record_bytes.specs.declared.record.RecordRead.the-variants.{Re
 use Rattle.meter_command.specs.Access.{changeAllowed}
 use Rattle.meter_command.specs.Parts.{functionIn, parameterIn}
 use Rattle.meter.specs.Reply.{answerOf}
-use Rattle.demands.specs.Changes.{Permitted}
+use Rattle.claims.specs.Changes.{Permitted}
 use Rattle.metlazuel.specs.MeterCalls.{madeIn, makeForC}
 use Rattle.c_claims.specs.MeterRun.{MeterCall, make, second, powers, ratios, slice, frame, Meter, meter, recordStep, bytesStep, meterRun}
 

@@ -3,7 +3,7 @@
 -- Document 02, CR 8: "Demand 3's premise then covers them as it does the log", the figures beside it.
 --
 -- The calls run by the definitions that the contracts of `metlazuel_ask`, `metlazuel_lapse` and `metlazuel_take` cite. The history is that of
--- demands/specs/Demand3.antt, which never sees an image or an ask's bytes. Proofs: `demand-3`, proofs/Claims.antt.
+-- claims/specs/Demand3.antt, which never sees an image or an ask's bytes. Proofs: `demand-3`, proofs/Claims.antt.
 use mathlib.Core.Path.{_≡_}
 use mathlib.Core.Bool.{cond}
 use mathlib.Core.List.{List}
@@ -11,19 +11,19 @@ use Prim.Native.Nat.{ℕ, _<_}
 use lib.Dec.{eqb}
 use lib.ListN.{length}
 use Rattle.refusal.specs.Outcome.{Outcome, outcome}
-use Rattle.words.specs.Place.{byteAt}
+use Rattle.byte_numbers.specs.Place.{byteAt}
 use Rattle.log.specs.Pair.{pairOf}
 use Rattle.log.specs.View.{viewOf}
-use Rattle.day_figures.specs.Both.{both}
-use Rattle.day_figures.specs.Rows.{rowAt, Right}
+use Rattle.day_rows.specs.LogAndRows.{logAndRows}
+use Rattle.day_rows.specs.Rows.{rowAt, Right}
 use Rattle.logger.specs.Book.{Call, ask, lapse, reply, Answer, runOf, CallBytes, AllBytes}
 use Rattle.logger.specs.Run.{State, state}
 use Rattle.logger.specs.declared.held.OpenAsk.{OpenAsk}
 use Rattle.logger.specs.declared.held.OpenAsk.the-variants.{Closed}
 use Rattle.c_values.specs.Ask.{askOf}
 use Rattle.c_values.specs.declared.ask.AskRead.the-variants.{Read, Unreadable}
-use Rattle.demands.specs.Demand3.{Start, booked, logAfresh, OtherCell, Elsewhere, SameCell}
-use Rattle.demands.specs.DayFigures.{OtherDay}
+use Rattle.claims.specs.Demand3.{Start, booked, logAfresh, OtherCell, Elsewhere, SameCell}
+use Rattle.claims.specs.DayFigures.{OtherDay}
 use Rattle.metlazuel.specs.LogCalls.{askForC, lapseForC, takeForC}
 
 -- what C lends to one call after the other: the log, its figures, the ask's bytes, and the words behind `result` and `length`
@@ -36,7 +36,7 @@ pub record Lent : Type 0 where
 
 -- the log and the figures with the ask that the bytes are read as
 abbrev pub stateOf : Lent → OpenAsk → State
-stateOf m held = state (both (m .log) (m .figures)) held
+stateOf m held = state (logAndRows (m .log) (m .figures)) held
 
 -- what C is told: the number, with 24 ("meter's result not 0; returned") the word behind `result`, and with 50 the one behind `length`
 unfoldable pub told : ℕ → ℕ → ℕ → Answer
@@ -51,7 +51,7 @@ stepForC m lapse =
     let o = lapseForC (askOf (m .ask)) (m .log) (m .ask) in
     outcome (told (o .result) (m .result) (m .size)) (record { log = o .left .0; figures = m .figures; ask = o .left .1; result = m .result; size = m .size })
 stepForC m (reply y) =
-    let o = takeForC (askOf (m .ask)) (both (m .log) (m .figures)) (m .ask) y (m .result) (m .size) in
+    let o = takeForC (askOf (m .ask)) (logAndRows (m .log) (m .figures)) (m .ask) y (m .result) (m .size) in
     outcome (told (o .result) (o .left .0) (o .left .1))
     (record { log = o .left .2 .log; figures = o .left .2 .figures; ask = o .left .3; result = o .left .0; size = o .left .1 })
 
@@ -61,7 +61,7 @@ ranForC m calls = runOf stepForC m calls
 
 -- memory to begin with: a log with its figures, bytes that are read as no ask open, and any words
 pub record Begins (m : Lent) : Type 0 where
-  pub start : Start (both (m .log) (m .figures))
+  pub start : Start (logAndRows (m .log) (m .figures))
   pub closed : askOf (m .ask) ≡ Read Closed
 
 pub record Demand3C : Type 0 where

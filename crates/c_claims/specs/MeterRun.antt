@@ -3,7 +3,7 @@ use mathlib.Core.List.{List, [], _∷_}
 use Prim.Native.Nat.{ℕ}
 use Rattle.refusal.specs.Outcome.{Outcome, outcome}
 use Rattle.calendar.specs.declared.time.DateTime.{DateTime}
-use Rattle.figures.specs.declared.telemetry.Telemetry.{Telemetry}
+use Rattle.wire_values.specs.declared.telemetry.Telemetry.{Telemetry}
 use Rattle.slots.specs.declared.key.Key.{Key}
 use Rattle.meter_record.specs.Record.{secondOf, setPowers, setRatios, numberOf}
 use Rattle.meter_record.specs.declared.record.Record.{Record}

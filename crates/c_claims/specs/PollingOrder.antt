@@ -4,7 +4,7 @@
 -- The calls run as in Demand3.antt beside this file; completed asks, their order and what is equal are those of polling_order/specs. Proofs: `polling-order`, proofs/Claims.antt.
 use mathlib.Core.Path.{_≡_}
 use mathlib.Core.List.{List}
-use Rattle.day_figures.specs.Both.{Both, both}
+use Rattle.day_rows.specs.LogAndRows.{LogAndRows, logAndRows}
 use Rattle.logger.specs.Book.{Call, AllBytes}
 use Rattle.polling_order.specs.Completed.{asksIn}
 use Rattle.polling_order.specs.Order.{Reordered, OneReplyEach}
@@ -13,8 +13,8 @@ use Rattle.polling_order.specs.Rounds.{Round, callsOf, AllComplete, asksOf}
 use Rattle.c_claims.specs.Demand3.{Lent, ranForC, Begins}
 
 -- the lent log and its figures after a list of calls
-abbrev pub afterForC : Lent → List Call → Both
-afterForC m calls = let o = ranForC m calls .left in both (o .log) (o .figures)
+abbrev pub afterForC : Lent → List Call → LogAndRows
+afterForC m calls = let o = ranForC m calls .left in logAndRows (o .log) (o .figures)
 
 pub record PollingOrderC : Type 0 where
   -- lists of completed asks, each ask closed before the next

@@ -12,20 +12,20 @@ use Prim.Native.Nat.{ℕ, _+_, _*_, _≤_}
 use lib.Dec.{eqb}
 use lib.ListN.{length, take}
 use Rattle.refusal.specs.Outcome.{Outcome, outcome}
-use Rattle.words.specs.Number.{Bytes}
-use Rattle.words.specs.Place.{written}
+use Rattle.byte_numbers.specs.Number.{Bytes}
+use Rattle.byte_numbers.specs.Place.{written}
 use Rattle.calendar.specs.declared.time.DateTime.{DateTime}
 use Rattle.kilowatt_hours.specs.Bits.{kwhBits}
 use Rattle.slots.specs.Day.{slotsOf}
-use Rattle.figures.specs.Power.{totalOf, bitsOf}
-use Rattle.figures.specs.declared.mask.DisplayMask.{DisplayMask}
-use Rattle.figures.specs.declared.power.Phases.{Phases}
-use Rattle.figures.specs.declared.telemetry.Telemetry.{Telemetry}
-use Rattle.frame.specs.Table.{parameterOf}
-use Rattle.frame.specs.declared.code.Parameter.{Parameter}
-use Rattle.frame.specs.declared.code.Parameter.the-variants as parameter
-use Rattle.frame.specs.declared.code.Reading.{Reading}
-use Rattle.frame.specs.declared.code.Reading.the-variants.{Stored, Displayed}
+use Rattle.wire_values.specs.Power.{totalOf, bitsOf}
+use Rattle.wire_values.specs.declared.mask.DisplayMask.{DisplayMask}
+use Rattle.wire_values.specs.declared.power.Phases.{Phases}
+use Rattle.wire_values.specs.declared.telemetry.Telemetry.{Telemetry}
+use Rattle.parameters.specs.Table.{parameterOf}
+use Rattle.parameters.specs.declared.code.Parameter.{Parameter}
+use Rattle.parameters.specs.declared.code.Parameter.the-variants as parameter
+use Rattle.parameters.specs.declared.code.Reading.{Reading}
+use Rattle.parameters.specs.declared.code.Reading.the-variants.{Stored, Displayed}
 use Rattle.request.specs.Request.{requestFrame, requested, numberOf}
 use Rattle.request.specs.Subject.{subjectOf, askable}
 use Rattle.request.specs.declared.request.Request.{Request}
@@ -34,10 +34,10 @@ use Rattle.meter_record.specs.declared.record.Ratios.{Ratios}
 use Rattle.meter_record.specs.declared.record.Record.{Record}
 use Rattle.meter_record_bytes.specs.Record.{recordOf}
 use Rattle.meter_record_bytes.specs.declared.record.RecordRead.the-variants.{Read}
-use Rattle.meter_reading.specs.Reading.{summerShown, winterShown}
+use Rattle.meter_reply_data.specs.Reading.{summerShown, winterShown}
 use Rattle.meter.specs.Reply.{isSound}
-use Rattle.demands.specs.Demand2.{FitsRequest}
-use Rattle.demands.specs.Demand2Done.{BytesRequest}
+use Rattle.claims.specs.Demand2.{FitsRequest}
+use Rattle.claims.specs.Demand2Done.{BytesRequest}
 use Rattle.metlazuel.specs.Calls.{numbered}
 use Rattle.metlazuel.specs.MeterCalls.{answerForC}
 use Rattle.metlazuel.specs.WireCalls.{decodeForC}

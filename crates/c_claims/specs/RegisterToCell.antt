@@ -1,5 +1,5 @@
 -- From the meter's register to the cell by the functions that firmware links: `metlazuel_ask`, `metlazuel_meter_answer`, `metlazuel_take` and `metlazuel_cell` in a
--- row, each lent what the one before left, over lent bytes alone. Source: as in demands/specs/RegisterToCell.antt, which says it of the calls in Rattle; document 01,
+-- row, each lent what the one before left, over lent bytes alone. Source: as in claims/specs/RegisterToCell.antt, which says it of the calls in Rattle; document 01,
 -- "0 gap, 1 empty, 2 measured, and four counts", "E+, E-, R+, R-".
 --
 -- The frame, the reply, the ask's bytes and what C is told of the cell are written out. Proofs: `register-to-cell`, proofs/Claims.antt.
@@ -10,7 +10,7 @@ use mathlib.Core.Logic.{_⊎_}
 use Prim.Native.Nat.{ℕ, _+_, _*_, _≤_, _<_}
 use lib.ListN.{length, take, drop}
 use Rattle.refusal.specs.Outcome.{Outcome}
-use Rattle.words.specs.Number.{Bytes}
+use Rattle.byte_numbers.specs.Number.{Bytes}
 use Rattle.calendar.specs.declared.date.Date.{Date}
 use Rattle.slots.specs.Day.{slotsOf}
 use Rattle.meter_record.specs.declared.record.Record.{Record}
@@ -18,15 +18,15 @@ use Rattle.meter_record_bytes.specs.Record.{recordOf}
 use Rattle.meter_record_bytes.specs.declared.record.RecordRead.the-variants as meter
 use Rattle.meter.specs.Reply.{isSound}
 use Rattle.log.specs.View.{viewOf}
-use Rattle.log.specs.declared.cell.Cell.{Cell}
-use Rattle.log.specs.declared.cell.Cell.the-variants.{Gap, Empty, Measured}
-use Rattle.log.specs.declared.header.Header.{Header}
-use Rattle.day_figures.specs.Both.{Both, both}
+use Rattle.log_cell.specs.declared.cell.Cell.{Cell}
+use Rattle.log_cell.specs.declared.cell.Cell.the-variants.{Gap, Empty, Measured}
+use Rattle.log_header.specs.declared.header.Header.{Header}
+use Rattle.day_rows.specs.LogAndRows.{LogAndRows, logAndRows}
 use Rattle.logger.specs.Book.{Call, AllBytes}
 use Rattle.logger.specs.declared.held.OpenAsk.the-variants.{Closed}
 use Rattle.c_values.specs.Ask.{askOf}
 use Rattle.c_values.specs.declared.ask.AskRead.the-variants.{Read}
-use Rattle.demands.specs.RegisterToCell.{cellAfter, numberAfter, sliceFrame, sliceAnswer, sliceOn, SlotOn, LogWith}
+use Rattle.claims.specs.RegisterToCell.{cellAfter, numberAfter, sliceFrame, sliceAnswer, sliceOn, SlotOn, LogWith}
 use Rattle.metlazuel.specs.LogCalls.{askForC, takeForC}
 use Rattle.metlazuel.specs.MeterCalls.{answerForC}
 use Rattle.metlazuel.specs.CellCalls.{cellForC}
@@ -61,10 +61,10 @@ asking log bs address day slot room = askForC (askOf bs) (viewOf log) bs address
 abbrev pub answering : List ℕ → List ℕ → Outcome ℕ (List ℕ × List ℕ) → List ℕ → ℕ → Outcome ℕ (ℕ × List ℕ × List ℕ × List ℕ)
 answering bs store a out word = answerForC (recordOf bs) word bs store (take 8 (a .left .1)) out
 
-abbrev pub taking : Both → Outcome ℕ (List ℕ × List ℕ) → Outcome ℕ (ℕ × List ℕ × List ℕ × List ℕ) → ℕ → ℕ → Outcome ℕ (ℕ × ℕ × Both × List ℕ)
+abbrev pub taking : LogAndRows → Outcome ℕ (List ℕ × List ℕ) → Outcome ℕ (ℕ × List ℕ × List ℕ × List ℕ) → ℕ → ℕ → Outcome ℕ (ℕ × ℕ × LogAndRows × List ℕ)
 taking b a o result size = takeForC (askOf (a .left .0)) b (a .left .0) (take (o .left .0) (o .left .3)) result size
 
-abbrev pub telling : Outcome ℕ (ℕ × ℕ × Both × List ℕ) → ℕ → ℕ → ℕ → List ℕ → ℕ → Outcome ℕ (ℕ × List ℕ × ℕ)
+abbrev pub telling : Outcome ℕ (ℕ × ℕ × LogAndRows × List ℕ) → ℕ → ℕ → ℕ → List ℕ → ℕ → Outcome ℕ (ℕ × List ℕ × ℕ)
 telling t day slot kind counts lapses = cellForC (viewOf (t .left .2 .log)) day slot kind counts lapses
 
 -- the ask is done, its bytes say which is open, and its frame reads that date's slice
@@ -82,7 +82,7 @@ pub record AnsweredBy (o : Outcome ℕ (ℕ × List ℕ × List ℕ × List ℕ)
   pub reply : take 14 (o .left .3) ≡ sliceAnswer address row
 
 -- the reply is taken, 0 or 25, with the words behind `result` and `length` as they were, and none is open
-pub record TakenBy (t : Outcome ℕ (ℕ × ℕ × Both × List ℕ)) (c : Cell) (row : List ℕ) (result size : ℕ) : Type 0 where
+pub record TakenBy (t : Outcome ℕ (ℕ × ℕ × LogAndRows × List ℕ)) (c : Cell) (row : List ℕ) (result size : ℕ) : Type 0 where
   pub number : t .result ≡ numberAfter c row
   pub result-kept : t .left .0 ≡ result
   pub size-kept : t .left .1 ≡ size
@@ -98,9 +98,9 @@ pub record CellTold (x : Outcome ℕ (ℕ × List ℕ × ℕ)) (c : Cell) (lapse
 pub record RegisterToCellC : Type 0 where
   -- what a round asks of a log is met of every cell, after any calls on memory to begin with
   pub met : (m : Lent) (b : Begins m) (calls : List Call) → AllBytes calls → let h = b .start .header in let after = ranForC m calls .left in
-      (i : ℕ) → i < h .days * slotsOf (h .minutes) → (c : Cell) × LogWith (both (after .log) (after .figures)) h i c
+      (i : ℕ) → i < h .days * slotsOf (h .minutes) → (c : Cell) × LogWith (logAndRows (after .log) (after .figures)) h i c
   -- and what comes of a round
-  pub joined : (bs : List ℕ) (r : Record) (store : List ℕ) (b : Both) (h : Header) (ask : List ℕ) (address day slot : ℕ) (date : Date) (c : Cell)
+  pub joined : (bs : List ℕ) (r : Record) (store : List ℕ) (b : LogAndRows) (h : Header) (ask : List ℕ) (address day slot : ℕ) (date : Date) (c : Cell)
       (room out : List ℕ) (word result size : ℕ)
       → SlotOn h day slot date → MeterBytes bs r store (h .minutes) address → let i = day * slotsOf (h .minutes) + slot in LogWith b h i c
       → askOf ask ≡ Read Closed → 8 ≤ length room → 64 ≤ length out → (kind : ℕ) (counts : List ℕ) (lapses : ℕ)

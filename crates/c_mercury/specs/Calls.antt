@@ -4,7 +4,7 @@ use mathlib.Core.List.{List, [], _∷_}
 use Prim.Native.Nat.{ℕ}
 use lib.Dec.{ltb}
 use lib.ListN.{length}
-use Rattle.words.specs.Place.{byteAt, written}
+use Rattle.byte_numbers.specs.Place.{byteAt, written}
 use Rattle.refusal.specs.Outcome.{Outcome, outcome}
 use Rattle.mercury.specs.Command.{commandOf}
 use Rattle.mercury.specs.Reply as reply

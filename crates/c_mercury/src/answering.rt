@@ -80,13 +80,13 @@ fn rest_of(rest: &[u8]) -> Rest
     ensures { λ r. ⌜ r ≡ restFrom (now (rest .entry)) ⌝ }
 {
     Rest(
-        words::byte_at(rest, 0),
-        words::byte_at(rest, 1),
-        words::byte_at(rest, 2),
-        words::byte_at(rest, 3),
-        words::byte_at(rest, 4),
-        words::byte_at(rest, 5),
-        words::byte_at(rest, 6),
+        byte_numbers::byte_at(rest, 0),
+        byte_numbers::byte_at(rest, 1),
+        byte_numbers::byte_at(rest, 2),
+        byte_numbers::byte_at(rest, 3),
+        byte_numbers::byte_at(rest, 4),
+        byte_numbers::byte_at(rest, 5),
+        byte_numbers::byte_at(rest, 6),
     )
 }
 

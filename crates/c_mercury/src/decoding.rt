@@ -9,7 +9,7 @@ ghost use mathlib.Core.Path.{_≡_};
 ghost use mathlib.Core.List.{[], _∷_};
 ghost use Prim.Native.Nat.{_<_};
 ghost use Rattle.refusal.specs.Outcome.{outcome};
-ghost use Rattle.words.specs.Place.{written};
+ghost use Rattle.byte_numbers.specs.Place.{written};
 ghost use Rattle.c_mercury.specs.Calls.{figuresFor, tariffsRow, loadRow, frequencyRow, figureRow, countAfter, decodeForC};
 
 // The figures go to the front of `figures` and their number to `count`; a refusal leaves both.

@@ -8,8 +8,8 @@ use native.Mathlib.Omega.{arith}
 use borrow.Author.Tests.{eqb-true}
 use lib.Dec.{eqb}
 use lib.ListN.{length, drop, drop-of-length-le}
-use Rattle.words.specs.Place.{written}
-use Rattle.words.proofs.PlaceLaws.{written-fits}
+use Rattle.byte_numbers.specs.Place.{written}
+use Rattle.byte_numbers.proofs.PlaceLaws.{written-fits}
 use Rattle.logger.specs.declared.held.OpenAsk.{OpenAsk}
 use Rattle.logger.specs.declared.held.OpenAsk.the-variants.{Closed, Open}
 use Rattle.c_values.specs.declared.ask.AskRead.the-variants.{Read, Unreadable}

@@ -6,18 +6,18 @@ use Prim.Native.Nat.{ℕ, _+_}
 use native.Mathlib.Omega.{arith}
 use lib.Dec.{eqb}
 use lib.ListN.{length}
-use Rattle.words.specs.Place.{byteAt}
-use Rattle.figures.specs.Displayed.{energiesOf}
-use Rattle.figures.specs.Power.{powerOf, powersOf}
-use Rattle.figures.specs.declared.displayed.EnergiesAnswer.{EnergiesAnswer}
-use Rattle.figures.specs.declared.displayed.EnergiesAnswer.the-variants as energies
-use Rattle.figures.specs.declared.power.Power.{Power}
-use Rattle.figures.specs.declared.power.PowersAnswer.{PowersAnswer}
-use Rattle.frame.specs.Code.{readingCode}
-use Rattle.frame.specs.Table.{figureCount}
-use Rattle.frame.specs.declared.code.Reading.{Reading}
-use Rattle.frame.specs.declared.code.Reading.the-variants.{Stored, Displayed}
-use Rattle.frame.specs.declared.code.Parameter.{Parameter}
+use Rattle.byte_numbers.specs.Place.{byteAt}
+use Rattle.wire_values.specs.Displayed.{energiesOf}
+use Rattle.wire_values.specs.Power.{powerOf, powersOf}
+use Rattle.wire_values.specs.declared.displayed.EnergiesAnswer.{EnergiesAnswer}
+use Rattle.wire_values.specs.declared.displayed.EnergiesAnswer.the-variants as energies
+use Rattle.wire_values.specs.declared.power.Power.{Power}
+use Rattle.wire_values.specs.declared.power.PowersAnswer.{PowersAnswer}
+use Rattle.parameters.specs.Code.{readingCode}
+use Rattle.parameters.specs.Table.{figureCount}
+use Rattle.parameters.specs.declared.code.Reading.{Reading}
+use Rattle.parameters.specs.declared.code.Reading.the-variants.{Stored, Displayed}
+use Rattle.parameters.specs.declared.code.Parameter.{Parameter}
 use Rattle.request.specs.Subject.{subjectOf, mostSlots, askable, dataBytes}
 use Rattle.request.specs.declared.request.Request.{Request}
 use Rattle.request.specs.declared.subject.Subject.{Subject}
@@ -28,9 +28,9 @@ use Rattle.reader.specs.Reply.{powersFigure, powerFigure, energiesFigure, phase
 use Rattle.reader.specs.declared.form.Form.{Form}
 use Rattle.reader.specs.declared.form.Form.the-variants.{WellFormed, Faulty}
 use Rattle.reader.specs.declared.reply.Decoded.{Decoded}
-use Rattle.figures.specs.declared.power.Power.the-variants as power
-use Rattle.figures.specs.declared.power.PowersAnswer.the-variants as powers
-use Rattle.frame.specs.declared.code.Parameter.the-variants as parameter
+use Rattle.wire_values.specs.declared.power.Power.the-variants as power
+use Rattle.wire_values.specs.declared.power.PowersAnswer.the-variants as powers
+use Rattle.parameters.specs.declared.code.Parameter.the-variants as parameter
 use Rattle.request.specs.declared.subject.Subject.the-variants as subject
 use Rattle.reader.specs.declared.reply.Decoded.the-variants as decoded
 use Rattle.c_values.specs.Row.{figuresFor, figureRow, timeRow, powersRow, sliceRow, sixRow, countsRow, energiesRow}

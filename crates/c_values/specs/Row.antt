@@ -4,12 +4,12 @@ use mathlib.Core.List.{List, [], _∷_, _++_}
 use Prim.Native.Nat.{ℕ}
 use lib.ListN.{getD}
 use Rattle.calendar.specs.declared.time.DateTime.{DateTime}
-use Rattle.figures.specs.Power.{bitsOf}
-use Rattle.figures.specs.declared.displayed.Energies.{Energies}
-use Rattle.figures.specs.declared.mask.DisplayMask.{DisplayMask}
-use Rattle.figures.specs.declared.power.Powers.{Powers}
-use Rattle.figures.specs.declared.telemetry.Telemetry.{Telemetry}
-use Rattle.frame.specs.Table.{figureCount}
+use Rattle.wire_values.specs.Power.{bitsOf}
+use Rattle.wire_values.specs.declared.displayed.Energies.{Energies}
+use Rattle.wire_values.specs.declared.mask.DisplayMask.{DisplayMask}
+use Rattle.wire_values.specs.declared.power.Powers.{Powers}
+use Rattle.wire_values.specs.declared.telemetry.Telemetry.{Telemetry}
+use Rattle.parameters.specs.Table.{figureCount}
 use Rattle.request.specs.declared.subject.Subject.{Subject}
 use Rattle.request.specs.declared.subject.Subject.the-variants.{Figures, Nothing}
 use Rattle.reader.specs.Rows.{replyData, sixOf}

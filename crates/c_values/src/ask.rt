@@ -4,7 +4,7 @@
 // it was. Bytes of another length, or with another first byte, are no ask.
 use logger::OpenAsk;
 ghost use mathlib.Core.Path.{_≡_};
-ghost use Rattle.words.specs.Place.{written};
+ghost use Rattle.byte_numbers.specs.Place.{written};
 ghost use Rattle.c_values.specs.Ask.{askBytes, askOf};
 
 pub const ASK_BYTES: usize = 4;
@@ -25,15 +25,15 @@ pub fn ask_of(bytes: &[u8]) -> AskRead
     if bytes.len() != ASK_BYTES {
         return AskRead::Unreadable;
     }
-    let first = words::byte_at(bytes, 0);
+    let first = byte_numbers::byte_at(bytes, 0);
     if first == CLOSED {
         return AskRead::Read(OpenAsk::Closed);
     }
     if first == OPEN {
         return AskRead::Read(OpenAsk::Open(
-            words::byte_at(bytes, 1),
-            words::byte_at(bytes, 2),
-            words::byte_at(bytes, 3),
+            byte_numbers::byte_at(bytes, 1),
+            byte_numbers::byte_at(bytes, 2),
+            byte_numbers::byte_at(bytes, 3),
         ));
     }
     AskRead::Unreadable
@@ -44,9 +44,9 @@ pub fn put_ask(out: &mut [u8], held: OpenAsk)
     ensures { λ _. ⌜ now (out .exit) ≡ written (now (out .entry)) 0 (askBytes held) ⌝ }
 {
     match held {
-        OpenAsk::Closed => words::put_bytes(out, 0, &[CLOSED, 0, 0, 0]),
+        OpenAsk::Closed => byte_numbers::put_bytes(out, 0, &[CLOSED, 0, 0, 0]),
         OpenAsk::Open(address, day, slot) => {
-            words::put_bytes(out, 0, &[OPEN, address, day, slot])
+            byte_numbers::put_bytes(out, 0, &[OPEN, address, day, slot])
         }
     }
 }

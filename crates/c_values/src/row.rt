@@ -2,14 +2,14 @@
 //
 // `figures_for` says how long the row has to be before there is a reply; `put_figures` fills it. A reply that was refused has no figures.
 use calendar::DateTime;
-use figures::Energies;
-use figures::Powers;
-use frame::table;
+use parameters::table;
 use reader::Decoded;
 use reader::Slice;
 use request::Subject;
+use wire_values::Energies;
+use wire_values::Powers;
 ghost use mathlib.Core.Path.{_≡_};
-ghost use Rattle.words.specs.Place.{written};
+ghost use Rattle.byte_numbers.specs.Place.{written};
 ghost use Rattle.c_values.specs.Row.{figuresFor, timeRow, powersRow, sliceRow, sixRow, countsRow, energiesRow, figureRow};
 
 // How many figures a reply has that is done.
@@ -42,7 +42,7 @@ pub fn put_figures(row: &mut [u32], d: Decoded, reply: &[u8])
             )
         }
         Decoded::Powers(p) => put_powers(row, p),
-        Decoded::OnePower(p) => put_run(row, 0, &[figures::bits_of(p)]),
+        Decoded::OnePower(p) => put_run(row, 0, &[wire_values::bits_of(p)]),
         Decoded::Slice(s) => put_slice(row, s),
         Decoded::SixSlices => put_six(row, reader::six_slices(reply)),
         Decoded::Displayed(e) => put_energies(row, e),
@@ -75,10 +75,10 @@ fn put_powers(row: &mut [u32], p: Powers)
         row,
         0,
         &[
-            figures::bits_of(p.total),
-            figures::bits_of(phases.a),
-            figures::bits_of(phases.b),
-            figures::bits_of(phases.c),
+            wire_values::bits_of(p.total),
+            wire_values::bits_of(phases.a),
+            wire_values::bits_of(phases.b),
+            wire_values::bits_of(phases.c),
         ],
     );
 }

@@ -5,7 +5,7 @@ use mathlib.Core.Path.{_≡_, refl}
 use mathlib.Core.Bool.{Bool, true, false, _&&_}
 use lib.Dec.{ltb}
 use borrow.Author.Tests.{ltb-true, ltb-false, lt-ltb, le-ltb}
-use Rattle.case_laws.proofs.Test.{both}
+use Rattle.test_laws.proofs.Test.{both}
 use Rattle.calendar.specs.Count.{Place, starts, countOff}
 
 -- p is the place n steps past the start, in one of the first N pieces

@@ -8,7 +8,7 @@ use mathlib.Core.Bool.{Bool, true, false, cond, _&&_, _||_, Bool·beq, and-false
 use lib.Dec.{ltb, leb, eqb}
 use lib.ListN.{getD, List·getD-eq-default}
 use borrow.Author.Tests.{ltb-true, ltb-false, leb-true, leb-false, eqb-true, lt-ltb, le-ltb, le-leb, ne-eqb}
-use Rattle.case_laws.proofs.Test.{both, everyBelow, below}
+use Rattle.test_laws.proofs.Test.{both, everyBelow, below}
 use Rattle.calendar.specs.Count.{Place, starts, countOff}
 use Rattle.calendar.proofs.CountLaws.{Lies, starts-mono, ends-before, counted, counts-off}
 use Rattle.calendar.specs.Date.{leap, monthLengths, daysInMonth, lengthOf, daysBefore, centuryDays, isDate, monthNumber, dayNumber, dateAt, dateOf, dateOn, dateBack, daysLater}

@@ -6,7 +6,7 @@ use mathlib.Core.Path.{_≡_, sym, _∙_, ap}
 use mathlib.Core.Bool.{Bool, true, cond}
 use lib.Dec.{ltb, leb}
 use borrow.Author.Tests.{ltb-true, leb-true, lt-ltb}
-use Rattle.case_laws.proofs.Test.{chosen}
+use Rattle.test_laws.proofs.Test.{chosen}
 
 -- x is the one with number n
 pub record Numbered {A : Type 0} (isValid : A → Bool) (numberOf : A → ℕ) (n : ℕ) (x : A) : Type 0 where

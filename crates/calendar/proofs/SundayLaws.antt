@@ -5,7 +5,7 @@ use mathlib.Core.Path.{_≡_, sym, _∙_}
 use mathlib.Core.Bool.{Bool, true, _||_}
 use lib.Dec.{T, ltb, eqb}
 use borrow.Author.Tests.{eqb-true, le-ltb}
-use Rattle.case_laws.proofs.Test.{passed}
+use Rattle.test_laws.proofs.Test.{passed}
 use Rattle.calendar.specs.Count.{starts}
 use Rattle.calendar.proofs.CountLaws.{everyPiece, at-piece}
 use Rattle.calendar.specs.Date.{leap, monthLengths, daysInMonth, lengthOf, daysBefore, dayNumber, isDate}

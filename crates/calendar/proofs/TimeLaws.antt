@@ -6,7 +6,7 @@ use mathlib.Core.Path.{_≡_, refl}
 use mathlib.Core.Bool.{Bool, true, false}
 use lib.Dec.{ltb, leb}
 use borrow.Author.Tests.{ltb-true, ltb-false, leb-true, leb-false, lt-ltb, le-ltb, le-leb, lt-leb}
-use Rattle.case_laws.proofs.Test.{both}
+use Rattle.test_laws.proofs.Test.{both}
 use Rattle.calendar.specs.Date.{centuryDays, isDate, dayNumber, dateOf, dateOn, dateBack, daysLater, daysEarlier}
 use Rattle.calendar.proofs.DateLaws.{DateIs, date-of, date-of-number, number-below, date-on}
 use Rattle.calendar.specs.Time.{isTime, secondNumber, centurySeconds, timeOf, timeAt, timeBack, secondsLater, secondsEarlier}

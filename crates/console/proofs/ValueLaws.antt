@@ -7,7 +7,7 @@ use mathlib.Core.List.{List, [], _∷_}
 use borrow.Author.Tests.{eq-eqb, ne-eqb, lt-ltb, le-ltb}
 use lib.ListN.{length}
 use Rattle.refusal.specs.Outcome.{outcome}
-use Rattle.words.specs.Place.{byteAt, written}
+use Rattle.byte_numbers.specs.Place.{byteAt, written}
 use Rattle.text.specs.Hex.{hexValue}
 use Rattle.text.specs.declared.reading.NumberAnswer.{NumberAnswer}
 use Rattle.text.specs.declared.reading.NumberAnswer.the-variants.{Number, NotANumber}

@@ -5,7 +5,7 @@ use mathlib.Core.List.{List, [], _∷_}
 use lib.Dec.{ltb, eqb}
 use lib.ListN.{length}
 use Rattle.refusal.specs.Outcome.{Outcome, outcome}
-use Rattle.words.specs.Place.{byteAt, written}
+use Rattle.byte_numbers.specs.Place.{byteAt, written}
 use Rattle.text.specs.Hex.{hexValue}
 use Rattle.text.specs.declared.reading.NumberAnswer.{NumberAnswer}
 use Rattle.text.specs.declared.reading.NumberAnswer.the-variants.{Number, NotANumber}

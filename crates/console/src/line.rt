@@ -27,7 +27,7 @@ pub fn without_return(line: &[u8]) -> &[u8]
         return line;
     }
     let last = line.len() - 1;
-    if words::byte_at(line, last) == CARRIAGE_RETURN {
+    if byte_numbers::byte_at(line, last) == CARRIAGE_RETURN {
         return &line[..last];
     }
     line
@@ -85,5 +85,5 @@ pub fn is_passed_over(line: &[u8]) -> bool
     if line.len() == 0 {
         return true;
     }
-    words::byte_at(line, 0) == COMMENT
+    byte_numbers::byte_at(line, 0) == COMMENT
 }

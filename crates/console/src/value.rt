@@ -105,10 +105,10 @@ pub fn read_bytes(digits: &[u8], out: &mut [u8]) -> BytesAnswer
     let mut i = 0;
     while i < pairs {
         match pair(
-            words::byte_at(digits, 2 * i),
-            words::byte_at(digits, 2 * i + 1),
+            byte_numbers::byte_at(digits, 2 * i),
+            byte_numbers::byte_at(digits, 2 * i + 1),
         ) {
-            ByteAnswer::Byte(byte) => words::put_byte(out, i, byte),
+            ByteAnswer::Byte(byte) => byte_numbers::put_byte(out, i, byte),
             ByteAnswer::Unread => {
                 return BytesAnswer::Unread;
             }

@@ -39,7 +39,7 @@ pub fn next_line(fd: i32, block: &mut [u8], from: Rest, line: &mut [u8]) -> Take
             return last_line(line, n, long);
         }
         rest.at = at + 1;
-        let byte = words::byte_at(block, at);
+        let byte = byte_numbers::byte_at(block, at);
         if byte == NEWLINE {
             return Taken {
                 ended: false,
@@ -48,7 +48,7 @@ pub fn next_line(fd: i32, block: &mut [u8], from: Rest, line: &mut [u8]) -> Take
             };
         }
         // Stored where there is room.
-        words::put_byte(line, n, byte);
+        byte_numbers::put_byte(line, n, byte);
         if n < line.len() {
             n += 1;
         } else {
@@ -103,8 +103,8 @@ fn fitting(line: &mut [u8], n: usize, long: bool) -> usize {
 }
 
 fn too_long(line: &mut [u8]) -> usize {
-    if words::byte_at(line, 0) != COMMENT {
-        words::put_byte(line, 0, UNREAD);
+    if byte_numbers::byte_at(line, 0) != COMMENT {
+        byte_numbers::put_byte(line, 0, UNREAD);
     }
     1
 }

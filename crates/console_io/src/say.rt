@@ -77,12 +77,12 @@ pub fn hex(bytes: &[u8]) {
 
 // A float as the eight digits of its bits.
 pub fn float(x: f32) {
-    float_bits(figures::bits_of(x));
+    float_bits(wire_values::bits_of(x));
 }
 
 pub fn float_bits(bits: u32) {
     let mut low_first = [0u8; 4];
-    words::put_u32(&mut low_first, 0, bits);
+    byte_numbers::put_u32(&mut low_first, 0, bits);
     hex(&[low_first[3], low_first[2], low_first[1], low_first[0]]);
 }
 

@@ -5,7 +5,7 @@ use mathlib.Core.List.{List}
 use lib.Dec.{eqb}
 use Rattle.refusal.specs.Outcome.{Outcome, outcome}
 use Rattle.console.specs.declared.value.BytesAnswer.{BytesAnswer}
-use Rattle.frame.specs.declared.code.Reading.{Reading}
+use Rattle.parameters.specs.declared.code.Reading.{Reading}
 use Rattle.request.specs.declared.request.Request.{Request}
 use Rattle.console.specs.Line.{spacesIn, wordAt}
 use Rattle.console.specs.Value.{bytesRead}

@@ -3,7 +3,7 @@
 mod logs;
 mod reads;
 
-pub use logs::Kept;
+pub use logs::ConsoleLog;
 pub use logs::ask;
 pub use logs::cell;
 pub use logs::fresh;

@@ -6,34 +6,34 @@ use console::SHORT;
 use console::YearAnswer;
 use console::byte;
 use console_io::say;
-use dayreport::ReportAnswer;
-use log::Cell;
-use log::CellAnswer;
+use day_report::ReportAnswer;
 use log::FreshAnswer;
-use log::Header;
-use log::Interval;
-use log::Lent;
-use logfile::ReadAnswer;
+use log_cell::Cell;
+use log_cell::CellAnswer;
+use log_file::ReadAnswer;
+use log_header::Header;
+use log_header::Interval;
+use log_header::LogHeader;
 use logger::AskAnswer;
 use logger::OpenAsk;
 use logger::TakeAnswer;
 ghost use mathlib.Core.Path.{_≡_};
 ghost use Rattle.refusal.specs.Outcome.{outcome};
-ghost use Rattle.day_figures.specs.Both.{both};
-ghost use Rattle.day_figures.specs.Fresh.{freshWith};
-ghost use Rattle.logfile.specs.Read.{readFile};
+ghost use Rattle.day_rows.specs.LogAndRows.{logAndRows};
+ghost use Rattle.day_rows.specs.Fresh.{freshWith};
+ghost use Rattle.log_file.specs.Read.{readFile};
 ghost use Rattle.console.specs.Form.{shortIn, yearOf};
 ghost use Rattle.console_log.specs.Log.{keptAfter, newLog, keptLoaded, loadedLog, freshIn, freshLine};
 ghost use Rattle.console_log.specs.Log.{askedFor, askLine, lapseOf, lapseLine, replyOf, replyLine};
 
 // What is kept of the log beside its image and its figures: its length, 0 where there is no log, and the open ask.
-pub struct Kept {
+pub struct ConsoleLog {
     pub length: usize,
     pub held: OpenAsk,
 }
 
 // All stays as it was.
-fn unread(kept: Kept) -> Kept
+fn unread(kept: ConsoleLog) -> ConsoleLog
     ensures { λ r. ⌜ r ≡ kept ⌝ }
 {
     say::unread();
@@ -41,9 +41,9 @@ fn unread(kept: Kept) -> Kept
 }
 
 // YEAR MONTH DAY DAYS MINUTES KE SEASONS
-pub fn fresh(line: &[u8], image: &mut [u8], figures: &mut [u32], kept: Kept) -> Kept
-    ensures { λ r. ⌜ outcome r (both (now (image .exit)) (now (figures .exit)))
-        ≡ freshLine (now (line .entry)) (both (now (image .entry)) (now (figures .entry))) kept ⌝ }
+pub fn fresh(line: &[u8], image: &mut [u8], figures: &mut [u32], kept: ConsoleLog) -> ConsoleLog
+    ensures { λ r. ⌜ outcome r (logAndRows (now (image .exit)) (now (figures .exit)))
+        ≡ freshLine (now (line .entry)) (logAndRows (now (image .entry)) (now (figures .entry))) kept ⌝ }
 {
     if console::is_form(line, &[SHORT, BYTE, BYTE, BYTE, BYTE, SHORT, BYTE]) {
         return fresh_from(line, image, figures, kept);
@@ -51,9 +51,9 @@ pub fn fresh(line: &[u8], image: &mut [u8], figures: &mut [u32], kept: Kept) -> 
     unread(kept)
 }
 
-fn fresh_from(line: &[u8], image: &mut [u8], figures: &mut [u32], kept: Kept) -> Kept
-    ensures { λ r. ⌜ outcome r (both (now (image .exit)) (now (figures .exit)))
-        ≡ freshIn (yearOf (shortIn (now (line .entry)) 1)) (now (line .entry)) (both (now (image .entry)) (now (figures .entry))) kept ⌝ }
+fn fresh_from(line: &[u8], image: &mut [u8], figures: &mut [u32], kept: ConsoleLog) -> ConsoleLog
+    ensures { λ r. ⌜ outcome r (logAndRows (now (image .exit)) (now (figures .exit)))
+        ≡ freshIn (yearOf (shortIn (now (line .entry)) 1)) (now (line .entry)) (logAndRows (now (image .entry)) (now (figures .entry))) kept ⌝ }
 {
     let YearAnswer::Year(year) = console::year(line, 1) else {
         say::number_line(refusal::OUT_OF_RANGE);
@@ -74,20 +74,20 @@ fn fresh_from(line: &[u8], image: &mut [u8], figures: &mut [u32], kept: Kept) ->
     fresh_of(header, image, figures, kept)
 }
 
-fn fresh_of(h: Header, image: &mut [u8], figures: &mut [u32], kept: Kept) -> Kept
-    ensures { λ r. ⌜ outcome r (both (now (image .exit)) (now (figures .exit)))
+fn fresh_of(h: Header, image: &mut [u8], figures: &mut [u32], kept: ConsoleLog) -> ConsoleLog
+    ensures { λ r. ⌜ outcome r (logAndRows (now (image .exit)) (now (figures .exit)))
         ≡ newLog kept (freshWith h (now (image .entry)) (now (figures .entry))) ⌝ }
 {
-    let answer = day_figures::fresh_log(h, image, figures);
+    let answer = day_rows::fresh_log(h, image, figures);
     say::number_line(answer.number());
     kept_after(answer, kept)
 }
 
-fn kept_after(answer: FreshAnswer, kept: Kept) -> Kept
+fn kept_after(answer: FreshAnswer, kept: ConsoleLog) -> ConsoleLog
     ensures { λ r. ⌜ r ≡ keptAfter answer kept ⌝ }
 {
     match answer {
-        FreshAnswer::Done(n) => Kept {
+        FreshAnswer::Done(n) => ConsoleLog {
             length: n,
             held: OpenAsk::Closed,
         },
@@ -97,20 +97,20 @@ fn kept_after(answer: FreshAnswer, kept: Kept) -> Kept
 }
 
 // The bytes of a file.
-pub fn loaded(bytes: &[u8], image: &mut [u8], figures: &mut [u32], kept: Kept) -> Kept
-    ensures { λ r. ⌜ outcome r (both (now (image .exit)) (now (figures .exit)))
+pub fn loaded(bytes: &[u8], image: &mut [u8], figures: &mut [u32], kept: ConsoleLog) -> ConsoleLog
+    ensures { λ r. ⌜ outcome r (logAndRows (now (image .exit)) (now (figures .exit)))
         ≡ loadedLog kept (readFile (now (bytes .entry)) (now (image .entry)) (now (figures .entry))) ⌝ }
 {
-    let answer = logfile::read_file(bytes, image, figures);
+    let answer = log_file::read_file(bytes, image, figures);
     say::number_line(answer.number());
     kept_loaded(answer, kept)
 }
 
-fn kept_loaded(answer: ReadAnswer, kept: Kept) -> Kept
+fn kept_loaded(answer: ReadAnswer, kept: ConsoleLog) -> ConsoleLog
     ensures { λ r. ⌜ r ≡ keptLoaded answer kept ⌝ }
 {
     match answer {
-        ReadAnswer::Done(n) => Kept {
+        ReadAnswer::Done(n) => ConsoleLog {
             length: n,
             held: OpenAsk::Closed,
         },
@@ -125,7 +125,7 @@ fn kept_loaded(answer: ReadAnswer, kept: Kept) -> Kept
 }
 
 // ADDRESS DAY SLOT
-pub fn ask(line: &[u8], image: &[u8], kept: Kept) -> Kept
+pub fn ask(line: &[u8], image: &[u8], kept: ConsoleLog) -> ConsoleLog
     ensures { λ r. ⌜ r ≡ askLine (now (line .entry)) (now (image .entry)) kept ⌝ }
 {
     if console::is_form(line, &[BYTE, BYTE, BYTE]) {
@@ -134,7 +134,7 @@ pub fn ask(line: &[u8], image: &[u8], kept: Kept) -> Kept
     unread(kept)
 }
 
-fn ask_for(image: &[u8], kept: Kept, address: u8, day: u8, slot: u8) -> Kept
+fn ask_for(image: &[u8], kept: ConsoleLog, address: u8, day: u8, slot: u8) -> ConsoleLog
     ensures { λ r. ⌜ r ≡ askedFor (now (image .entry)) kept address day slot ⌝ }
 {
     let mut frame = [0u8; frame::layout::READ_BYTES];
@@ -150,7 +150,7 @@ fn ask_for(image: &[u8], kept: Kept, address: u8, day: u8, slot: u8) -> Kept
     let answer = asked.answer;
     say_asked(answer, &frame);
     let after = asked.held;
-    Kept {
+    ConsoleLog {
         length: kept.length,
         held: after,
     }
@@ -169,7 +169,7 @@ fn say_asked(answer: AskAnswer, frame: &[u8]) {
     say::end_of(number);
 }
 
-pub fn lapse(line: &[u8], image: &mut [u8], kept: Kept) -> Kept
+pub fn lapse(line: &[u8], image: &mut [u8], kept: ConsoleLog) -> ConsoleLog
     ensures { λ r. ⌜ outcome r (now (image .exit)) ≡ lapseLine (now (line .entry)) (now (image .entry)) kept ⌝ }
 {
     if console::spaces(line) == 0 {
@@ -178,7 +178,7 @@ pub fn lapse(line: &[u8], image: &mut [u8], kept: Kept) -> Kept
     unread(kept)
 }
 
-fn lapse_of(image: &mut [u8], kept: Kept) -> Kept
+fn lapse_of(image: &mut [u8], kept: ConsoleLog) -> ConsoleLog
     ensures { λ r. ⌜ outcome r (now (image .exit)) ≡ lapseOf (now (image .entry)) kept ⌝ }
 {
     let length = kept.length;
@@ -190,16 +190,16 @@ fn lapse_of(image: &mut [u8], kept: Kept) -> Kept
     let answer = lapsed.answer;
     say::number_line(answer.number());
     let after = lapsed.held;
-    Kept {
+    ConsoleLog {
         length: length,
         held: after,
     }
 }
 
 // BYTES, or none
-pub fn reply(line: &[u8], image: &mut [u8], figures: &mut [u32], kept: Kept) -> Kept
-    ensures { λ r. ⌜ outcome r (both (now (image .exit)) (now (figures .exit)))
-        ≡ replyLine (now (line .entry)) (both (now (image .entry)) (now (figures .entry))) kept ⌝ }
+pub fn reply(line: &[u8], image: &mut [u8], figures: &mut [u32], kept: ConsoleLog) -> ConsoleLog
+    ensures { λ r. ⌜ outcome r (logAndRows (now (image .exit)) (now (figures .exit)))
+        ≡ replyLine (now (line .entry)) (logAndRows (now (image .entry)) (now (figures .entry))) kept ⌝ }
 {
     let mut bytes = [0u8; 2048];
     match crate::reads::reply_bytes(line, 1, &mut bytes) {
@@ -208,9 +208,9 @@ pub fn reply(line: &[u8], image: &mut [u8], figures: &mut [u32], kept: Kept) -> 
     }
 }
 
-fn reply_of(bytes: &[u8], image: &mut [u8], figures: &mut [u32], kept: Kept) -> Kept
-    ensures { λ r. ⌜ outcome r (both (now (image .exit)) (now (figures .exit)))
-        ≡ replyOf (now (bytes .entry)) (both (now (image .entry)) (now (figures .entry))) kept ⌝ }
+fn reply_of(bytes: &[u8], image: &mut [u8], figures: &mut [u32], kept: ConsoleLog) -> ConsoleLog
+    ensures { λ r. ⌜ outcome r (logAndRows (now (image .exit)) (now (figures .exit)))
+        ≡ replyOf (now (bytes .entry)) (logAndRows (now (image .entry)) (now (figures .entry))) kept ⌝ }
 {
     let length = kept.length;
     let held = kept.held;
@@ -221,7 +221,7 @@ fn reply_of(bytes: &[u8], image: &mut [u8], figures: &mut [u32], kept: Kept) -> 
     let answer = taken.answer;
     say_taken(answer);
     let after = taken.held;
-    Kept {
+    ConsoleLog {
         length: length,
         held: after,
     }
@@ -270,12 +270,12 @@ pub fn cell(line: &[u8], image: &[u8]) {
 }
 
 fn cell_of(image: &[u8], day: u8, slot: u8) {
-    match log::sound(image) {
-        Lent::Sound(h) => match log::interval_of(h, day, slot) {
+    match log_header::sound(image) {
+        LogHeader::Sound(h) => match log_header::interval_of(h, day, slot) {
             Interval::At(i) => say_cell(log::cell_at(image, i), log::lapses_at(image, i)),
             Interval::Outside => say::number_line(refusal::NOT_IN_LOG),
         },
-        Lent::Unsound => say::number_line(refusal::UNSOUND),
+        LogHeader::Unsound => say::number_line(refusal::UNSOUND),
     }
 }
 
@@ -308,8 +308,8 @@ pub fn report(line: &[u8], image: &[u8], figures: &[u32]) {
 }
 
 fn report_of(image: &[u8], figures: &[u32], day: u8) {
-    let mut row = [0u32; day_figures::REPORT_NUMBERS];
-    let answer = dayreport::day_report(image, figures, day, &mut row);
+    let mut row = [0u32; day_rows::REPORT_NUMBERS];
+    let answer = day_report::day_report(image, figures, day, &mut row);
     let number = answer.number();
     say::first(number);
     match answer {
@@ -321,7 +321,7 @@ fn report_of(image: &[u8], figures: &[u32], day: u8) {
     say::end_of(number);
 }
 
-fn say_row(row: [u32; day_figures::REPORT_NUMBERS]) {
+fn say_row(row: [u32; day_rows::REPORT_NUMBERS]) {
     say::number(row[0] as u64);
     say::number(row[1] as u64);
     say::number(row[2] as u64);

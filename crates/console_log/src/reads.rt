@@ -3,12 +3,12 @@ use console::BYTE;
 use console::BytesAnswer;
 use console::byte;
 use console_io::say;
-use figures::Energies;
-use frame::code::Reading;
+use parameters::code::Reading;
 use reader::Decoded;
 use reader::Fault;
 use request::Request;
 use request::RequestAnswer;
+use wire_values::Energies;
 ghost use mathlib.Core.Path.{_≡_};
 ghost use Rattle.refusal.specs.Outcome.{outcome};
 ghost use Rattle.console_log.specs.Words.{replyRead, requestIn};
@@ -103,12 +103,12 @@ pub fn say_figures(decoded: Decoded, reply: &[u8]) {
         }
         Decoded::DateTime(t) => {
             let mut bytes = [0u8; 6];
-            figures::put_date_time(&mut bytes, t);
+            wire_values::put_date_time(&mut bytes, t);
             say::six_bytes(bytes);
         }
         Decoded::DisplayMask(m) => {
             let mut bytes = [0u8; 6];
-            figures::put_display_mask(&mut bytes, m);
+            wire_values::put_display_mask(&mut bytes, m);
             say::six_bytes(bytes);
         }
         Decoded::Powers(p) => {

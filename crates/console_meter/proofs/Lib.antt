@@ -1,1 +1,2 @@
+pub mod SetLinesLaws
 pub mod ServedLaws

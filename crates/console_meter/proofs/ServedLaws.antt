@@ -8,7 +8,7 @@ use Rattle.meter_record.specs.Record.{secondOf}
 use Rattle.meter_record.specs.declared.record.Record.{Record}
 use Rattle.meter.specs.Reply as meter
 use Rattle.meter.specs.declared.reply.Answered.{Answered}
-use Rattle.console_setup.specs.Lines.{recordAfter, laterBy}
+use Rattle.console_meter.specs.SetLines.{recordAfter, laterBy}
 use Rattle.console_meter.specs.Served.{Standing, standing, Event, second, frame, answeredBy, happened, run, Reached}
 
 -- where nothing happens

@@ -8,21 +8,21 @@ use lib.ListN.{replicate}
 use Rattle.refusal.specs.Outcome.{Outcome, outcome, check}
 use Rattle.text.specs.Ascii.{ascii}
 use Rattle.frame.specs.Layout.{longest}
-use Rattle.frame.specs.declared.code.Reading.{Reading}
-use Rattle.frame.specs.declared.code.Reading.the-variants.{Stored, Displayed}
+use Rattle.parameters.specs.declared.code.Reading.{Reading}
+use Rattle.parameters.specs.declared.code.Reading.the-variants.{Stored, Displayed}
 use Rattle.meter_record.specs.Record as record-of
 use Rattle.meter_record.specs.declared.record.Record.{Record}
 use Rattle.meter_command.specs.Verdict.{numberOf}
 use Rattle.meter.specs.Reply as meter
-use Rattle.meter_inquiry.specs.Inquiry as inquiry
+use Rattle.meter_round_trip.specs.Inquiry as inquiry
 use Rattle.console.specs.Form.{placeOf, isForm}
 use Rattle.console.specs.Line.{partOf, spacesIn, wordAt}
 use Rattle.console.specs.Value.{bytesRead}
 use Rattle.console.specs.declared.value.BytesAnswer.{BytesAnswer}
 use Rattle.console.specs.declared.value.BytesAnswer.the-variants as bytes
-use Rattle.console_setup.specs.Lines.{recordAfter, byte, setLine}
-use Rattle.console_setup.specs.declared.answer.LineAnswer.{LineAnswer}
-use Rattle.console_setup.specs.declared.answer.LineAnswer.the-variants as line-answer
+use Rattle.console_meter.specs.SetLines.{recordAfter, byte, setLine}
+use Rattle.console_meter.specs.declared.set_answer.LineAnswer.{LineAnswer}
+use Rattle.console_meter.specs.declared.set_answer.LineAnswer.the-variants as line-answer
 use Rattle.console_log.specs.Words.{requestIn}
 use Rattle.console_meter.specs.declared.answer.Answer.{Answer}
 use Rattle.console_meter.specs.declared.answer.Answer.the-variants.{Unread, Number, Reply, Recorded, Shown, Inquired}
@@ -45,12 +45,12 @@ unread r = called Unread r
 
 -- ---- meter, power, slice, second, ratio: the number, and the record that stands after it
 
-unfoldable pub settled : Record → LineAnswer → Called
-settled r (line-answer.Answered a) = called (Number (record-of.numberOf a)) (recordAfter a r)
-settled r line-answer.Unread = unread r
+unfoldable pub setAnswered : Record → LineAnswer → Called
+setAnswered r (line-answer.Answered a) = called (Number (record-of.numberOf a)) (recordAfter a r)
+setAnswered r line-answer.Unread = unread r
 
 abbrev pub setOf : Record → Outcome LineAnswer (List ℕ) → Outcome Called (List ℕ)
-setOf r o = outcome (settled r (o .result)) (o .left)
+setOf r o = outcome (setAnswered r (o .result)) (o .left)
 
 -- ---- record, shown: no words behind the first; what is printed is the record's
 

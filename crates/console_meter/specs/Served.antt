@@ -8,7 +8,7 @@ use Rattle.frame.specs.Layout.{longest}
 use Rattle.meter_record.specs.Record.{secondOf}
 use Rattle.meter_record.specs.declared.record.Record.{Record}
 use Rattle.meter.specs.Reply as meter
-use Rattle.console_setup.specs.Lines.{recordAfter}
+use Rattle.console_meter.specs.SetLines.{recordAfter}
 
 -- a meter: its record, and its store of slices
 pub record Standing : Type 0 where

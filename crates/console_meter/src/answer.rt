@@ -1,6 +1,6 @@
 // What a line of the bench meter comes to.
-use meter_inquiry::Inquired;
 use meter_record::Record;
+use meter_round_trip::Inquired;
 
 pub enum Answer {
     // No line of the console's.

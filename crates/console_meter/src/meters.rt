@@ -1,15 +1,15 @@
 // The bench meter's lines: each takes the record, and is lent the store and an output for the meter's reply.
 use crate::answer::Answer;
 use crate::answer::Called;
+use crate::set_answer::LineAnswer;
 use console::BYTE;
 use console::BytesAnswer;
-use console_setup::LineAnswer;
-use frame::code::Reading;
 use meter_record::Record;
+use parameters::code::Reading;
 ghost use mathlib.Core.Path.{_≡_};
 ghost use Rattle.refusal.specs.Outcome.{outcome};
-ghost use Rattle.console_setup.specs.Lines.{setLine};
-ghost use Rattle.console_meter.specs.Lines.{left, unread, settled, setOf, alone, frameOf, frameLine, inquireLine, calledLine};
+ghost use Rattle.console_meter.specs.SetLines.{setLine};
+ghost use Rattle.console_meter.specs.Lines.{left, unread, setAnswered, setOf, alone, frameOf, frameLine, inquireLine, calledLine};
 
 const FRAME: usize = 0;
 
@@ -51,16 +51,16 @@ fn unread(r: Record) -> Called
 fn set(line: &[u8], store: &mut [u8], r: Record) -> Called
     ensures { λ a. ⌜ outcome a (now (store .exit)) ≡ setOf r (setLine r (now (line .entry)) (now (store .entry))) ⌝ }
 {
-    set_of(console_setup::set(line, store, r), r)
+    set_of(crate::set_lines::set(line, store, r), r)
 }
 
 fn set_of(answer: LineAnswer, r: Record) -> Called
-    ensures { λ a. ⌜ a ≡ settled r answer ⌝ }
+    ensures { λ a. ⌜ a ≡ setAnswered r answer ⌝ }
 {
     match answer {
         LineAnswer::Answered(given) => Called {
             answer: Answer::Number(given.number()),
-            after: console_setup::record_after(given, r),
+            after: crate::set_answer::record_after(given, r),
         },
         LineAnswer::Unread => unread(r),
     }
@@ -113,7 +113,7 @@ fn inquire(reading: Reading, line: &[u8], store: &mut [u8], r: Record, out: &mut
         ≡ inquireLine reading r (now (line .entry)) (now (store .entry)) (now (out .entry)) ⌝ }
 {
     if console::is_form(line, &[BYTE, BYTE, BYTE, BYTE, BYTE]) {
-        let told = meter_inquiry::inquire(r, store, console_log::request_in(reading, line), out);
+        let told = meter_round_trip::inquire(r, store, console_log::request_in(reading, line), out);
         return Called {
             answer: Answer::Inquired(told),
             after: r,

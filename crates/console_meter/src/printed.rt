@@ -6,9 +6,9 @@ use meter_clock::Level;
 use meter_clock::Protection;
 use meter_clock::Season;
 use meter_clock::Time;
-use meter_inquiry::Inquired;
 use meter_record::Ratios;
 use meter_record::Record;
+use meter_round_trip::Inquired;
 
 const FIRST_YEAR: u16 = 2000;
 
@@ -79,7 +79,7 @@ fn time(t: Time) {
 // What the display shows, as the six bytes of a mask.
 fn shown(r: Record) {
     let mut bytes = [0u8; 6];
-    figures::put_display_mask(&mut bytes, meter_record::shown(r.mask));
+    wire_values::put_display_mask(&mut bytes, meter_record::shown(r.mask));
     say::first(refusal::DONE);
     say::hex(&bytes);
     say::end();

@@ -6,7 +6,7 @@ use native.Mathlib.Nat.{lt-of-lt-of-le}
 use native.Mathlib.Omega.{arith}
 use lib.Dec.{lit<, lit≤}
 use lib.Bits.{bitXor, xor-lt}
-use Rattle.words.specs.Number.{Bytes}
+use Rattle.byte_numbers.specs.Number.{Bytes}
 use Rattle.crc16.specs.Crc.{start, polynomial, bitStep, times, eightBits, byteStep, crcFrom, crcOf}
 
 -- ---- laws

@@ -13,7 +13,7 @@ use lib.Arith.{bin-ind, lt-one}
 use lib.Pow.{pow-pos, split, shr-lt, mod-mod-pow, field}
 use lib.Bits.{bitXor, differ, xor-step, xor-zero-r, xor-self, xor-comm, xor-shr, xor-mod, xor-block, xor-shifted, shifted-half, shifted-even}
 use lib.Count.{ones, onesIn, ones-step}
-use Rattle.case_laws.proofs.Test.{everyBelow, below}
+use Rattle.test_laws.proofs.Test.{everyBelow, below}
 use Rattle.crc16.specs.Crc.{times, bitStep, polynomial}
 
 -- ---- xor

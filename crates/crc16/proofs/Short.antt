@@ -10,9 +10,9 @@ use lib.Pow.{pow-pos, pow-mono, pow-add, mod-pow-add, shl-shr, high, low}
 use lib.Bits.{bitXor, xor-comm, xor-mod}
 use lib.ListN.{length, take, drop, drop-of-length-le}
 use lib.Seq.{drop-drop, getD-drop, take-all}
-use Rattle.words.specs.Number.{Bytes, number, bytesOf}
-use Rattle.words.proofs.NumberLaws.{bytesOf-low, number-split}
-use Rattle.words.specs.Place.{numberAt}
+use Rattle.byte_numbers.specs.Number.{Bytes, number, bytesOf}
+use Rattle.byte_numbers.proofs.NumberLaws.{bytesOf-low, number-split}
+use Rattle.byte_numbers.specs.Place.{numberAt}
 use Rattle.crc16.specs.Crc.{start, times, bitStep, crcFrom, crcOf}
 use Rattle.crc16.proofs.Linear.{steps-shifted}
 use Rattle.crc16.specs.Word.{register, up}

@@ -7,7 +7,7 @@ use lib.Dec.{eqb}
 use lib.Pow.{pow-pos, shr-le}
 use lib.Bits.{bitXor, xor-comm, xor-lt}
 use lib.Count.{ones, onesIn}
-use Rattle.case_laws.proofs.Test.{everyBelow}
+use Rattle.test_laws.proofs.Test.{everyBelow}
 use Rattle.crc16.specs.Crc.{times, bitStep, polynomial}
 use Rattle.crc16.proofs.Linear.{Linear, linear-id, linear-compose, linear-times, linear-xor, linear-shl, linear-shr, linear-low, linear-bit}
 use Rattle.crc16.proofs.Linear.{linear-parityIn, onesIn-low, linear-bitStep, linear-agree-test, xor-assoc, xor-exchange}

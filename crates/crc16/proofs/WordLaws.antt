@@ -9,9 +9,9 @@ use lib.Pow.{pow-pos, split}
 use lib.Bits.{bitXor, xor-comm, xor-shifted, xor-zero-r}
 use lib.ListN.{length, take, drop, length-drop, take-append-drop}
 use lib.Seq.{drop-drop, getD-drop, length-take-le}
-use Rattle.words.specs.Number.{Bytes, number, bytesOf}
-use Rattle.words.proofs.NumberLaws.{bytesOf-number}
-use Rattle.words.specs.Place.{numberAt}
+use Rattle.byte_numbers.specs.Number.{Bytes, number, bytesOf}
+use Rattle.byte_numbers.proofs.NumberLaws.{bytesOf-number}
+use Rattle.byte_numbers.specs.Place.{numberAt}
 use Rattle.crc16.specs.Crc.{times, bitStep, eightBits, byteStep, crcFrom}
 use Rattle.crc16.proofs.CrcLaws.{crcFrom-append}
 use Rattle.crc16.proofs.Linear.{Linear, linear-times, linear-bitStep, xor-left-comm, steps-parts}

@@ -7,7 +7,7 @@
 ghost use mathlib.Core.Path.{_≡_};
 ghost use Prim.Native.Nat.{_≤_};
 ghost use lib.ListN.{length, drop};
-ghost use Rattle.words.specs.Number.{number, bytesOf};
+ghost use Rattle.byte_numbers.specs.Number.{number, bytesOf};
 ghost use Rattle.crc16.specs.Crc.{byteStep, crcFrom, crcOf};
 ghost use Rattle.crc16.specs.Word.{register, pairRegister, byX64, byX128, outOfX128, belowX30, belowX15};
 
@@ -97,7 +97,7 @@ fn below_x15(a: u64) -> u64
 
 // The register itself, which is a x^16: first modulo Q, where x^16 is x^2 + x, and then modulo x + 1, where only the number of terms
 // counts. Q has an odd number of them.
-fn settled(a: u64) -> u16
+fn register_of(a: u64) -> u16
     ensures { λ r. ⌜ r ≡ register a ⌝ }
 {
     let b = below_x30(a);
@@ -115,7 +115,7 @@ fn by_bytes(start: u64, bytes: &[u8], at: usize) -> u16
         a = byte_more(a, bytes[i]);
         i += 1;
     }
-    settled(a)
+    register_of(a)
 }
 
 // The bytes from a place on, the first four of them at once.
@@ -126,7 +126,7 @@ fn by_half(a: u64, bytes: &[u8], at: usize) -> u16
     if bytes.len() - at < 4 {
         return by_bytes(a, bytes, at);
     }
-    by_bytes(half_more(a, words::u32_at(bytes, at)), bytes, at + 4)
+    by_bytes(half_more(a, byte_numbers::u32_at(bytes, at)), bytes, at + 4)
 }
 
 // The bytes from a place on, the first eight of them at once.
@@ -137,7 +137,7 @@ fn by_word(a: u64, bytes: &[u8], at: usize) -> u16
     if bytes.len() - at < 8 {
         return by_half(a, bytes, at);
     }
-    by_half(word_more(a, words::u64_at(bytes, at)), bytes, at + 8)
+    by_half(word_more(a, byte_numbers::u64_at(bytes, at)), bytes, at + 8)
 }
 
 // Sixteen bytes at a time behind the first eight, and then the rest.
@@ -147,11 +147,15 @@ fn by_pairs(bytes: &[u8]) -> u16
 {
     let mut p = Pair {
         first: START,
-        second: words::u64_at(bytes, 0),
+        second: byte_numbers::u64_at(bytes, 0),
     };
     let mut i = 8;
     while 16 <= bytes.len() - i {
-        p = pair_more(p, words::u64_at(bytes, i), words::u64_at(bytes, i + 8));
+        p = pair_more(
+            p,
+            byte_numbers::u64_at(bytes, i),
+            byte_numbers::u64_at(bytes, i + 8),
+        );
         i += 16;
     }
     by_word(word_more(p.first, p.second), bytes, i)
@@ -172,8 +176,8 @@ fn few(bytes: &[u8]) -> u64
     ensures { λ r. ⌜ r ≡ number (now (bytes .entry)) ⌝ }
 {
     let n = bytes.len();
-    let low = words::u32_at(bytes, 0);
-    let last = words::u32_at(bytes, n - 4);
+    let low = byte_numbers::u32_at(bytes, 0);
+    let last = byte_numbers::u32_at(bytes, n - 4);
     ((last as u64) >> (64 - 8 * n) << 32) + (low as u64)
 }
 
@@ -183,7 +187,10 @@ fn two_words(bytes: &[u8]) -> u64
     ensures { λ r. ⌜ register r ≡ crcOf (now (bytes .entry)) ⌝ }
 {
     let n = bytes.len() - 8;
-    word_more(raised(words::u64_at(bytes, 0), n), words::u64_at(bytes, n))
+    word_more(
+        raised(byte_numbers::u64_at(bytes, 0), n),
+        byte_numbers::u64_at(bytes, n),
+    )
 }
 
 // The CRC of a frame's bytes before it; its low byte travels first. Frames are short, so those of four to eight bytes and of ten to
@@ -196,11 +203,11 @@ pub fn crc16(bytes: &[u8]) -> u16
         return by_bytes(START, bytes, 0);
     }
     if n <= 8 {
-        return settled(raised(few(bytes), n));
+        return register_of(raised(few(bytes), n));
     }
     if n < 16 {
         if 10 <= n {
-            return settled(two_words(bytes));
+            return register_of(two_words(bytes));
         }
     }
     by_pairs(bytes)

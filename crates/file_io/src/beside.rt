@@ -1,8 +1,8 @@
 // A new file beside another.
 use crate::path::too_long;
-use file_names::PathAnswer;
-use file_names::folder_of;
-use file_names::joined;
+use paths_and_locks::PathAnswer;
+use paths_and_locks::folder_of;
+use paths_and_locks::joined;
 
 pub struct Beside {
     // Open for writing, or below 0: there is no file.

@@ -2,11 +2,11 @@
 use crate::path::ended;
 use crate::path::is_whole;
 use crate::path::too_long;
-use file_names::PathAnswer;
-use file_names::base_of;
-use file_names::front;
-use file_names::joined;
-use file_names::start_of;
+use paths_and_locks::PathAnswer;
+use paths_and_locks::base_of;
+use paths_and_locks::front;
+use paths_and_locks::joined;
+use paths_and_locks::start_of;
 
 enum Step {
     // What a path names is no link.
@@ -66,7 +66,7 @@ fn stepped(out: &mut [u8], n: usize) -> Step {
                 too_long();
                 return Step::Failed;
             }
-            words::put_bytes(out, 0, front(&next, m));
+            byte_numbers::put_bytes(out, 0, front(&next, m));
             Step::To(m)
         }
         Step::Failed => Step::Failed,

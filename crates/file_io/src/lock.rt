@@ -3,10 +3,10 @@ use crate::beside::new_beside;
 use crate::pause::pause;
 use crate::reading::FileAnswer;
 use crate::reading::contents;
-use file_names::Holder;
-use file_names::front;
-use file_names::holder_of;
-use file_names::put_holder;
+use paths_and_locks::Holder;
+use paths_and_locks::front;
+use paths_and_locks::holder_of;
+use paths_and_locks::put_holder;
 
 pub enum Lock {
     // By this process, from now on.

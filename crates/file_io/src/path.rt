@@ -1,5 +1,5 @@
 // Paths as the C library takes them.
-use file_names::PathAnswer;
+use paths_and_locks::PathAnswer;
 ghost use Rattle.libc.specs.Io.{Ended};
 
 // The place of a path's closing 0.
@@ -10,7 +10,7 @@ pub fn ended(path: &[u8]) -> [u8; libc::PATH_MAX]
     ensures { λ r. ⌜ Ended r ⌝ }
 {
     let mut r = io::buffer();
-    words::put_bytes(&mut r, 0, path);
+    byte_numbers::put_bytes(&mut r, 0, path);
     r[LAST] = 0;
     r
 }

@@ -1,3 +1,2 @@
 pub mod SealingLaws
 pub mod LayoutLaws
-pub mod TableLaws

@@ -8,11 +8,11 @@ use native.Mathlib.Omega.{arith}
 use lib.ListN.{length, take, drop, length-append, length-drop, take-append-drop}
 use lib.Seq.{take-at, drop-at, take-all, getD-drop}
 use borrow.Author.Tests.{le-leb, eq-eqb, leb-true, eqb-true}
-use Rattle.case_laws.proofs.Test.{both}
-use Rattle.words.specs.Number.{Bytes, number, bytesOf}
-use Rattle.words.proofs.NumberLaws.{length-bytesOf, number-bytesOf-fits, bytesOf-number}
-use Rattle.words.specs.Place.{numberAt, written}
-use Rattle.words.proofs.PlaceLaws.{written-append, part-written}
+use Rattle.test_laws.proofs.Test.{both}
+use Rattle.byte_numbers.specs.Number.{Bytes, number, bytesOf}
+use Rattle.byte_numbers.proofs.NumberLaws.{length-bytesOf, number-bytesOf-fits, bytesOf-number}
+use Rattle.byte_numbers.specs.Place.{numberAt, written}
+use Rattle.byte_numbers.proofs.PlaceLaws.{written-append, part-written}
 use Rattle.crc16.specs.Crc.{crcOf}
 use Rattle.crc16.proofs.CrcLaws.{crcOf-lt}
 use Rattle.frame.specs.Layout.{crcSize}

@@ -1,4 +1,2 @@
 pub mod Layout
 pub mod Sealing
-pub mod Code
-pub mod Table

@@ -5,8 +5,8 @@ use mathlib.Core.List.{List, _++_}
 use Prim.Native.Nat.{ℕ, _-_}
 use lib.Dec.{leb, eqb}
 use lib.ListN.{length, take}
-use Rattle.words.specs.Number.{bytesOf}
-use Rattle.words.specs.Place.{numberAt, written}
+use Rattle.byte_numbers.specs.Number.{bytesOf}
+use Rattle.byte_numbers.specs.Place.{numberAt, written}
 use Rattle.crc16.specs.Crc.{crcOf}
 use Rattle.frame.specs.Layout.{shortest, longest, crcSize}
 

@@ -10,7 +10,7 @@ pub fn seal(out: &mut [u8], n: usize)
 {
     if n < out.len() {
         let crc = crc16::crc16(&out[..n]);
-        words::put_u16(out, n, crc);
+        byte_numbers::put_u16(out, n, crc);
     }
 }
 
@@ -23,7 +23,7 @@ pub fn crc_fits(frame: &[u8]) -> bool
     }
     let n = frame.len() - CRC_BYTES;
     let crc = crc16::crc16(&frame[..n]);
-    words::u16_at(frame, n) == crc
+    byte_numbers::u16_at(frame, n) == crc
 }
 
 // Whether the bytes are a frame: of a frame's length, and with its CRC right.

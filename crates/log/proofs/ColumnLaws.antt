@@ -9,20 +9,20 @@ use lib.Dec.{ltb, eqb}
 use lib.ListN.{length, set}
 use lib.Seq.{getD-set-same, ext-getD}
 use borrow.Author.Tests.{ltb-true, ltb-false, lt-ltb, le-ltb, eqb-true, eqb-false, eq-eqb, ne-eqb}
-use Rattle.words.specs.Number.{bytesOf, Bytes}
-use Rattle.words.specs.Place.{byteAt, numberAt, written}
-use Rattle.words.proofs.PlaceLaws.{Apart, length-written, byteAt-kept, numberAt-kept, numberAt-written}
-use Rattle.log.specs.Header.{headerSize, sizeFor}
-use Rattle.log.specs.Cell.{kindOf, e+Of, e-Of, r+Of, r-Of, kindCell, CountsFit, CellFits}
+use Rattle.byte_numbers.specs.Number.{bytesOf, Bytes}
+use Rattle.byte_numbers.specs.Place.{byteAt, numberAt, written}
+use Rattle.byte_numbers.proofs.PlaceLaws.{Apart, length-written, byteAt-kept, numberAt-kept, numberAt-written}
+use Rattle.log_header.specs.Header.{headerSize, sizeFor}
+use Rattle.log_cell.specs.Cell.{kindOf, e+Of, e-Of, r+Of, r-Of, kindCell, CountsFit, CellFits}
 use Rattle.log.specs.Pair.{pairOf, pairAfter, putPair}
 use Rattle.log.proofs.PairLaws.{pair-put, same-pairs}
-use Rattle.log.proofs.ByteLaws.{two}
+use Rattle.byte_numbers.proofs.ByteLaws.{two}
 use Rattle.log.specs.Image.{kindPlace, countPlace, lapsesPlace, kindAt, countAt, readAmong, cellAmong, lapsesAmong, putKind, putCount, putCounts}
 use Rattle.log.specs.Image.{putCellAmong, putLapsesAmong, Two, Own, of-kind, of-e+, of-e-, of-r+, of-r-, of-lapses, OutsideCell}
-use Rattle.log.specs.declared.cell.Cell.{Cell}
-use Rattle.log.specs.declared.cell.Cell.the-variants.{Gap, Empty, Measured}
-use Rattle.log.specs.declared.cell.CellAnswer.{CellAnswer}
-use Rattle.log.specs.declared.cell.CellAnswer.the-variants.{Good, Bad}
+use Rattle.log_cell.specs.declared.cell.Cell.{Cell}
+use Rattle.log_cell.specs.declared.cell.Cell.the-variants.{Gap, Empty, Measured}
+use Rattle.log_cell.specs.declared.cell.CellAnswer.{CellAnswer}
+use Rattle.log_cell.specs.declared.cell.CellAnswer.the-variants.{Good, Bad}
 
 -- the room of a log of n cells
 pub record Room (s : List ℕ) (n : ℕ) : Type 0 where

@@ -4,15 +4,15 @@ use mathlib.Core.Path.{_≡_, refl}
 use mathlib.Core.Bool.{true, false, cond}
 use mathlib.Core.List.{[], _∷_}
 use lib.Dec.{eqb}
-use Rattle.words.specs.Number.{bytesOf}
+use Rattle.byte_numbers.specs.Number.{bytesOf}
 use Rattle.calendar.specs.Count.{starts}
 use Rattle.calendar.specs.Date.{leap, monthLengths, daysInMonth, lengthOf, isDate, dayNumber}
 use Rattle.slots.specs.Day.{isMinutes, slotsOf}
-use Rattle.log.specs.Header.{imageMost, cellsOf, lengthOf as imageLength, daysRight, isHeader, dateBytes, headerBytesAs, headerBytes}
+use Rattle.log_header.specs.Header.{imageMost, cellsOf, lengthOf as imageLength, daysRight, isHeader, dateBytes, headerBytesAs, headerBytes}
 use Rattle.log.specs.Pair.{pairOf, packed, putPair}
 use Rattle.log.specs.Image.{kindsBytes, columnBytes, lapsesBytes, cellsBytes}
-use Rattle.log.specs.declared.cell.Cell.the-variants.{Gap, Empty, Measured}
-use Rattle.log.specs.declared.header.Header.{Header}
+use Rattle.log_cell.specs.declared.cell.Cell.the-variants.{Gap, Empty, Measured}
+use Rattle.log_header.specs.declared.header.Header.{Header}
 
 -- "Log from 2024-05-17, 1 day, 30 minutes, Ke 100", without seasons
 may : Header

@@ -8,22 +8,22 @@ use mathlib.Core.List.{List, [], _∷_, _++_}
 use lib.ListN.{length, getD, drop, set, replicate, length-replicate, getD-replicate, replicate-append-replicate}
 use borrow.Author.Tests.{le-leb}
 use Rattle.refusal.specs.Outcome.{outcome}
-use Rattle.words.specs.Place.{written}
-use Rattle.words.specs.Number.{bytesOf}
-use Rattle.words.proofs.PlaceLaws.{onward, written-fits}
-use Rattle.log.specs.Header.{headerSize, version, sizeFor, cellsOf, lengthOf, isHeader, headerBytes, soundOf}
-use Rattle.log.proofs.HeaderLaws.{cells-fours, length-headerBytes}
-use Rattle.log.specs.Cell.{e+Of, e-Of, r+Of, r-Of, IsCell}
-use Rattle.log.proofs.CellLaws.{gap-is-cell}
+use Rattle.byte_numbers.specs.Place.{written}
+use Rattle.byte_numbers.specs.Number.{bytesOf}
+use Rattle.byte_numbers.proofs.PlaceLaws.{onward, written-fits}
+use Rattle.log_header.specs.Header.{headerSize, version, sizeFor, cellsOf, lengthOf, isHeader, headerBytes, soundOf}
+use Rattle.log_header.proofs.HeaderLaws.{cells-fours, length-headerBytes}
+use Rattle.log_cell.specs.Cell.{e+Of, e-Of, r+Of, r-Of, IsCell}
+use Rattle.log_cell.proofs.CellLaws.{gap-is-cell}
 use Rattle.log.specs.Pair.{packed}
 use Rattle.log.specs.Image.{cellAt, kindsBytes, columnBytes, lapsesBytes, cellsBytes, imageOf}
 use Rattle.log.proofs.ImageLaws.{sound-image, cellAt-image, length-imageOf}
 use Rattle.log.specs.Fresh.{gaps, noLapses, freshImage, freshOf}
-use Rattle.log.specs.declared.header.Header.{Header}
-use Rattle.log.specs.declared.header.Lent.the-variants.{Sound}
-use Rattle.log.specs.declared.cell.Cell.{Cell}
-use Rattle.log.specs.declared.cell.Cell.the-variants.{Gap}
-use Rattle.log.specs.declared.cell.CellAnswer.the-variants.{Good}
+use Rattle.log_header.specs.declared.header.Header.{Header}
+use Rattle.log_header.specs.declared.header.LogHeader.the-variants.{Sound}
+use Rattle.log_cell.specs.declared.cell.Cell.{Cell}
+use Rattle.log_cell.specs.declared.cell.Cell.the-variants.{Gap}
+use Rattle.log_cell.specs.declared.cell.CellAnswer.the-variants.{Good}
 use Rattle.log.specs.declared.fresh.FreshAnswer.the-variants.{Done}
 
 pub length-gaps : (n : ℕ) → length (gaps n) ≡ n

@@ -11,17 +11,17 @@ use lib.Dec.{ltb, eqb}
 use lib.ListN.{length, getD, take, drop, set, length-append, drop-of-length-le, List·getD-append}
 use lib.Seq.{getD-append-add, getD-take}
 use borrow.Author.Tests.{ltb-true, lt-ltb, eqb-true, eqb-false}
-use Rattle.case_laws.proofs.Test.{chosen}
-use Rattle.words.specs.Number.{bytesOf, Bytes}
-use Rattle.words.specs.Place.{byteAt, numberAt, written}
-use Rattle.words.proofs.NumberLaws.{bytes-bytesOf}
-use Rattle.words.proofs.PlaceLaws.{length-written, byteAt-kept, numberAt-kept, numberAt-front, numberAt-behind, numberAt-behind-bytes, byteAt-written, written-fits}
-use Rattle.words.proofs.Part.{written-part}
-use Rattle.log.proofs.ByteLaws.{bytes-nil, bytes-cons, bytes-append}
-use Rattle.log.specs.Header.{headerSize, version, sizeFor, cellsOf, lengthOf, isHeader, headerBytes, headerAt, markRight, versionRight, fieldsRight, headerOf, soundOf}
-use Rattle.log.proofs.HeaderLaws.{cells-fours, header-ranges, length-headerBytes, bytes-header, headerAt-bytes, sound-bytes, sound-log, sound-front}
-use Rattle.log.specs.Cell.{kindOf, e+Of, e-Of, r+Of, r-Of, kindCell, kindNames, kindFits, noCounts, cellBy, CountsFit, IsCell}
-use Rattle.log.proofs.CellLaws.{Kind, kindCell-of, kind-of, bad≢good, fits-named, two-below}
+use Rattle.test_laws.proofs.Test.{chosen}
+use Rattle.byte_numbers.specs.Number.{bytesOf, Bytes}
+use Rattle.byte_numbers.specs.Place.{byteAt, numberAt, written}
+use Rattle.byte_numbers.proofs.NumberLaws.{bytes-bytesOf}
+use Rattle.byte_numbers.proofs.PlaceLaws.{length-written, byteAt-kept, numberAt-kept, numberAt-front, numberAt-behind, numberAt-behind-bytes, byteAt-written, written-fits}
+use Rattle.byte_numbers.proofs.Part.{written-part}
+use Rattle.byte_numbers.proofs.ByteLaws.{bytes-nil, bytes-cons, bytes-append}
+use Rattle.log_header.specs.Header.{headerSize, version, sizeFor, cellsOf, lengthOf, isHeader, headerBytes, headerAt, markRight, versionRight, fieldsRight, headerOf, soundOf}
+use Rattle.log_header.proofs.HeaderLaws.{cells-fours, header-ranges, length-headerBytes, bytes-header, headerAt-bytes, sound-bytes, sound-log, sound-front}
+use Rattle.log_cell.specs.Cell.{kindOf, e+Of, e-Of, r+Of, r-Of, kindCell, kindNames, kindFits, noCounts, cellBy, CountsFit, IsCell}
+use Rattle.log_cell.proofs.CellLaws.{Kind, kindCell-of, kind-of, bad≢good, fits-named, two-below}
 use Rattle.log.specs.Pair.{pairOf, packed}
 use Rattle.log.proofs.PairLaws.{packed-at, packed-byte, pair-byte}
 use Rattle.log.specs.Image.{kindPlace, countPlace, lapsesPlace, kindAt, countAt, cellsAt, readAmong, cellAmong, lapsesAmong, cellAt, lapsesAt}
@@ -31,12 +31,12 @@ use Rattle.log.proofs.ColumnLaws.{Room, room-kept, Parts, partsAt, part
 use Rattle.log.proofs.ColumnLaws.{Off, before-off, behind-off, byte-lapses, front-lapses, lapses-there, lapses-elsewhere, length-putCellAmong, length-putLapsesAmong}
 use Rattle.log.proofs.ColumnLaws.{same-cell, same-front, same-lapses, cell-in, lapses-in-log, none-past, no-lapses-past, same-bytes}
 use Rattle.log.specs.View.{seenFrom}
-use Rattle.log.specs.declared.header.Header.{Header}
-use Rattle.log.specs.declared.header.Lent.the-variants.{Sound}
-use Rattle.log.specs.declared.cell.Cell.{Cell}
-use Rattle.log.specs.declared.cell.Cell.the-variants.{Gap}
-use Rattle.log.specs.declared.cell.CellAnswer.{CellAnswer}
-use Rattle.log.specs.declared.cell.CellAnswer.the-variants.{Good, Bad}
+use Rattle.log_header.specs.declared.header.Header.{Header}
+use Rattle.log_header.specs.declared.header.LogHeader.the-variants.{Sound}
+use Rattle.log_cell.specs.declared.cell.Cell.{Cell}
+use Rattle.log_cell.specs.declared.cell.Cell.the-variants.{Gap}
+use Rattle.log_cell.specs.declared.cell.CellAnswer.{CellAnswer}
+use Rattle.log_cell.specs.declared.cell.CellAnswer.the-variants.{Good, Bad}
 
 -- ---- what a put keeps
 

@@ -1,12 +1,8 @@
-pub mod ByteLaws
-pub mod HeaderLaws
-pub mod CellLaws
 pub mod PairLaws
 pub mod ColumnLaws
 pub mod ImageLaws
 pub mod LookLaws
 pub mod ViewLaws
-pub mod IntervalLaws
 pub mod MissingLaws
 pub mod FreshLaws
 pub mod Examples

@@ -10,26 +10,26 @@ use lib.Dec.{eqb, ltb}
 use lib.ListN.{length, getD, take, drop, set, length-set}
 use lib.Seq.{drop-cons, getD-set-same, getD-set-other}
 use borrow.Author.Tests.{ltb-true, ltb-false, eqb-true, eqb-false, ne-eqb}
-use Rattle.words.specs.Number.{Bytes}
-use Rattle.words.specs.Place.{byteAt}
-use Rattle.log.specs.Header.{cellsOf, isHeader, soundOf}
-use Rattle.log.specs.Cell.{IsCell}
+use Rattle.byte_numbers.specs.Number.{Bytes}
+use Rattle.byte_numbers.specs.Place.{byteAt}
+use Rattle.log_header.specs.Header.{cellsOf, isHeader, soundOf}
+use Rattle.log_cell.specs.Cell.{IsCell}
 use Rattle.log.specs.Pair.{pairOf}
 use Rattle.log.specs.Image.{lapsesPlace, cellsAt, cellAt, lapsesAt, putCellAmong, putLapsesAmong, putCell, putLapses, OutsideCell, of-lapses, applied, imageOf}
 use Rattle.log.specs.Image.{allGood, goods, AllCells, LapsesFit}
 use Rattle.log.specs.View.{View, viewOf, seenFrom, seenWhere}
-use Rattle.log.proofs.CellLaws.{bad≢good}
+use Rattle.log_cell.proofs.CellLaws.{bad≢good}
 use Rattle.log.proofs.ColumnLaws.{outside-stays, byte-lapses}
 use Rattle.log.proofs.ImageLaws.{length-putCell, length-putLapses, soundOf-putCell, soundOf-putLapses, putCell-among, putLapses-among, cells-at, room-of, cellAt-past, lapsesAt-past}
 use Rattle.log.proofs.ImageLaws.{cellAt-put, cellAt-put-other, lapsesAt-put, lapsesAt-lapses, lapsesAt-lapses-other, cellAt-lapses, bytes-putCell, bytes-putLapses}
 use Rattle.log.proofs.ImageLaws.{read-is-cell, bytes-image, sound-image, cellAt-image, lapsesAt-image, image-alike, image-of-log}
-use Rattle.log.specs.declared.header.Header.{Header}
-use Rattle.log.specs.declared.header.Lent.{Lent}
-use Rattle.log.specs.declared.header.Lent.the-variants.{Sound, Unsound}
-use Rattle.log.specs.declared.cell.Cell.{Cell}
-use Rattle.log.specs.declared.cell.Cell.the-variants.{Gap}
-use Rattle.log.specs.declared.cell.CellAnswer.{CellAnswer}
-use Rattle.log.specs.declared.cell.CellAnswer.the-variants.{Good, Bad}
+use Rattle.log_header.specs.declared.header.Header.{Header}
+use Rattle.log_header.specs.declared.header.LogHeader.{LogHeader}
+use Rattle.log_header.specs.declared.header.LogHeader.the-variants.{Sound, Unsound}
+use Rattle.log_cell.specs.declared.cell.Cell.{Cell}
+use Rattle.log_cell.specs.declared.cell.Cell.the-variants.{Gap}
+use Rattle.log_cell.specs.declared.cell.CellAnswer.{CellAnswer}
+use Rattle.log_cell.specs.declared.cell.CellAnswer.the-variants.{Good, Bad}
 use Rattle.log.specs.declared.image.Change.{Change}
 use Rattle.log.specs.declared.image.Change.the-variants.{None, Put, Lapses}
 
@@ -42,7 +42,7 @@ changed (Put i c) v = record { lent = v .lent; cell = λ j. cond (eqb j i) (Good
 changed (Lapses i n) v = record { lent = v .lent; cell = v .cell; lapses = λ j. cond (eqb j i) n (v .lapses j) }
 
 -- cell i is one of the log's
-abbrev pub Within : Lent → ℕ → Type 0
+abbrev pub Within : LogHeader → ℕ → Type 0
 Within (Sound h) i = i < cellsOf h
 Within Unsound i = ⊥
 
@@ -88,7 +88,7 @@ module _ (s : List ℕ) (h : Header) (i : ℕ) (p : soundOf s ≡ Sound h) (l : 
       ∙ ap (changed (Lapses i n)) (sym (seen-of s h p))
 
 -- a cell of the log is one of a header's
-pub within : (a : Lent) (i : ℕ) → Within a i → (h : Header) × ((a ≡ Sound h) × (i < cellsOf h))
+pub within : (a : LogHeader) (i : ℕ) → Within a i → (h : Header) × ((a ≡ Sound h) × (i < cellsOf h))
 within Unsound i w = absurd w
 within (Sound h) i w = (h, (refl, w))
 
@@ -217,7 +217,7 @@ AreCells cell = (i : ℕ) (c : Cell) → cell i ≡ Good c → IsCell c
 pub seen-are-cells : (s : List ℕ) → Bytes s → AreCells (viewOf s .cell)
 seen-are-cells s bytes i c p = go (soundOf s) refl
   where
-    go : (a : Lent) → soundOf s ≡ a → IsCell c
+    go : (a : LogHeader) → soundOf s ≡ a → IsCell c
     go Unsound e = absurd (bad≢good c (rw e at p))
     go (Sound h) e = read-is-cell s bytes i c (rw e at p)
 

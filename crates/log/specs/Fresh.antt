@@ -5,12 +5,12 @@ use mathlib.Core.List.{List}
 use lib.Dec.{leb}
 use lib.ListN.{length, replicate}
 use Rattle.refusal.specs.Outcome.{Outcome, outcome}
-use Rattle.words.specs.Place.{written}
-use Rattle.log.specs.Header.{isHeader, cellsOf, lengthOf}
+use Rattle.byte_numbers.specs.Place.{written}
+use Rattle.log_header.specs.Header.{isHeader, cellsOf, lengthOf}
 use Rattle.log.specs.Image.{imageOf}
-use Rattle.log.specs.declared.header.Header.{Header}
-use Rattle.log.specs.declared.cell.Cell.{Cell}
-use Rattle.log.specs.declared.cell.Cell.the-variants.{Gap}
+use Rattle.log_header.specs.declared.header.Header.{Header}
+use Rattle.log_cell.specs.declared.cell.Cell.{Cell}
+use Rattle.log_cell.specs.declared.cell.Cell.the-variants.{Gap}
 use Rattle.log.specs.declared.fresh.FreshAnswer.{FreshAnswer}
 use Rattle.log.specs.declared.fresh.FreshAnswer.the-variants.{Done, OutOfRange, TooShort}
 

@@ -7,18 +7,18 @@ use mathlib.Core.Logic.{_⊎_}
 use mathlib.Core.Path.{_≡_}
 use lib.Dec.{ltb}
 use lib.ListN.{length, getD}
-use Rattle.words.specs.Number.{bytesOf}
-use Rattle.words.specs.Place.{byteAt, numberAt, written}
-use Rattle.log.specs.Header.{headerSize, cellsOf, headerAt, headerBytes}
-use Rattle.log.specs.Cell.{kindOf, e+Of, e-Of, r+Of, r-Of, kindCell, kindNames, IsCell}
+use Rattle.byte_numbers.specs.Number.{bytesOf}
+use Rattle.byte_numbers.specs.Place.{byteAt, numberAt, written}
+use Rattle.log_header.specs.Header.{headerSize, cellsOf, headerAt, headerBytes}
+use Rattle.log_cell.specs.Cell.{kindOf, e+Of, e-Of, r+Of, r-Of, kindCell, kindNames, IsCell}
 use Rattle.log.specs.Pair.{pairOf, packed, putPair}
-use Rattle.log.specs.declared.header.Header.{Header}
-use Rattle.log.specs.declared.cell.Cell.{Cell}
-use Rattle.log.specs.declared.cell.CellAnswer.{CellAnswer}
-use Rattle.log.specs.declared.cell.CellAnswer.the-variants.{Good, Bad}
+use Rattle.log_header.specs.declared.header.Header.{Header}
+use Rattle.log_cell.specs.declared.cell.Cell.{Cell}
+use Rattle.log_cell.specs.declared.cell.CellAnswer.{CellAnswer}
+use Rattle.log_cell.specs.declared.cell.CellAnswer.the-variants.{Good, Bad}
 use Rattle.log.specs.declared.image.Change.{Change}
 use Rattle.log.specs.declared.image.Change.the-variants.{None, Put, Lapses}
-use Rattle.log.specs.declared.cell.Cell.the-variants.{Gap}
+use Rattle.log_cell.specs.declared.cell.Cell.the-variants.{Gap}
 
 -- ---- where a log of n cells has what
 

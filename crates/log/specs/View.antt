@@ -4,19 +4,19 @@ use Prim.Native.Nat.{ℕ, zero, suc}
 use mathlib.Core.Bool.{Bool, true, false, cond, _&&_, _||_}
 use mathlib.Core.List.{List, [], _∷_}
 use lib.Dec.{eqb}
-use Rattle.log.specs.Header.{soundOf, ifSound}
+use Rattle.log_header.specs.Header.{soundOf, ifSound}
 use Rattle.log.specs.Image.{cellAt, lapsesAt}
-use Rattle.log.specs.Interval.{existsAt}
-use Rattle.log.specs.declared.header.Header.{Header}
-use Rattle.log.specs.declared.header.Lent.{Lent}
-use Rattle.log.specs.declared.cell.CellAnswer.{CellAnswer}
-use Rattle.log.specs.declared.cell.CellAnswer.the-variants.{Good, Bad}
-use Rattle.log.specs.declared.cell.Cell.the-variants.{Gap, Empty, Measured}
+use Rattle.log_header.specs.Interval.{existsAt}
+use Rattle.log_header.specs.declared.header.Header.{Header}
+use Rattle.log_header.specs.declared.header.LogHeader.{LogHeader}
+use Rattle.log_cell.specs.declared.cell.CellAnswer.{CellAnswer}
+use Rattle.log_cell.specs.declared.cell.CellAnswer.the-variants.{Good, Bad}
+use Rattle.log_cell.specs.declared.cell.Cell.the-variants.{Gap, Empty, Measured}
 
 -- whether they are a log and with which header, the cell at each index, and how many asks for it lapsed; past a log's cells, and in bytes that are no
 -- log, there is none
 pub record View : Type 0 where
-  pub lent : Lent
+  pub lent : LogHeader
   pub cell : ℕ → CellAnswer
   pub lapses : ℕ → ℕ
 

@@ -3,11 +3,11 @@ ghost use mathlib.Core.Path.{_≡_};
 ghost use Prim.Native.Nat.{_+_, _-_, _≤_};
 ghost use lib.ListN.{length, replicate};
 ghost use Rattle.refusal.specs.Outcome.{outcome};
-ghost use Rattle.words.specs.Place.{written};
-ghost use Rattle.log.specs.Header.{headerSize};
+ghost use Rattle.byte_numbers.specs.Place.{written};
+ghost use Rattle.log_header.specs.Header.{headerSize};
 ghost use Rattle.log.specs.Fresh.{freshNumber, freshOf};
-use crate::header::HEADER_BYTES;
-use crate::header::Header;
+use log_header::HEADER_BYTES;
+use log_header::Header;
 
 pub enum FreshAnswer {
     // The image's length.
@@ -33,12 +33,12 @@ impl FreshAnswer {
 pub fn fresh_log(h: Header, out: &mut [u8]) -> FreshAnswer
     ensures { λ r. ⌜ outcome r (now (out .exit)) ≡ freshOf h (now (out .entry)) ⌝ }
 {
-    if crate::header::is_header(h) {
-        let length = crate::header::length_of(h);
+    if log_header::is_header(h) {
+        let length = log_header::length_of(h);
         if out.len() < length {
             return FreshAnswer::TooShort;
         }
-        crate::header::write_header(out, h);
+        log_header::write_header(out, h);
         write_gaps(out, length);
         return FreshAnswer::Done(length);
     }

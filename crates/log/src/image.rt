@@ -3,13 +3,13 @@
 ghost use mathlib.Core.Path.{_≡_};
 ghost use Prim.Native.Nat.{_+_, _*_, _<_, _≤_};
 ghost use lib.ListN.{length};
-ghost use Rattle.words.specs.Place.{numberAt};
-ghost use Rattle.log.specs.Header.{sizeFor};
+ghost use Rattle.byte_numbers.specs.Place.{numberAt};
+ghost use Rattle.log_header.specs.Header.{sizeFor};
 ghost use Rattle.log.specs.Image.{kindAt, countAt, cellsAt, cellAmong, lapsesAmong, cellAt, lapsesAt};
 ghost use Rattle.log.specs.Image.{putKind, putCount, putCounts, putCellAmong, putLapsesAmong, putCell, putLapses, applied};
-use crate::cell::Cell;
-use crate::cell::CellAnswer;
-use crate::header::HEADER_BYTES;
+use log_cell::Cell;
+use log_cell::CellAnswer;
+use log_header::HEADER_BYTES;
 
 // What a call does to a log.
 pub enum Change {
@@ -24,8 +24,8 @@ pub enum Change {
 pub fn cells_at(log: &[u8]) -> u16
     ensures { λ r. ⌜ r ≡ cellsAt (now (log .entry)) ⌝ }
 {
-    let days = words::byte_at(log, 8);
-    let slots = slots::slots_of(words::byte_at(log, 9));
+    let days = byte_numbers::byte_at(log, 8);
+    let slots = slots::slots_of(byte_numbers::byte_at(log, 9));
     (days as u16) * (slots as u16)
 }
 
@@ -52,7 +52,7 @@ pub fn cell_among(log: &[u8], n: u16, i: usize) -> CellAnswer
     if size_for(n) <= log.len() {
         return cell_in(log, n, i);
     }
-    crate::cell::kind_cell(
+    log_cell::kind_cell(
         kind_at(log, n, i),
         count_at(log, n, i),
         count_at(log, n, cells + i),
@@ -68,7 +68,7 @@ fn cell_in(log: &[u8], n: u16, i: usize) -> CellAnswer
 {
     let cells = n as usize;
     let counts = HEADER_BYTES + cells / 4;
-    crate::cell::kind_cell(
+    log_cell::kind_cell(
         crate::pair::pair_of(log[HEADER_BYTES + i / 4], i % 4),
         count_in(log, counts + 2 * i),
         count_in(log, counts + 2 * (cells + i)),
@@ -98,7 +98,7 @@ pub fn lapses_among(log: &[u8], n: u16, i: usize) -> u8
     if size_for(n) <= log.len() {
         return log[at];
     }
-    words::byte_at(log, at)
+    byte_numbers::byte_at(log, at)
 }
 
 // The room of n cells. With it every place of theirs is one: a loop over them tests it once, and no place by itself.
@@ -117,7 +117,7 @@ pub fn kind_at(log: &[u8], n: u16, i: usize) -> u8
     if size_for(n) <= log.len() {
         return crate::pair::pair_of(log[at], i % 4);
     }
-    crate::pair::pair_of(words::byte_at(log, at), i % 4)
+    crate::pair::pair_of(byte_numbers::byte_at(log, at), i % 4)
 }
 
 pub fn count_at(log: &[u8], n: u16, m: usize) -> u16
@@ -128,7 +128,7 @@ pub fn count_at(log: &[u8], n: u16, m: usize) -> u16
     if size_for(n) <= log.len() {
         return count_in(log, at);
     }
-    words::u16_at(log, at)
+    byte_numbers::u16_at(log, at)
 }
 
 // As far as the image has room for it.
@@ -154,15 +154,15 @@ pub fn put_cell_among(log: &mut [u8], n: u16, i: usize, c: Cell)
         return;
     }
     // The cell is matched for each part by itself: kinds come in no order that a processor could guess, and so nothing branches on them.
-    put_kind(log, i, crate::cell::kind_of(c));
+    put_kind(log, i, log_cell::kind_of(c));
     put_counts(
         log,
         n,
         i,
-        crate::cell::e_plus(c),
-        crate::cell::e_minus(c),
-        crate::cell::r_plus(c),
-        crate::cell::r_minus(c),
+        log_cell::e_plus(c),
+        log_cell::e_minus(c),
+        log_cell::r_plus(c),
+        log_cell::r_minus(c),
     );
 }
 
@@ -178,7 +178,7 @@ pub fn put_lapses_among(log: &mut [u8], n: u16, i: usize, lapses: u8)
         log[at] = lapses;
         return;
     }
-    words::put_byte(log, at, lapses);
+    byte_numbers::put_byte(log, at, lapses);
 }
 
 fn put_kind(log: &mut [u8], i: usize, kind: u8)
@@ -186,8 +186,8 @@ fn put_kind(log: &mut [u8], i: usize, kind: u8)
     ensures { λ _. ⌜ now (log .exit) ≡ putKind (now (log .entry)) i kind ⌝ }
 {
     let at = HEADER_BYTES + i / 4;
-    let kinds = words::byte_at(log, at);
-    words::put_byte(log, at, crate::pair::put_pair(kinds, i % 4, kind));
+    let kinds = byte_numbers::byte_at(log, at);
+    byte_numbers::put_byte(log, at, crate::pair::put_pair(kinds, i % 4, kind));
 }
 
 fn put_counts(log: &mut [u8], n: u16, i: usize, ep: u16, em: u16, rp: u16, rm: u16)
@@ -211,7 +211,7 @@ fn put_count(log: &mut [u8], n: u16, m: usize, x: u16)
         log[at + 1] = (x / 256) as u8;
         return;
     }
-    words::put_u16(log, at, x);
+    byte_numbers::put_u16(log, at, x);
 }
 
 pub fn apply(log: &mut [u8], change: Change)

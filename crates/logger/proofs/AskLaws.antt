@@ -7,21 +7,21 @@ use native.Mathlib.Omega.{arith}
 use borrow.Author.Tests.{le-leb, le-ltb, lt-ltb}
 use lib.ListN.{length}
 use Rattle.refusal.specs.Outcome.{outcome}
-use Rattle.words.specs.Place.{written}
+use Rattle.byte_numbers.specs.Place.{written}
 use Rattle.calendar.specs.Date.{isDate, dayNumber, centuryDays}
 use Rattle.calendar.proofs.DateLaws.{ranges, month-length, date-of}
 use Rattle.calendar.specs.declared.date.Date.{Date}
 use Rattle.frame.specs.Layout.{readSize}
-use Rattle.frame.specs.Table.{firstOf, parameterOf}
+use Rattle.parameters.specs.Table.{firstOf, parameterOf}
 use Rattle.slots.specs.Day.{slotsOf}
 use Rattle.slots.proofs.DayLaws.{slotsMost, slots-at-most}
 use Rattle.slots.specs.Key.{isLegal}
 use Rattle.request.specs.Subject.{subjectOf, subjectFor}
 use Rattle.request.specs.Request.{requested, requestFrame}
 use Rattle.request.specs.declared.request.RequestAnswer.the-variants.{Done}
-use Rattle.log.specs.Header.{isHeader}
-use Rattle.log.proofs.HeaderLaws.{header-ranges}
-use Rattle.log.specs.declared.header.Header.{Header}
+use Rattle.log_header.specs.Header.{isHeader}
+use Rattle.log_header.proofs.HeaderLaws.{header-ranges}
+use Rattle.log_header.specs.declared.header.Header.{Header}
 use Rattle.logger.specs.Ask.{dateOfDay, sliceRequest, askFrame}
 
 pub slice-requested : (address : ℕ) (d : Date) (slot : ℕ) (out : List ℕ) → isDate d ≡ true → slot < slotsMost → readSize ≤ length out

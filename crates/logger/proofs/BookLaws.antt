@@ -8,12 +8,12 @@ use native.Mathlib.Nat.{add-zero, add-suc, suc-add, not-suc-le-zero}
 use native.Mathlib.Omega.{arith}
 use borrow.Author.Tests.{eq-eqb, ne-eqb}
 use lib.ListN.{length, getD, set}
-use Rattle.words.specs.Place.{byteAt, numberAt}
-use Rattle.log.proofs.ByteLaws.{two}
-use Rattle.log.specs.Cell.{noCounts, isCell, IsCell}
-use Rattle.log.proofs.CellLaws.{gap-is-cell, empty-is-cell}
-use Rattle.log.specs.declared.cell.Cell.{Cell}
-use Rattle.log.specs.declared.cell.Cell.the-variants.{Gap, Empty, Measured}
+use Rattle.byte_numbers.specs.Place.{byteAt, numberAt}
+use Rattle.byte_numbers.proofs.ByteLaws.{two}
+use Rattle.log_cell.specs.Cell.{noCounts, isCell, IsCell}
+use Rattle.log_cell.proofs.CellLaws.{gap-is-cell, empty-is-cell}
+use Rattle.log_cell.specs.declared.cell.Cell.{Cell}
+use Rattle.log_cell.specs.declared.cell.Cell.the-variants.{Gap, Empty, Measured}
 use Rattle.logger.specs.Take.{updateOf, sameCounts}
 use Rattle.logger.proofs.TakeLaws.{RowFits}
 use Rattle.logger.specs.Reply.{Row, rowOf}

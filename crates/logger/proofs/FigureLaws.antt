@@ -3,17 +3,17 @@ use mathlib.Core.Path.{_≡_, refl, sym, ap, subst, _∙_}
 use mathlib.Core.List.{List, [], _∷_}
 use Prim.Native.Nat.{ℕ}
 use lib.ListN.{length}
-use Rattle.words.specs.Number.{Bytes}
-use Rattle.log.specs.Header.{soundOf}
-use Rattle.log.specs.Interval.{intervalOf, comesTwice}
-use Rattle.log.specs.declared.interval.Interval.the-variants.{At}
+use Rattle.byte_numbers.specs.Number.{Bytes}
+use Rattle.log_header.specs.Header.{soundOf}
+use Rattle.log_header.specs.Interval.{intervalOf, comesTwice}
+use Rattle.log_header.specs.declared.interval.Interval.the-variants.{At}
 use Rattle.log.specs.View.{View, viewOf}
 use Rattle.log.proofs.ViewLaws.{AreCells, seen-are-cells, changed, bytes-applied}
-use Rattle.log.specs.declared.header.Header.{Header}
-use Rattle.log.specs.declared.header.Lent.the-variants.{Sound}
-use Rattle.day_figures.specs.Rows.{rowAt, Right}
-use Rattle.day_figures.specs.Put.{changeOf}
-use Rattle.day_figures.proofs.PutLaws.{withCell, change-right, length-change, row-elsewhere}
+use Rattle.log_header.specs.declared.header.Header.{Header}
+use Rattle.log_header.specs.declared.header.LogHeader.the-variants.{Sound}
+use Rattle.day_rows.specs.Rows.{rowAt, Right}
+use Rattle.day_rows.specs.Put.{changeOf}
+use Rattle.day_rows.proofs.PutLaws.{withCell, change-right, length-change, row-elsewhere}
 use Rattle.logger.specs.Held.{OpenFor}
 use Rattle.logger.specs.Take as Take
 use Rattle.logger.specs.Lapse as Lapse

@@ -4,27 +4,27 @@ use mathlib.Core.Bool.{Bool, true}
 use mathlib.Core.List.{List}
 use Prim.Native.Nat.{ℕ}
 use borrow.Author.Tests.{eq-eqb}
-use Rattle.words.specs.Number.{Bytes}
+use Rattle.byte_numbers.specs.Number.{Bytes}
 use Rattle.reader.specs.declared.form.Form.the-variants.{WellFormed}
-use Rattle.log.specs.Header.{soundOf}
+use Rattle.log_header.specs.Header.{soundOf}
 use Rattle.log.specs.View.{View, viewOf}
 use Rattle.log.proofs.ViewLaws.{changed, seen-are-cells}
-use Rattle.log.specs.Interval.{intervalOf, comesTwice}
-use Rattle.log.specs.declared.cell.Cell.{Cell}
-use Rattle.log.specs.declared.cell.CellAnswer.the-variants.{Good}
-use Rattle.log.specs.declared.header.Header.{Header}
-use Rattle.log.specs.declared.header.Lent.the-variants.{Sound}
+use Rattle.log_header.specs.Interval.{intervalOf, comesTwice}
+use Rattle.log_cell.specs.declared.cell.Cell.{Cell}
+use Rattle.log_cell.specs.declared.cell.CellAnswer.the-variants.{Good}
+use Rattle.log_header.specs.declared.header.Header.{Header}
+use Rattle.log_header.specs.declared.header.LogHeader.the-variants.{Sound}
 use Rattle.log.specs.declared.image.Change.{Change}
 use Rattle.log.specs.declared.image.Change.the-variants as change
-use Rattle.log.specs.declared.interval.Interval.the-variants.{At}
-use Rattle.day_figures.specs.Both.{Both, enough}
-use Rattle.day_figures.specs.Put.{changeOf}
-use Rattle.day_figures.specs.Rows.{Right}
-use Rattle.day_figures.proofs.PutLaws.{change-right}
-use Rattle.day_figures.proofs.RowsLaws.{right-enough}
-use Rattle.day_figures.specs.declared.put.FigureAnswer.the-variants as figure
+use Rattle.log_header.specs.declared.interval.Interval.the-variants.{At}
+use Rattle.day_rows.specs.LogAndRows.{LogAndRows, enough}
+use Rattle.day_rows.specs.Put.{changeOf}
+use Rattle.day_rows.specs.Rows.{Right}
+use Rattle.day_rows.proofs.PutLaws.{change-right}
+use Rattle.day_rows.proofs.RowsLaws.{right-enough}
+use Rattle.day_rows.specs.declared.put.FigureAnswer.the-variants as figure
 use Rattle.logger.specs.Reply.{sliceForm, resultOf, rowOf}
-use Rattle.logger.specs.Take.{updateOf, closes, putWith, updated, decided, taken, numberOf}
+use Rattle.logger.specs.Take.{updateOf, takeCloses, putWith, updated, decided, taken, numberOf}
 use Rattle.logger.specs.declared.take.Decision.{Decision}
 use Rattle.logger.specs.declared.take.TakeAnswer.{TakeAnswer}
 use Rattle.logger.specs.declared.take.TakeAnswer.the-variants as answer
@@ -76,7 +76,7 @@ decided-heard v figs h address day slot i y c p e n f z g = rw (p, e, n, f, z, g
 
 updated-is : (u : Update) (twice : Bool) (held : OpenAsk) (day i : ℕ) (old : Cell) (figs : List ℕ)
     → ((new : Cell) → u ≡ Put new → changeOf day twice old new figs .result ≡ figure.Done)
-    → updated u twice held day i old figs .result ≡ closes (answerFor u) (changeFor i u)
+    → updated u twice held day i old figs .result ≡ takeCloses (answerFor u) (changeFor i u)
 unfolding updated putWith
 updated-is (Put new) twice held day i old figs k = rw (k new refl) refl
 updated-is Keep twice held day i old figs k = refl
@@ -85,7 +85,7 @@ updated-is Conflict twice held day i old figs k = refl
 -- ---- and taken
 
 -- a log with right figures whose cell i is c, and a well-formed reply with result 0 for an ask for that cell
-pub record Hears (b : Both) (h : Header) (address day slot i : ℕ) (y : List ℕ) (c : Cell) : Type 0 where
+pub record Hears (b : LogAndRows) (h : Header) (address day slot i : ℕ) (y : List ℕ) (c : Cell) : Type 0 where
   pub log-bytes : Bytes (b .log)
   pub bytes : Bytes y
   pub lent : soundOf (b .log) ≡ Sound h
@@ -95,7 +95,7 @@ pub record Hears (b : Both) (h : Header) (address day slot i : ℕ) (y : List �
   pub ok : resultOf y ≡ 0
   pub cell : viewOf (b .log) .cell i ≡ Good c
 
-module _ (b : Both) (h : Header) (address day slot i : ℕ) (y : List ℕ) (c : Cell) (k : Hears b h address day slot i y c) where
+module _ (b : LogAndRows) (h : Header) (address day slot i : ℕ) (y : List ℕ) (c : Cell) (k : Hears b h address day slot i y c) where
   abbrev held : OpenAsk
   held = Open address day slot
 
@@ -107,7 +107,7 @@ module _ (b : Both) (h : Header) (address day slot i : ℕ) (y : List ℕ) (c : 
       change-right h (viewOf (b .log) .cell) (b .figures) day slot i c new (k .interval) (k .cell) (seen-are-cells (b .log) (k .log-bytes))
       (subst PutsCell p (update-cell (rowOf y) (row-fits y (k .bytes)) c)) (k .figures) .0
 
-  decided-is : decided (viewOf (b .log)) (b .figures) held y .result ≡ closes (answerFor u) (changeFor i u)
+  decided-is : decided (viewOf (b .log)) (b .figures) held y .result ≡ takeCloses (answerFor u) (changeFor i u)
   decided-is =
       ap (λ (o : Step). o .result)
       (decided-heard (viewOf (b .log)) (b .figures) h address day slot i y c (k .lent) (right-enough h (viewOf (b .log) .cell) (b .figures) (k .figures)) (k .interval)

@@ -6,18 +6,18 @@ use Prim.Native.Nat.{ℕ, _+_, _<_}
 use native.Mathlib.Omega.{arith}
 use lib.Dec.{ltb}
 use borrow.Author.Tests.{ltb-true}
-use Rattle.log.proofs.HeaderLaws.{by-sound}
-use Rattle.log.proofs.CellLaws.{by-good}
+use Rattle.log_header.proofs.HeaderLaws.{by-sound}
+use Rattle.log_cell.proofs.CellLaws.{by-good}
 use Rattle.log.specs.View.{View, viewOf}
 use Rattle.log.proofs.ViewLaws.{changed, Within, Holds, view-applied}
-use Rattle.log.specs.Interval.{intervalOf}
-use Rattle.log.proofs.IntervalLaws.{interval-below, by-at}
-use Rattle.log.specs.declared.header.Header.{Header}
-use Rattle.log.specs.declared.header.Lent.{Lent}
-use Rattle.log.specs.declared.header.Lent.the-variants as lent
+use Rattle.log_header.specs.Interval.{intervalOf}
+use Rattle.log_header.proofs.IntervalLaws.{interval-below, by-at}
+use Rattle.log_header.specs.declared.header.Header.{Header}
+use Rattle.log_header.specs.declared.header.LogHeader.{LogHeader}
+use Rattle.log_header.specs.declared.header.LogHeader.the-variants as lent
 use Rattle.log.specs.declared.image.Change.the-variants as change
 use Rattle.logger.specs.Held.{OpenFor}
-use Rattle.logger.specs.Lapse.{lapsesMost, oneMore, stays, closes, lapsing, lapsed}
+use Rattle.logger.specs.Lapse.{lapsesMost, oneMore, stays, lapseCloses, lapsing, lapsed}
 use Rattle.logger.proofs.TakeLaws.{by-open}
 use Rattle.logger.specs.declared.no_reply.LapseAnswer.{LapseAnswer}
 use Rattle.logger.specs.declared.no_reply.LapseAnswer.the-variants.{Done, NotInLog, Unsound}
@@ -32,9 +32,9 @@ isRefused Unsound = true
 
 -- none was open, and nothing happens; or refused, and all stays; or the cell whose ask was open has one lapse more
 pub record Ways (P : LapseDecision → Type 0) (v : View) (held : OpenAsk) : Type 0 where
-  pub none : held ≡ Closed → P (closes change.None)
+  pub none : held ≡ Closed → P (lapseCloses change.None)
   pub refused : (a : LapseAnswer) → isRefused a ≡ true → P (stays a held)
-  pub counted : (h : Header) (i : ℕ) → v .lent ≡ lent.Sound h → OpenFor h held i → P (closes (change.Lapses i (oneMore (v .lapses i))))
+  pub counted : (h : Header) (i : ℕ) → v .lent ≡ lent.Sound h → OpenFor h held i → P (lapseCloses (change.Lapses i (oneMore (v .lapses i))))
 
 pub lapsing-ways : (P : LapseDecision → Type 0) (v : View) (held : OpenAsk) → Ways P v held → P (lapsing v held)
 unfolding lapsing
@@ -60,7 +60,7 @@ lapsing-holds v held =
       none = λ e. tt;
       refused = λ a n. tt;
       counted = λ h i e o.
-          (subst (λ (a : Lent). Within a i) (sym e) (interval-below h (o .day) (o .slot) i (o .interval)), one-more-fits (v .lapses i));
+          (subst (λ (a : LogHeader). Within a i) (sym e) (interval-below h (o .day) (o .slot) i (o .interval)), one-more-fits (v .lapses i));
     })
 
 -- what is seen of the log after it

@@ -7,17 +7,17 @@ use lib.ListN.{length}
 use borrow.Author.Tests.{ne-eqb, le-ltb, le-leb}
 use Rattle.refusal.specs.Outcome.{outcome}
 use Rattle.frame.specs.Layout.{readSize}
-use Rattle.log.specs.Header.{soundOf}
+use Rattle.log_header.specs.Header.{soundOf}
 use Rattle.log.specs.Image.{applied}
-use Rattle.log.specs.Interval.{intervalOf, exists, existsAt}
-use Rattle.log.proofs.IntervalLaws.{interval-exists}
+use Rattle.log_header.specs.Interval.{intervalOf, exists, existsAt}
+use Rattle.log_header.proofs.IntervalLaws.{interval-exists}
 use Rattle.log.specs.View.{View, viewOf}
 use Rattle.log.proofs.ViewLaws.{changed}
-use Rattle.log.specs.declared.header.Header.{Header}
-use Rattle.log.specs.declared.header.Lent.the-variants.{Sound}
-use Rattle.log.specs.declared.interval.Interval.the-variants.{Outside}
-use Rattle.day_figures.specs.Both.{both}
-use Rattle.day_figures.specs.Rows.{figuresOf}
+use Rattle.log_header.specs.declared.header.Header.{Header}
+use Rattle.log_header.specs.declared.header.LogHeader.the-variants.{Sound}
+use Rattle.log_header.specs.declared.interval.Interval.the-variants.{Outside}
+use Rattle.day_rows.specs.LogAndRows.{logAndRows}
+use Rattle.day_rows.specs.Rows.{figuresOf}
 use Rattle.logger.specs.Ask as Ask
 use Rattle.logger.specs.Take as Take
 use Rattle.logger.specs.Lapse as Lapse
@@ -46,7 +46,7 @@ ask-refused v h address day slot out p e l = simp (le-ltb _ _ l, p, not-there h 
 
 pub reply-refused : (s figs : List ℕ) (h : Header) (address day slot : ℕ) (y : List ℕ) → soundOf s ≡ Sound h → figuresOf h ≤ length figs
     → exists h day slot ≡ false
-    → Take.taken (both s figs) (Open address day slot) y ≡ outcome (record { answer = taken.NotInLog; held = Open address day slot }) (both s figs)
+    → Take.taken (logAndRows s figs) (Open address day slot) y ≡ outcome (record { answer = taken.NotInLog; held = Open address day slot }) (logAndRows s figs)
 unfolding Take.taken Take.decided applied
 reply-refused s figs h address day slot y p l e = simp (p, le-leb _ _ l, not-there h day slot e)
 

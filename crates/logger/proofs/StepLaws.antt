@@ -10,36 +10,36 @@ use lib.ListN.{length, getD, set}
 use lib.Seq.{set-getD}
 use Rattle.refusal.specs.Outcome.{Outcome, outcome}
 use Rattle.logger.specs.declared.ask.Asked.{Asked}
-use Rattle.case_laws.proofs.Test.{either}
-use Rattle.words.specs.Number.{Bytes}
-use Rattle.words.specs.Place.{written}
+use Rattle.test_laws.proofs.Test.{either}
+use Rattle.byte_numbers.specs.Number.{Bytes}
+use Rattle.byte_numbers.specs.Place.{written}
 use Rattle.frame.specs.Layout.{readSize}
-use Rattle.log.proofs.CellLaws.{bad≢good}
-use Rattle.log.specs.Header.{isHeader, cellsOf, soundOf}
+use Rattle.log_cell.proofs.CellLaws.{bad≢good}
+use Rattle.log_header.specs.Header.{isHeader, cellsOf, soundOf}
 use Rattle.log.specs.Image.{imageOf, applied}
 use Rattle.log.proofs.ImageLaws.{sound-image, image-alike, bytes-image}
 use Rattle.log.specs.View.{View, viewOf}
 use Rattle.log.proofs.ViewLaws.{AreCells, seen-are-cells, cellIn, cell-in, viewBy, view-image, Whole, applied-image}
 use Rattle.log.specs.declared.image.Change.the-variants as change
-use Rattle.log.specs.Interval.{intervalOf, comesTwice, ifAt}
-use Rattle.log.proofs.IntervalLaws.{outside≢at, interval-below, in-log, by-at}
-use Rattle.log.specs.declared.cell.Cell.{Cell}
-use Rattle.log.specs.declared.cell.Cell.the-variants.{Gap}
-use Rattle.log.specs.declared.cell.CellAnswer.the-variants.{Good}
-use Rattle.log.specs.declared.header.Header.{Header}
-use Rattle.log.specs.declared.header.Lent.the-variants.{Sound}
-use Rattle.log.specs.declared.interval.Interval.{Interval}
-use Rattle.log.specs.declared.interval.Interval.the-variants.{At, Outside}
+use Rattle.log_header.specs.Interval.{intervalOf, comesTwice, ifAt}
+use Rattle.log_header.proofs.IntervalLaws.{outside≢at, interval-below, in-log, by-at}
+use Rattle.log_cell.specs.declared.cell.Cell.{Cell}
+use Rattle.log_cell.specs.declared.cell.Cell.the-variants.{Gap}
+use Rattle.log_cell.specs.declared.cell.CellAnswer.the-variants.{Good}
+use Rattle.log_header.specs.declared.header.Header.{Header}
+use Rattle.log_header.specs.declared.header.LogHeader.the-variants.{Sound}
+use Rattle.log_header.specs.declared.interval.Interval.{Interval}
+use Rattle.log_header.specs.declared.interval.Interval.the-variants.{At, Outside}
 use Rattle.reader.specs.declared.form.Fault.{Fault}
 use Rattle.reader.specs.declared.form.Fault.the-variants as fault
 use Rattle.logger.specs.declared.take.TakeAnswer.the-variants.{Malformed}
 use Rattle.logger.specs.Held.{ifNone, OpenFor}
 use Rattle.logger.specs.Reply.{sliceForm, resultOf, Row, rowOf}
-use Rattle.day_figures.specs.Rows.{Right}
-use Rattle.day_figures.specs.Put.{changeOf}
-use Rattle.day_figures.proofs.PutLaws.{change-right}
-use Rattle.day_figures.proofs.RowsLaws.{right-enough}
-use Rattle.day_figures.specs.declared.put.FigureAnswer.the-variants as figure
+use Rattle.day_rows.specs.Rows.{Right}
+use Rattle.day_rows.specs.Put.{changeOf}
+use Rattle.day_rows.proofs.PutLaws.{change-right}
+use Rattle.day_rows.proofs.RowsLaws.{right-enough}
+use Rattle.day_rows.specs.declared.put.FigureAnswer.the-variants as figure
 use Rattle.logger.proofs.TakeLaws.{by-none, by-open, by-form, by-ok, Step, Heard, Cases, decided-cases, RowFits, row-fits, PutsCell, update-cell}
 use Rattle.logger.specs.Book.{Call, ask, lapse, reply, Answer, Book, entry, plain, faultAnswer, placeOf, keptWith, lapsesWith, keepReply, bookReply, bookAsk}
 use Rattle.logger.specs.Book.{countsIn, bookLapse, bookStep, workedOut, cutAt255, lapsesOut, afresh, CallBytes}

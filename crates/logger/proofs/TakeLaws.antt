@@ -6,35 +6,35 @@ use mathlib.Core.List.{List}
 use Prim.Native.Nat.{ℕ}
 use native.Mathlib.Omega.{arith}
 use lib.Dec.{eqb}
-use Rattle.words.specs.Number.{Bytes}
+use Rattle.byte_numbers.specs.Number.{Bytes}
 use Rattle.reader.specs.declared.form.Fault.{Fault}
 use Rattle.reader.specs.declared.form.Form.{Form}
 use Rattle.reader.specs.declared.form.Form.the-variants.{WellFormed, Faulty}
-use Rattle.log.proofs.ByteLaws.{two}
-use Rattle.log.proofs.HeaderLaws.{by-sound}
-use Rattle.log.specs.Cell.{noCounts, isCell, CountsFit, IsCell}
-use Rattle.log.proofs.CellLaws.{empty-is-cell, by-good}
+use Rattle.byte_numbers.proofs.ByteLaws.{two}
+use Rattle.log_header.proofs.HeaderLaws.{by-sound}
+use Rattle.log_cell.specs.Cell.{noCounts, isCell, CountsFit, IsCell}
+use Rattle.log_cell.proofs.CellLaws.{empty-is-cell, by-good}
 use Rattle.log.specs.View.{View, viewOf}
 use Rattle.log.proofs.ViewLaws.{changed, Within, Holds, view-applied}
-use Rattle.log.specs.Interval.{intervalOf, comesTwice}
-use Rattle.log.proofs.IntervalLaws.{interval-below, by-at}
-use Rattle.log.specs.declared.cell.Cell.{Cell}
-use Rattle.log.specs.declared.cell.Cell.the-variants as cell
-use Rattle.log.specs.declared.cell.CellAnswer.the-variants.{Good, Bad}
-use Rattle.log.specs.declared.header.Header.{Header}
-use Rattle.log.specs.declared.interval.Interval.the-variants.{Outside}
-use Rattle.log.specs.declared.header.Lent.{Lent}
-use Rattle.log.specs.declared.header.Lent.the-variants as lent
+use Rattle.log_header.specs.Interval.{intervalOf, comesTwice}
+use Rattle.log_header.proofs.IntervalLaws.{interval-below, by-at}
+use Rattle.log_cell.specs.declared.cell.Cell.{Cell}
+use Rattle.log_cell.specs.declared.cell.Cell.the-variants as cell
+use Rattle.log_cell.specs.declared.cell.CellAnswer.the-variants.{Good, Bad}
+use Rattle.log_header.specs.declared.header.Header.{Header}
+use Rattle.log_header.specs.declared.interval.Interval.the-variants.{Outside}
+use Rattle.log_header.specs.declared.header.LogHeader.{LogHeader}
+use Rattle.log_header.specs.declared.header.LogHeader.the-variants as lent
 use Rattle.log.specs.declared.image.Change.the-variants as change
 use Rattle.refusal.specs.Outcome.{Outcome, outcome, check}
-use Rattle.day_figures.specs.Both.{both, enough}
-use Rattle.day_figures.specs.Put.{changeOf}
-use Rattle.day_figures.proofs.PutLaws.{unfit-leaves}
-use Rattle.day_figures.specs.declared.put.FigureAnswer.{FigureAnswer}
-use Rattle.day_figures.specs.declared.put.FigureAnswer.the-variants as figure
+use Rattle.day_rows.specs.LogAndRows.{logAndRows, enough}
+use Rattle.day_rows.specs.Put.{changeOf}
+use Rattle.day_rows.proofs.PutLaws.{unfit-leaves}
+use Rattle.day_rows.specs.declared.put.FigureAnswer.{FigureAnswer}
+use Rattle.day_rows.specs.declared.put.FigureAnswer.the-variants as figure
 use Rattle.logger.specs.Held.{ifNone, ifOpen, OpenFor}
 use Rattle.logger.specs.Reply.{sliceForm, ifFormed, resultOf, ifOk, Row, rowOf}
-use Rattle.logger.specs.Take.{sameCounts, updateOf, stays, closes, putWith, updated, decided, taken}
+use Rattle.logger.specs.Take.{sameCounts, updateOf, stays, takeCloses, putWith, updated, decided, taken}
 use Rattle.logger.specs.declared.take.Decision.{Decision}
 use Rattle.logger.specs.declared.take.TakeAnswer.{TakeAnswer}
 use Rattle.logger.specs.declared.take.TakeAnswer.the-variants.{Done, TooShort, NoAskOpen, NotInLog, Malformed, MeterRefused, OtherCounts, Unsound}
@@ -91,7 +91,7 @@ pub record Cases (P : Step → Type 0) (h : Header) (v : View) (figs : List ℕ)
   pub malformed : (i : ℕ) (o : OpenFor h held i) (fault : Fault) → sliceForm (o .address) y ≡ Faulty fault
       → P (outcome (stays (Malformed fault) held) figs)
   pub refused : (i : ℕ) → Heard h held y i → eqb (resultOf y) 0 ≡ false
-      → P (outcome (closes (MeterRefused (resultOf y)) change.None) figs)
+      → P (outcome (takeCloses (MeterRefused (resultOf y)) change.None) figs)
   pub bad-cell : (i : ℕ) → Heard h held y i → v .cell i ≡ Bad → P (outcome (stays Unsound held) figs)
   pub counted : (i : ℕ) (o : Heard h held y i) → eqb (resultOf y) 0 ≡ true → (c : Cell) → v .cell i ≡ Good c
       → P (updated (updateOf c (rowOf y)) (comesTwice h (o .ask .day) (o .ask .slot)) held (o .ask .day) i c figs)
@@ -118,8 +118,8 @@ module _ (P : Step → Type 0) (v : View) (figs : List ℕ) (held : OpenAsk) (y 
 module _ (P : Step → Type 0) (twice : Bool) (held : OpenAsk) (day i : ℕ) (old : Cell) (figs : List ℕ) where
   pub update-cases : (u : Update)
       → ((c : Cell) → u ≡ Put c → changeOf day twice old c figs .result ≡ figure.Done
-      → P (outcome (closes Done (change.Put i c)) (changeOf day twice old c figs .left)))
-      → P (outcome (stays Unsound held) figs) → P (outcome (closes Done change.None) figs) → P (outcome (closes OtherCounts change.None) figs)
+      → P (outcome (takeCloses Done (change.Put i c)) (changeOf day twice old c figs .left)))
+      → P (outcome (stays Unsound held) figs) → P (outcome (takeCloses Done change.None) figs) → P (outcome (takeCloses OtherCounts change.None) figs)
       → P (updated u twice held day i old figs)
   unfolding updated putWith
   update-cases (Put c) put unfit kept other = go (changeOf day twice old c figs .result) refl
@@ -184,10 +184,10 @@ isClosing Unsound = false
 -- refused, and all stays; or closed, and log and figures are kept; or the cell whose ask was open is put, and its day's figures follow
 pub record Ways (P : Step → Type 0) (v : View) (figs : List ℕ) (held : OpenAsk) (y : List ℕ) : Type 0 where
   pub kept-open : (a : TakeAnswer) → isClosing a ≡ false → P (outcome (stays a held) figs)
-  pub closed : (a : TakeAnswer) → isClosing a ≡ true → P (outcome (closes a change.None) figs)
+  pub closed : (a : TakeAnswer) → isClosing a ≡ true → P (outcome (takeCloses a change.None) figs)
   pub put : (h : Header) (i : ℕ) (old c : Cell) → v .lent ≡ lent.Sound h → (o : OpenFor h held i) → v .cell i ≡ Good old → (Bytes y → IsCell c)
       → changeOf (o .day) (comesTwice h (o .day) (o .slot)) old c figs .result ≡ figure.Done
-      → P (outcome (closes Done (change.Put i c)) (changeOf (o .day) (comesTwice h (o .day) (o .slot)) old c figs .left))
+      → P (outcome (takeCloses Done (change.Put i c)) (changeOf (o .day) (comesTwice h (o .day) (o .slot)) old c figs .left))
 
 pub decided-ways : (P : Step → Type 0) (v : View) (figs : List ℕ) (held : OpenAsk) (y : List ℕ) → Ways P v figs held y → P (decided v figs held y)
 decided-ways P v figs held y w =
@@ -211,11 +211,11 @@ decided-holds v figs held y k =
     decided-ways (λ (d : Step). Holds v (d .result .change)) v figs held y (record {
       kept-open = λ a n. tt;
       closed = λ a n. tt;
-      put = λ h i old c e o g is done. (subst (λ (a : Lent). Within a i) (sym e) (interval-below h (o .day) (o .slot) i (o .interval)), is k);
+      put = λ h i old c e o g is done. (subst (λ (a : LogHeader). Within a i) (sym e) (interval-below h (o .day) (o .slot) i (o .interval)), is k);
     })
 
 -- what is seen of the log after it
 pub taken-seen : (s figs : List ℕ) (held : OpenAsk) (y : List ℕ) → Bytes y
-    → viewOf (taken (both s figs) held y .left .log) ≡ changed (decided (viewOf s) figs held y .result .change) (viewOf s)
+    → viewOf (taken (logAndRows s figs) held y .left .log) ≡ changed (decided (viewOf s) figs held y .result .change) (viewOf s)
 unfolding taken
 taken-seen s figs held y k = view-applied s (decided (viewOf s) figs held y .result .change) (decided-holds (viewOf s) figs held y k)

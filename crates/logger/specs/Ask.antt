@@ -7,18 +7,18 @@ use Prim.Native.Nat.{ℕ, _+_}
 use lib.Dec.{ltb}
 use lib.ListN.{length}
 use Rattle.refusal.specs.Outcome.{Outcome, outcome}
-use Rattle.words.specs.Place.{written}
-use Rattle.frame.specs.Code.{slice}
-use Rattle.frame.specs.declared.code.Reading.the-variants.{Stored}
+use Rattle.byte_numbers.specs.Place.{written}
+use Rattle.parameters.specs.Code.{slice}
+use Rattle.parameters.specs.declared.code.Reading.the-variants.{Stored}
 use Rattle.frame.specs.Layout.{readSize}
 use Rattle.request.specs.Request.{requestFrame}
 use Rattle.calendar.specs.Date.{dateOf, dayNumber}
 use Rattle.calendar.specs.declared.date.Date.{Date}
 use Rattle.request.specs.declared.request.Request.{Request}
-use Rattle.log.specs.Header.{ifSound}
+use Rattle.log_header.specs.Header.{ifSound}
 use Rattle.log.specs.View.{View}
-use Rattle.log.specs.Interval.{intervalOf, ifAt}
-use Rattle.log.specs.declared.header.Header.{Header}
+use Rattle.log_header.specs.Interval.{intervalOf, ifAt}
+use Rattle.log_header.specs.declared.header.Header.{Header}
 use Rattle.logger.specs.Held.{ifNone}
 use Rattle.logger.specs.declared.ask.AskAnswer.{AskAnswer}
 use Rattle.logger.specs.declared.ask.AskAnswer.the-variants.{Done, TooShort, Unsound, AlreadyOpen, NotInLog}

@@ -11,12 +11,12 @@ use lib.ListN.{length, getD}
 use Rattle.refusal.specs.Outcome.{Outcome, outcome}
 use Rattle.frame.specs.Layout.{readSize}
 use Rattle.slots.specs.Day.{slotsOf}
-use Rattle.log.specs.Interval.{intervalOf, ifAt}
-use Rattle.log.specs.declared.header.Header.{Header}
-use Rattle.log.specs.declared.cell.Cell.{Cell}
-use Rattle.log.specs.declared.cell.Cell.the-variants.{Gap, Empty, Measured}
-use Rattle.words.specs.Number.{Bytes}
-use Rattle.words.specs.Place.{byteAt}
+use Rattle.log_header.specs.Interval.{intervalOf, ifAt}
+use Rattle.log_header.specs.declared.header.Header.{Header}
+use Rattle.log_cell.specs.declared.cell.Cell.{Cell}
+use Rattle.log_cell.specs.declared.cell.Cell.the-variants.{Gap, Empty, Measured}
+use Rattle.byte_numbers.specs.Number.{Bytes}
+use Rattle.byte_numbers.specs.Place.{byteAt}
 use Rattle.reader.specs.declared.form.Fault.{Fault}
 use Rattle.reader.specs.declared.form.Fault.the-variants as fault
 use Rattle.logger.specs.Held.{ifNone, ifOpen}

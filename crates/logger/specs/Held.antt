@@ -1,9 +1,9 @@
 -- The open ask. Source: document 01, "The reader and the log": "The reader has at most one ask open, with its address (0..255)".
 use mathlib.Core.Path.{_≡_}
 use Prim.Native.Nat.{ℕ}
-use Rattle.log.specs.Interval.{intervalOf}
-use Rattle.log.specs.declared.header.Header.{Header}
-use Rattle.log.specs.declared.interval.Interval.the-variants.{At}
+use Rattle.log_header.specs.Interval.{intervalOf}
+use Rattle.log_header.specs.declared.header.Header.{Header}
+use Rattle.log_header.specs.declared.interval.Interval.the-variants.{At}
 use Rattle.logger.specs.declared.held.OpenAsk.{OpenAsk}
 use Rattle.logger.specs.declared.held.OpenAsk.the-variants.{Closed, Open}
 

@@ -5,11 +5,11 @@ use mathlib.Core.List.{List}
 use Prim.Native.Nat.{ℕ, _+_}
 use lib.Dec.{ltb}
 use Rattle.refusal.specs.Outcome.{Outcome, outcome}
-use Rattle.log.specs.Header.{ifSound}
-use Rattle.log.specs.Cell.{ifGood}
+use Rattle.log_header.specs.Header.{ifSound}
+use Rattle.log_cell.specs.Cell.{ifGood}
 use Rattle.log.specs.Image.{applied}
 use Rattle.log.specs.View.{View, viewOf}
-use Rattle.log.specs.Interval.{intervalOf, ifAt}
+use Rattle.log_header.specs.Interval.{intervalOf, ifAt}
 use Rattle.log.specs.declared.image.Change.{Change}
 use Rattle.log.specs.declared.image.Change.the-variants as change
 use Rattle.logger.specs.Held.{ifOpen}
@@ -33,17 +33,17 @@ abbrev pub stays : LapseAnswer → OpenAsk → LapseDecision
 stays a held = record { lapsed = record { answer = a; held = held }; change = change.None }
 
 -- none is open after it
-abbrev pub closes : Change → LapseDecision
-closes done = record { lapsed = record { answer = Done; held = Closed }; change = done }
+abbrev pub lapseCloses : Change → LapseDecision
+lapseCloses done = record { lapsed = record { answer = Done; held = Closed }; change = done }
 
 -- with none open 0, over any log; else 28 (header, length), 22, 28 (the cell), and then 0, one lapse more and the ask closed
 unfoldable pub lapsing : View → OpenAsk → LapseDecision
 lapsing v held =
-    ifOpen held (closes change.None) (λ address day slot.
+    ifOpen held (lapseCloses change.None) (λ address day slot.
     ifSound (v .lent) (stays Unsound held) (λ h.
     ifAt (intervalOf h day slot) (stays NotInLog held) (λ i.
     ifGood (v .cell i) (stays Unsound held) (λ c.
-    closes (change.Lapses i (oneMore (v .lapses i)))))))
+    lapseCloses (change.Lapses i (oneMore (v .lapses i)))))))
 
 -- a lapse
 unfoldable pub lapsed : List ℕ → OpenAsk → Outcome Lapsed (List ℕ)

@@ -3,8 +3,8 @@ use mathlib.Core.Bool.{cond}
 use mathlib.Core.List.{List}
 use Prim.Native.Nat.{ℕ, _+_}
 use lib.Dec.{eqb}
-use Rattle.words.specs.Place.{byteAt, numberAt}
-use Rattle.frame.specs.Code.{read, slice}
+use Rattle.byte_numbers.specs.Place.{byteAt, numberAt}
+use Rattle.parameters.specs.Code.{read, slice}
 use Rattle.frame.specs.Layout.{resultPlace, dataPlace, sliceReply}
 use Rattle.reader.specs.Form.{formOf}
 use Rattle.reader.specs.declared.form.Fault.{Fault}

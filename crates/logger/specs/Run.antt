@@ -5,7 +5,7 @@ use Prim.Native.Nat.{ℕ}
 use Rattle.refusal.specs.Outcome.{Outcome, outcome}
 use Rattle.reader.specs.Form.{faultLength}
 use Rattle.log.specs.View.{viewOf}
-use Rattle.day_figures.specs.Both.{Both, both}
+use Rattle.day_rows.specs.LogAndRows.{LogAndRows, logAndRows}
 use Rattle.logger.specs.Ask as Ask
 use Rattle.logger.specs.Lapse as Lapse
 use Rattle.logger.specs.Take as Take
@@ -32,19 +32,19 @@ takeAnswer OtherCounts = plain (Take.numberOf OtherCounts)
 takeAnswer Unsound = plain (Take.numberOf Unsound)
 
 -- a log and its figures with an ask that is held
-abbrev pub state : Both → OpenAsk → State
+abbrev pub state : LogAndRows → OpenAsk → State
 state b held = record { log = b .log; figures = b .figures; held = held }
 
 -- one call, by the definition that its contract cites: its answer and the state after it; an ask and a lapse are lent no figures
 unfoldable pub step : State → Call → Outcome Answer State
 step s (ask address day slot out) =
     let o = Ask.asked (viewOf (s .log)) (s .held) address day slot out in
-    outcome (plain (Ask.numberOf (o .result .answer))) (state (both (s .log) (s .figures)) (o .result .held))
+    outcome (plain (Ask.numberOf (o .result .answer))) (state (logAndRows (s .log) (s .figures)) (o .result .held))
 step s lapse =
     let o = Lapse.lapsed (s .log) (s .held) in
-    outcome (plain (Lapse.numberOf (o .result .answer))) (state (both (o .left) (s .figures)) (o .result .held))
+    outcome (plain (Lapse.numberOf (o .result .answer))) (state (logAndRows (o .left) (s .figures)) (o .result .held))
 step s (reply y) =
-    let o = Take.taken (both (s .log) (s .figures)) (s .held) y in
+    let o = Take.taken (logAndRows (s .log) (s .figures)) (s .held) y in
     outcome (takeAnswer (o .result .answer)) (state (o .left) (o .result .held))
 
 -- a list of calls

@@ -9,19 +9,19 @@ use Prim.Native.Nat.{ℕ}
 use lib.Dec.{eqb}
 use Rattle.refusal.specs.Outcome.{Outcome, outcome, check}
 use Rattle.reader.specs.Form.{faultNumber}
-use Rattle.log.specs.Header.{ifSound}
-use Rattle.log.specs.Cell.{noCounts, ifGood}
+use Rattle.log_header.specs.Header.{ifSound}
+use Rattle.log_cell.specs.Cell.{noCounts, ifGood}
 use Rattle.log.specs.Image.{applied}
 use Rattle.log.specs.View.{View, viewOf}
-use Rattle.log.specs.Interval.{intervalOf, comesTwice, ifAt}
-use Rattle.log.specs.declared.cell.Cell.{Cell}
-use Rattle.log.specs.declared.cell.Cell.the-variants as cell
+use Rattle.log_header.specs.Interval.{intervalOf, comesTwice, ifAt}
+use Rattle.log_cell.specs.declared.cell.Cell.{Cell}
+use Rattle.log_cell.specs.declared.cell.Cell.the-variants as cell
 use Rattle.log.specs.declared.image.Change.{Change}
 use Rattle.log.specs.declared.image.Change.the-variants as change
-use Rattle.day_figures.specs.Both.{Both, both, enough}
-use Rattle.day_figures.specs.Put.{changeOf}
-use Rattle.day_figures.specs.declared.put.FigureAnswer.{FigureAnswer}
-use Rattle.day_figures.specs.declared.put.FigureAnswer.the-variants as figure
+use Rattle.day_rows.specs.LogAndRows.{LogAndRows, logAndRows, enough}
+use Rattle.day_rows.specs.Put.{changeOf}
+use Rattle.day_rows.specs.declared.put.FigureAnswer.{FigureAnswer}
+use Rattle.day_rows.specs.declared.put.FigureAnswer.the-variants as figure
 use Rattle.logger.specs.Held.{ifOpen}
 use Rattle.logger.specs.Reply.{sliceForm, ifFormed, resultOf, ifOk, Row, rowOf}
 use Rattle.logger.specs.declared.take.Decision.{Decision}
@@ -59,12 +59,12 @@ abbrev pub stays : TakeAnswer → OpenAsk → Decision
 stays a held = record { taken = record { answer = a; held = held }; change = change.None }
 
 -- the ask is closed
-abbrev pub closes : TakeAnswer → Change → Decision
-closes a done = record { taken = record { answer = a; held = Closed }; change = done }
+abbrev pub takeCloses : TakeAnswer → Change → Decision
+takeCloses a done = record { taken = record { answer = a; held = Closed }; change = done }
 
 -- a cell is put where its day's figures can follow; where they cannot, all stays
 unfoldable pub putWith : FigureAnswer → OpenAsk → ℕ → Cell → Decision
-putWith figure.Done held i new = closes Done (change.Put i new)
+putWith figure.Done held i new = takeCloses Done (change.Put i new)
 putWith figure.Unfit held i new = stays Unsound held
 
 -- the cell of the ask, of a slot that comes twice or does not, is an old one: what its update comes to, and the figures after it
@@ -73,8 +73,8 @@ unfolding putWith
 updated (Put new) twice held day i old figs =
     let o = changeOf day twice old new figs in
     outcome (putWith (o .result) held i new) (o .left)
-updated Keep twice held day i old figs = outcome (closes Done change.None) figs
-updated Conflict twice held day i old figs = outcome (closes OtherCounts change.None) figs
+updated Keep twice held day i old figs = outcome (takeCloses Done change.None) figs
+updated Conflict twice held day i old figs = outcome (takeCloses OtherCounts change.None) figs
 
 -- the checks, one below the other: 28 (header, length), 1 (figures), 20, 22, 50 to 54, 24, 28 (the cell), 25, 28 (a figure), and then 0
 unfoldable pub decided : View → List ℕ → OpenAsk → List ℕ → Outcome Decision (List ℕ)
@@ -85,16 +85,16 @@ decided v figs held y =
     ifOpen held (outcome (stays NoAskOpen held) figs) (λ address day slot.
     ifAt (intervalOf h day slot) (outcome (stays NotInLog held) figs) (λ i.
     ifFormed (sliceForm address y) (λ fault. outcome (stays (Malformed fault) held) figs) (
-    ifOk (resultOf y) (outcome (closes (MeterRefused (resultOf y)) change.None) figs) (
+    ifOk (resultOf y) (outcome (takeCloses (MeterRefused (resultOf y)) change.None) figs) (
     ifGood (v .cell i) (outcome (stays Unsound held) figs) (λ c.
     updated (updateOf c (rowOf y)) (comesTwice h day slot) held day i c figs)))))))
 
 -- what was decided, done to the log, with the figures after it
-abbrev pub done : Outcome Decision (List ℕ) → List ℕ → Outcome Taken Both
-done o s = outcome (o .result .taken) (both (applied (o .result .change) s) (o .left))
+abbrev pub done : Outcome Decision (List ℕ) → List ℕ → Outcome Taken LogAndRows
+done o s = outcome (o .result .taken) (logAndRows (applied (o .result .change) s) (o .left))
 
 -- taking a reply
-unfoldable pub taken : Both → OpenAsk → List ℕ → Outcome Taken Both
+unfoldable pub taken : LogAndRows → OpenAsk → List ℕ → Outcome Taken LogAndRows
 unfolding decided
 taken b held y = done (decided (viewOf (b .log)) (b .figures) held y) (b .log)
 

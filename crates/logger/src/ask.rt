@@ -1,12 +1,12 @@
 // Asking for an interval.
 use crate::held::OpenAsk;
-use frame::code;
-use frame::code::Reading;
 use frame::layout::READ_BYTES;
-use log::DayAnswer;
-use log::Header;
-use log::Interval;
-use log::Lent;
+use log_header::DayAnswer;
+use log_header::Header;
+use log_header::Interval;
+use log_header::LogHeader;
+use parameters::code;
+use parameters::code::Reading;
 use request::Request;
 ghost use mathlib.Core.Path.{_≡_};
 ghost use mathlib.Core.Bool.{true};
@@ -15,9 +15,9 @@ ghost use lib.ListN.{length};
 ghost use Rattle.refusal.specs.Outcome.{outcome};
 ghost use Rattle.frame.specs.Layout.{readSize};
 ghost use Rattle.slots.specs.Day.{slotsOf};
-ghost use Rattle.log.specs.Header.{isHeader};
+ghost use Rattle.log_header.specs.Header.{isHeader};
 ghost use Rattle.log.specs.View.{viewOf};
-ghost use Rattle.words.specs.Place.{written};
+ghost use Rattle.byte_numbers.specs.Place.{written};
 ghost use Rattle.logger.specs.Ask.{asked, askFrame, numberOf};
 
 pub enum AskAnswer {
@@ -56,13 +56,13 @@ pub fn put_ask(log: &[u8], held: OpenAsk, address: u8, day: u8, slot: u8, out: &
     if out.len() < READ_BYTES {
         return answered(AskAnswer::TooShort, held);
     }
-    let Lent::Sound(h) = log::sound(log) else {
+    let LogHeader::Sound(h) = log_header::sound(log) else {
         return answered(AskAnswer::Unsound, held);
     };
     let OpenAsk::Closed = held else {
         return answered(AskAnswer::AlreadyOpen, held);
     };
-    let Interval::At(_) = log::interval_of(h, day, slot) else {
+    let Interval::At(_) = log_header::interval_of(h, day, slot) else {
         return answered(AskAnswer::NotInLog, held);
     };
     put_slot(h, address, day, slot, out);
@@ -85,7 +85,7 @@ fn put_slot(h: Header, address: u8, day: u8, slot: u8, out: &mut [u8])
     requires { ⌜ readSize ≤ length (now out) ⌝ }
     ensures { λ _. ⌜ now (out .exit) ≡ written (now (out .entry)) 0 (askFrame h address day slot) ⌝ }
 {
-    match log::date_of(h, day) {
+    match log_header::date_of(h, day) {
         DayAnswer::On(date) => {
             let q = Request {
                 reading: Reading::Stored,

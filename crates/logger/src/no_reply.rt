@@ -1,13 +1,13 @@
 // A lapse: no reply came to the open ask.
 use crate::held::OpenAsk;
-use log::CellAnswer;
 use log::Change;
-use log::Interval;
-use log::Lent;
+use log_cell::CellAnswer;
+use log_header::Interval;
+use log_header::LogHeader;
 ghost use mathlib.Core.Path.{_≡_};
 ghost use Rattle.refusal.specs.Outcome.{outcome};
 ghost use Rattle.log.specs.View.{viewOf};
-ghost use Rattle.logger.specs.Lapse.{oneMore, stays, closes, lapsing, lapsed, numberOf};
+ghost use Rattle.logger.specs.Lapse.{oneMore, stays, lapseCloses, lapsing, lapsed, numberOf};
 
 pub enum LapseAnswer {
     Done,
@@ -60,10 +60,10 @@ fn lapsing(log: &[u8], held: OpenAsk) -> LapseDecision
     let OpenAsk::Open(_, day, slot) = held else {
         return closes(Change::None);
     };
-    let Lent::Sound(h) = log::sound(log) else {
+    let LogHeader::Sound(h) = log_header::sound(log) else {
         return stays(LapseAnswer::Unsound, held);
     };
-    let Interval::At(i) = log::interval_of(h, day, slot) else {
+    let Interval::At(i) = log_header::interval_of(h, day, slot) else {
         return stays(LapseAnswer::NotInLog, held);
     };
     let CellAnswer::Good(_) = log::cell_at(log, i) else {
@@ -96,7 +96,7 @@ fn stays(answer: LapseAnswer, held: OpenAsk) -> LapseDecision
 
 // None is open after it.
 fn closes(change: Change) -> LapseDecision
-    ensures { λ r. ⌜ r ≡ closes change ⌝ }
+    ensures { λ r. ⌜ r ≡ lapseCloses change ⌝ }
 {
     LapseDecision {
         lapsed: Lapsed {

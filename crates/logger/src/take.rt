@@ -1,24 +1,24 @@
 // Taking a reply for the open ask.
 use crate::held::OpenAsk;
-use day_figures::FigureAnswer;
-use frame::code;
+use day_rows::FigureAnswer;
 use frame::layout;
-use log::Cell;
-use log::CellAnswer;
 use log::Change;
-use log::Interval;
-use log::Lent;
+use log_cell::Cell;
+use log_cell::CellAnswer;
+use log_header::Interval;
+use log_header::LogHeader;
+use parameters::code;
 use reader::Fault;
 use reader::Form;
 ghost use mathlib.Core.Path.{_≡_};
 ghost use Rattle.refusal.specs.Outcome.{outcome};
 ghost use Rattle.log.specs.View.{viewOf};
-ghost use Rattle.log.specs.Cell.{ifGood};
+ghost use Rattle.log_cell.specs.Cell.{ifGood};
 ghost use Rattle.log.specs.Image.{cellAt};
-ghost use Rattle.day_figures.specs.Both.{both};
+ghost use Rattle.day_rows.specs.LogAndRows.{logAndRows};
 ghost use Rattle.logger.specs.Reply.{row, rowOf};
 ghost use Rattle.logger.specs.declared.take.TakeAnswer.the-variants.{Unsound};
-ghost use Rattle.logger.specs.Take.{taken, decided, stays, closes, putWith, updated, updateOf, filled, compared, sameCounts, numberOf};
+ghost use Rattle.logger.specs.Take.{taken, decided, stays, takeCloses, putWith, updated, updateOf, filled, compared, sameCounts, numberOf};
 
 pub enum TakeAnswer {
     Done,
@@ -74,8 +74,8 @@ impl TakeAnswer {
 
 // Takes a reply for the open ask into the log, and keeps its day's figures right.
 pub fn take_reply(log: &mut [u8], figures: &mut [u32], held: OpenAsk, reply: &[u8]) -> Taken
-    ensures { λ r. ⌜ outcome r (both (now (log .exit)) (now (figures .exit)))
-        ≡ taken (both (now (log .entry)) (now (figures .entry))) held (now (reply .entry)) ⌝ }
+    ensures { λ r. ⌜ outcome r (logAndRows (now (log .exit)) (now (figures .exit)))
+        ≡ taken (logAndRows (now (log .entry)) (now (figures .entry))) held (now (reply .entry)) ⌝ }
 {
     let decided = decided(log, figures, held, reply);
     let change = decided.change;
@@ -88,20 +88,20 @@ fn decided(log: &[u8], figures: &mut [u32], held: OpenAsk, reply: &[u8]) -> Deci
     ensures { λ r. ⌜ outcome r (now (figures .exit))
         ≡ decided (viewOf (now (log .entry))) (now (figures .entry)) held (now (reply .entry)) ⌝ }
 {
-    let Lent::Sound(h) = log::sound(log) else {
+    let LogHeader::Sound(h) = log_header::sound(log) else {
         return stays(TakeAnswer::Unsound, held);
     };
-    if figures.len() < day_figures::figures_of(h) {
+    if figures.len() < day_rows::figures_of(h) {
         return stays(TakeAnswer::TooShort, held);
     }
     let OpenAsk::Open(address, day, slot) = held else {
         return stays(TakeAnswer::NoAskOpen, held);
     };
-    let Interval::At(i) = log::interval_of(h, day, slot) else {
+    let Interval::At(i) = log_header::interval_of(h, day, slot) else {
         return stays(TakeAnswer::NotInLog, held);
     };
     // Early, where the header still lies in registers.
-    let twice = day_figures::comes_twice(h, day, slot);
+    let twice = day_rows::comes_twice(h, day, slot);
     if let Form::Faulty(fault) = reader::form_of(
         address,
         code::READ,
@@ -111,7 +111,7 @@ fn decided(log: &[u8], figures: &mut [u32], held: OpenAsk, reply: &[u8]) -> Deci
     ) {
         return stays(TakeAnswer::Malformed(fault), held);
     }
-    let result = words::byte_at(reply, layout::RESULT);
+    let result = byte_numbers::byte_at(reply, layout::RESULT);
     if result != code::OK {
         return closes(TakeAnswer::MeterRefused(result), Change::None);
     }
@@ -134,10 +134,10 @@ fn into_cell(
     let CellAnswer::Good(cell) = log::cell_at(log, i) else {
         return stays(TakeAnswer::Unsound, held);
     };
-    let ep = words::u16_at(reply, layout::DATA);
-    let em = words::u16_at(reply, layout::DATA + 2);
-    let rp = words::u16_at(reply, layout::DATA + 4);
-    let rm = words::u16_at(reply, layout::DATA + 6);
+    let ep = byte_numbers::u16_at(reply, layout::DATA);
+    let em = byte_numbers::u16_at(reply, layout::DATA + 2);
+    let rp = byte_numbers::u16_at(reply, layout::DATA + 4);
+    let rm = byte_numbers::u16_at(reply, layout::DATA + 6);
     updated(
         update_of(cell, ep, em, rp, rm),
         figures,
@@ -164,7 +164,7 @@ fn stays(answer: TakeAnswer, held: OpenAsk) -> Decision
 
 // The ask is closed.
 fn closes(answer: TakeAnswer, change: Change) -> Decision
-    ensures { λ r. ⌜ r ≡ closes answer change ⌝ }
+    ensures { λ r. ⌜ r ≡ takeCloses answer change ⌝ }
 {
     Decision {
         taken: Taken {
@@ -189,7 +189,7 @@ fn updated(
 {
     match update {
         Update::Put(new) => {
-            let answer = day_figures::change(figures, day, twice, old, new);
+            let answer = day_rows::change(figures, day, twice, old, new);
             put_with(answer, held, i, new)
         }
         Update::Keep => closes(TakeAnswer::Done, Change::None),
@@ -220,7 +220,7 @@ fn update_of(cell: Cell, ep: u16, em: u16, rp: u16, rm: u16) -> Update
 fn filled_with(ep: u16, em: u16, rp: u16, rm: u16) -> Update
     ensures { λ r. ⌜ r ≡ filled ep em rp rm ⌝ }
 {
-    if log::no_counts(ep, em, rp, rm) {
+    if log_cell::no_counts(ep, em, rp, rm) {
         Update::Put(Cell::Empty)
     } else {
         Update::Put(Cell::Measured(ep, em, rp, rm))
@@ -231,7 +231,7 @@ fn filled_with(ep: u16, em: u16, rp: u16, rm: u16) -> Update
 fn compared_with(a: u16, b: u16, c: u16, d: u16, ep: u16, em: u16, rp: u16, rm: u16) -> Update
     ensures { λ r. ⌜ r ≡ compared a b c d ep em rp rm ⌝ }
 {
-    if log::no_counts(ep, em, rp, rm) {
+    if log_cell::no_counts(ep, em, rp, rm) {
         return Update::Keep;
     }
     if same_counts(a, b, c, d, ep, em, rp, rm) {

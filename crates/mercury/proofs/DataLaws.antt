@@ -7,12 +7,12 @@ use native.Mathlib.Omega.{arith}
 use lib.Dec.{lit≤}
 use lib.ListN.{length, take, drop, length-append}
 use lib.Seq.{take-add, drop-drop}
-use Rattle.words.specs.Place.{byteAt, written}
-use Rattle.words.proofs.PlaceLaws.{written-append}
-use Rattle.packed.specs.Packed.{packedOf, decimalAt}
-use Rattle.packed.specs.declared.Decimal.{Decimal}
-use Rattle.packed.specs.declared.Decimal.the-variants.{Number, NotDecimal}
-use Rattle.packed.proofs.PackedLaws.{length-packedOf, decimal-front, decimal-behind, decimal-at-put, decimal-at-small}
+use Rattle.byte_numbers.specs.Place.{byteAt, written}
+use Rattle.byte_numbers.proofs.PlaceLaws.{written-append}
+use Rattle.packed_decimal.specs.Packed.{packedOf, decimalAt}
+use Rattle.packed_decimal.specs.declared.Decimal.{Decimal}
+use Rattle.packed_decimal.specs.declared.Decimal.the-variants.{Number, NotDecimal}
+use Rattle.packed_decimal.proofs.PackedLaws.{length-packedOf, decimal-front, decimal-behind, decimal-at-put, decimal-at-small}
 use Rattle.mercury.specs.Data.{tariffsBytes, loadBytes, frequencyBytes, restBytes, restOf, tariffsBy, tariffsOf, loadBy, loadOf, frequencyBy, frequencyOf}
 use Rattle.mercury.specs.declared.units.Tariffs.{Tariffs as FourTariffs}
 use Rattle.mercury.specs.declared.units.Load.{Load as LoadFigures}

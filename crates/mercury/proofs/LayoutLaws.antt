@@ -4,9 +4,9 @@ use mathlib.Core.List.{List, [], _∷_, _++_}
 use Prim.Native.Nat.{ℕ, suc, zero, _+_, _^_, _≤_, _<_}
 use native.Mathlib.Omega.{arith}
 use lib.ListN.{length, take, drop}
-use Rattle.words.specs.Number.{Bytes, number, bytesOf}
-use Rattle.words.specs.Place.{byteAt, written}
-use Rattle.words.proofs.NumberLaws.{bytes-bytesOf, bytesOf-number, number-bytesOf-fits}
+use Rattle.byte_numbers.specs.Number.{Bytes, number, bytesOf}
+use Rattle.byte_numbers.specs.Place.{byteAt, written}
+use Rattle.byte_numbers.proofs.NumberLaws.{bytes-bytesOf, bytesOf-number, number-bytesOf-fits}
 use Rattle.frame.specs.Sealing.{framed, sealed}
 use Rattle.frame.proofs.SealingLaws.{sealed-written}
 use Rattle.mercury.specs.Layout.{turned, addressBytes, addressIn, headOf}

@@ -9,13 +9,13 @@ use lib.Dec.{eqb}
 use lib.ListN.{length, take, drop, length-append, length-drop, take-append-drop}
 use lib.Seq.{take-add, take-at, drop-at}
 use borrow.Author.Tests.{eq-eqb, eqb-true}
-use Rattle.case_laws.proofs.Test.{both}
-use Rattle.words.specs.Number.{Bytes, bytesOf}
-use Rattle.words.specs.Place.{byteAt}
+use Rattle.test_laws.proofs.Test.{both}
+use Rattle.byte_numbers.specs.Number.{Bytes, bytesOf}
+use Rattle.byte_numbers.specs.Place.{byteAt}
 use Rattle.crc16.specs.Crc.{crcOf}
 use Rattle.frame.specs.Sealing.{framed, crcFits}
 use Rattle.frame.proofs.SealingLaws.{length-framed, crcFits-framed, framed-of-fits}
-use Rattle.packed.proofs.PackedLaws.{bytes-append}
+use Rattle.packed_decimal.proofs.PackedLaws.{bytes-append}
 use Rattle.mercury.specs.Command.{commandOf, isKnown, dataSize}
 use Rattle.mercury.specs.Form.{formOf, requestForm, repeats, replyForm}
 use Rattle.mercury.specs.Layout.{turned, addressBytes, addressIn, headOf, bareSize}

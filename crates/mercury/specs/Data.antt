@@ -3,10 +3,10 @@
 -- come back as they are", "41 a half-byte above 9".
 use mathlib.Core.List.{List, [], _∷_, _++_}
 use Prim.Native.Nat.{ℕ}
-use Rattle.words.specs.Place.{byteAt}
-use Rattle.packed.specs.Packed.{packedOf, decimalAt}
-use Rattle.packed.specs.declared.Decimal.{Decimal}
-use Rattle.packed.specs.declared.Decimal.the-variants as decimal
+use Rattle.byte_numbers.specs.Place.{byteAt}
+use Rattle.packed_decimal.specs.Packed.{packedOf, decimalAt}
+use Rattle.packed_decimal.specs.declared.Decimal.{Decimal}
+use Rattle.packed_decimal.specs.declared.Decimal.the-variants as decimal
 use Rattle.mercury.specs.declared.units.Tariffs.{Tariffs as FourTariffs}
 use Rattle.mercury.specs.declared.units.Load.{Load as LoadFigures}
 use Rattle.mercury.specs.declared.units.Frequency.{Frequency as FrequencyFigures}

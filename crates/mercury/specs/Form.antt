@@ -4,7 +4,7 @@ use mathlib.Core.List.{List}
 use Prim.Native.Nat.{ℕ, _+_}
 use lib.Dec.{eqb}
 use lib.ListN.{length}
-use Rattle.words.specs.Place.{byteAt}
+use Rattle.byte_numbers.specs.Place.{byteAt}
 use Rattle.refusal.specs.Outcome.{check}
 use Rattle.frame.specs.Sealing.{crcFits}
 use Rattle.mercury.specs.Command.{commandOf, isKnown, dataSize}

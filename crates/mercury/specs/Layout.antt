@@ -2,8 +2,8 @@
 -- byte first"; 000, the table of its fields.
 use mathlib.Core.List.{List, [], _∷_, _++_}
 use Prim.Native.Nat.{ℕ}
-use Rattle.words.specs.Number.{number, bytesOf}
-use Rattle.words.specs.Place.{byteAt}
+use Rattle.byte_numbers.specs.Number.{number, bytesOf}
+use Rattle.byte_numbers.specs.Place.{byteAt}
 
 abbrev pub commandPlace : ℕ
 commandPlace = 4

@@ -3,7 +3,7 @@ use mathlib.Core.List.{List}
 use Prim.Native.Nat.{ℕ}
 use lib.Dec.{leb}
 use lib.ListN.{length}
-use Rattle.words.specs.Place.{written}
+use Rattle.byte_numbers.specs.Place.{written}
 use Rattle.refusal.specs.Outcome.{Outcome, outcome, check}
 use Rattle.frame.specs.Sealing.{framed}
 use Rattle.mercury.specs.Command.{commandOf, isKnown}

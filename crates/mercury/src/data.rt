@@ -14,9 +14,9 @@ use crate::units::Tariffs;
 use crate::units::TensOfWattHours;
 use crate::units::TenthsOfVolt;
 use crate::units::Watts;
-use packed::Decimal;
+use packed_decimal::Decimal;
 ghost use mathlib.Core.Path.{_≡_};
-ghost use Rattle.words.specs.Place.{written};
+ghost use Rattle.byte_numbers.specs.Place.{written};
 ghost use Rattle.mercury.specs.Data.{tariffsBytes, loadBytes, frequencyBytes, tariffsOf, loadOf, frequencyOf, restOf};
 
 pub fn put_tariffs(out: &mut [u8], t: Tariffs)
@@ -26,10 +26,10 @@ pub fn put_tariffs(out: &mut [u8], t: Tariffs)
     let second = t.second;
     let third = t.third;
     let fourth = t.fourth;
-    packed::put_number(out, 0, TARIFF_BYTES, first.0);
-    packed::put_number(out, 4, TARIFF_BYTES, second.0);
-    packed::put_number(out, 8, TARIFF_BYTES, third.0);
-    packed::put_number(out, 12, TARIFF_BYTES, fourth.0);
+    packed_decimal::put_number(out, 0, TARIFF_BYTES, first.0);
+    packed_decimal::put_number(out, 4, TARIFF_BYTES, second.0);
+    packed_decimal::put_number(out, 8, TARIFF_BYTES, third.0);
+    packed_decimal::put_number(out, 12, TARIFF_BYTES, fourth.0);
 }
 
 pub fn put_load(out: &mut [u8], l: Load)
@@ -38,9 +38,9 @@ pub fn put_load(out: &mut [u8], l: Load)
     let voltage = l.voltage;
     let current = l.current;
     let power = l.power;
-    packed::put_number(out, 0, VOLTAGE_BYTES, voltage.0 as u32);
-    packed::put_number(out, 2, CURRENT_BYTES, current.0 as u32);
-    packed::put_number(out, 4, POWER_BYTES, power.0);
+    packed_decimal::put_number(out, 0, VOLTAGE_BYTES, voltage.0 as u32);
+    packed_decimal::put_number(out, 2, CURRENT_BYTES, current.0 as u32);
+    packed_decimal::put_number(out, 4, POWER_BYTES, power.0);
 }
 
 pub fn put_frequency(out: &mut [u8], f: Frequency)
@@ -48,8 +48,8 @@ pub fn put_frequency(out: &mut [u8], f: Frequency)
 {
     let frequency = f.frequency;
     let rest = f.rest;
-    packed::put_number(out, 0, FREQUENCY_BYTES, frequency.0 as u32);
-    words::put_bytes(
+    packed_decimal::put_number(out, 0, FREQUENCY_BYTES, frequency.0 as u32);
+    byte_numbers::put_bytes(
         out,
         2,
         &[rest.0, rest.1, rest.2, rest.3, rest.4, rest.5, rest.6],
@@ -59,16 +59,16 @@ pub fn put_frequency(out: &mut [u8], f: Frequency)
 pub fn tariffs_of(bytes: &[u8]) -> Decoded
     ensures { λ r. ⌜ r ≡ tariffsOf (now (bytes .entry)) ⌝ }
 {
-    let Decimal::Number(first) = packed::number_at(bytes, 0, TARIFF_BYTES) else {
+    let Decimal::Number(first) = packed_decimal::number_at(bytes, 0, TARIFF_BYTES) else {
         return Decoded::NotDecimal;
     };
-    let Decimal::Number(second) = packed::number_at(bytes, 4, TARIFF_BYTES) else {
+    let Decimal::Number(second) = packed_decimal::number_at(bytes, 4, TARIFF_BYTES) else {
         return Decoded::NotDecimal;
     };
-    let Decimal::Number(third) = packed::number_at(bytes, 8, TARIFF_BYTES) else {
+    let Decimal::Number(third) = packed_decimal::number_at(bytes, 8, TARIFF_BYTES) else {
         return Decoded::NotDecimal;
     };
-    let Decimal::Number(fourth) = packed::number_at(bytes, 12, TARIFF_BYTES) else {
+    let Decimal::Number(fourth) = packed_decimal::number_at(bytes, 12, TARIFF_BYTES) else {
         return Decoded::NotDecimal;
     };
     Decoded::Tariffs(Tariffs {
@@ -82,13 +82,13 @@ pub fn tariffs_of(bytes: &[u8]) -> Decoded
 pub fn load_of(bytes: &[u8]) -> Decoded
     ensures { λ r. ⌜ r ≡ loadOf (now (bytes .entry)) ⌝ }
 {
-    let Decimal::Number(voltage) = packed::number_at(bytes, 0, VOLTAGE_BYTES) else {
+    let Decimal::Number(voltage) = packed_decimal::number_at(bytes, 0, VOLTAGE_BYTES) else {
         return Decoded::NotDecimal;
     };
-    let Decimal::Number(current) = packed::number_at(bytes, 2, CURRENT_BYTES) else {
+    let Decimal::Number(current) = packed_decimal::number_at(bytes, 2, CURRENT_BYTES) else {
         return Decoded::NotDecimal;
     };
-    let Decimal::Number(power) = packed::number_at(bytes, 4, POWER_BYTES) else {
+    let Decimal::Number(power) = packed_decimal::number_at(bytes, 4, POWER_BYTES) else {
         return Decoded::NotDecimal;
     };
     Decoded::Load(Load {
@@ -101,7 +101,7 @@ pub fn load_of(bytes: &[u8]) -> Decoded
 pub fn frequency_of(bytes: &[u8]) -> Decoded
     ensures { λ r. ⌜ r ≡ frequencyOf (now (bytes .entry)) ⌝ }
 {
-    let Decimal::Number(frequency) = packed::number_at(bytes, 0, FREQUENCY_BYTES) else {
+    let Decimal::Number(frequency) = packed_decimal::number_at(bytes, 0, FREQUENCY_BYTES) else {
         return Decoded::NotDecimal;
     };
     Decoded::Frequency(Frequency {
@@ -115,12 +115,12 @@ fn rest_of(bytes: &[u8]) -> Rest
     ensures { λ r. ⌜ r ≡ restOf (now (bytes .entry)) ⌝ }
 {
     Rest(
-        words::byte_at(bytes, 2),
-        words::byte_at(bytes, 3),
-        words::byte_at(bytes, 4),
-        words::byte_at(bytes, 5),
-        words::byte_at(bytes, 6),
-        words::byte_at(bytes, 7),
-        words::byte_at(bytes, 8),
+        byte_numbers::byte_at(bytes, 2),
+        byte_numbers::byte_at(bytes, 3),
+        byte_numbers::byte_at(bytes, 4),
+        byte_numbers::byte_at(bytes, 5),
+        byte_numbers::byte_at(bytes, 6),
+        byte_numbers::byte_at(bytes, 7),
+        byte_numbers::byte_at(bytes, 8),
     )
 }

@@ -41,7 +41,7 @@ fn form_of(address: u32, size: usize, right: bool, frame: &[u8]) -> Form
 pub fn request_form(address: u32, request: &[u8]) -> Form
     ensures { λ r. ⌜ r ≡ requestForm address (now (request .entry)) ⌝ }
 {
-    let c = command::command_of(words::byte_at(request, layout::COMMAND));
+    let c = command::command_of(byte_numbers::byte_at(request, layout::COMMAND));
     form_of(address, layout::BARE_BYTES, command::is_known(c), request)
 }
 
@@ -58,7 +58,7 @@ fn repeats(code: u8, reply: &[u8]) -> bool
     ensures { λ r. ⌜ r ≡ repeats code (now (reply .entry)) ⌝ }
 {
     if command::is_known(command::command_of(code)) {
-        return words::byte_at(reply, layout::COMMAND) == code;
+        return byte_numbers::byte_at(reply, layout::COMMAND) == code;
     }
     false
 }

@@ -1,6 +1,6 @@
 // The front of a frame: the address, high byte first, and the command.
 ghost use mathlib.Core.Path.{_≡_};
-ghost use Rattle.words.specs.Place.{written};
+ghost use Rattle.byte_numbers.specs.Place.{written};
 ghost use Rattle.mercury.specs.Layout.{addressIn, headOf};
 
 pub fn put_head(out: &mut [u8], address: u32, code: u8)
@@ -16,16 +16,16 @@ pub fn put_head(out: &mut [u8], address: u32, code: u8)
         (address % 256) as u8,
         code,
     ];
-    words::put_bytes(out, 0, &head);
+    byte_numbers::put_bytes(out, 0, &head);
 }
 
 // The address in a frame; bytes that it lacks count as 0.
 pub fn address_in(frame: &[u8]) -> u32
     ensures { λ r. ⌜ r ≡ addressIn (now (frame .entry)) ⌝ }
 {
-    let first = words::byte_at(frame, 0) as u32;
-    let second = words::byte_at(frame, 1) as u32;
-    let third = words::byte_at(frame, 2) as u32;
-    let fourth = words::byte_at(frame, 3) as u32;
+    let first = byte_numbers::byte_at(frame, 0) as u32;
+    let second = byte_numbers::byte_at(frame, 1) as u32;
+    let third = byte_numbers::byte_at(frame, 2) as u32;
+    let fourth = byte_numbers::byte_at(frame, 3) as u32;
     ((first * 256 + second) * 256 + third) * 256 + fourth
 }

@@ -41,7 +41,7 @@ pub fn decode(address: u32, code: u8, reply: &[u8]) -> Decoded
     ensures { λ r. ⌜ r ≡ decodedOf address code (now (reply .entry)) ⌝ }
 {
     match reply_form(address, code, reply) {
-        Form::WellFormed => figures_of(command::command_of(code), words::tail(reply, DATA)),
+        Form::WellFormed => figures_of(command::command_of(code), byte_numbers::tail(reply, DATA)),
         Form::Faulty(fault) => Decoded::Malformed(fault),
     }
 }

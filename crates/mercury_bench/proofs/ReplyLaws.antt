@@ -5,9 +5,9 @@ use Prim.Native.Nat.{ℕ, _+_, _-_, _≤_}
 use native.Mathlib.Nat.{zero-add}
 use native.Mathlib.Omega.{arith}
 use lib.ListN.{length, take, drop, length-append}
-use Rattle.words.specs.Place.{written}
-use Rattle.words.proofs.PlaceLaws.{written-append}
-use Rattle.words.proofs.Part.{written-rest}
+use Rattle.byte_numbers.specs.Place.{written}
+use Rattle.byte_numbers.proofs.PlaceLaws.{written-append}
+use Rattle.byte_numbers.proofs.Part.{written-rest}
 use Rattle.frame.specs.Sealing.{framed, sealed}
 use Rattle.frame.proofs.SealingLaws.{sealed-written, length-framed}
 use Rattle.mercury.specs.Command.{codeOf, dataSize}

@@ -4,7 +4,7 @@ use mathlib.Core.List.{List, []}
 use Prim.Native.Nat.{ℕ}
 use lib.Dec.{leb}
 use lib.ListN.{length}
-use Rattle.words.specs.Place.{byteAt, written}
+use Rattle.byte_numbers.specs.Place.{byteAt, written}
 use Rattle.refusal.specs.Outcome.{Outcome, outcome, check}
 use Rattle.frame.specs.Layout.{longest}
 use Rattle.mercury.specs.Command.{commandOf, codeOf}

@@ -10,7 +10,7 @@ use mercury::layout;
 ghost use mathlib.Core.Path.{_≡_};
 ghost use Prim.Native.Nat.{_≤_};
 ghost use lib.ListN.{length};
-ghost use Rattle.words.specs.Place.{written};
+ghost use Rattle.byte_numbers.specs.Place.{written};
 ghost use Rattle.frame.specs.Layout.{longest};
 ghost use Rattle.refusal.specs.Outcome.{outcome};
 ghost use Rattle.mercury.specs.Layout.{dataPlace};
@@ -61,7 +61,7 @@ fn heard(m: Meter, request: &[u8], out: &mut [u8]) -> Answered
 {
     match mercury::request_form(m.address, request) {
         Form::WellFormed => {
-            let c = command::command_of(words::byte_at(request, layout::COMMAND));
+            let c = command::command_of(byte_numbers::byte_at(request, layout::COMMAND));
             Answered::Done(replied(c, m, out))
         }
         Form::Faulty(fault) => Answered::Silent(fault),

@@ -6,9 +6,9 @@ use Prim.Native.Nat.{ℕ}
 use lib.Dec.{eqb, ltb}
 use lib.ListN.{length}
 use borrow.Author.Tests.{lt-ltb, ltb-true}
-use Rattle.case_laws.proofs.Test.{both}
-use Rattle.frame.specs.Table.{rowOf}
-use Rattle.frame.specs.declared.code.Function.{Function}
+use Rattle.test_laws.proofs.Test.{both}
+use Rattle.parameters.specs.Table.{parameterRow}
+use Rattle.parameters.specs.declared.code.Function.{Function}
 use Rattle.meter_clock.specs.Protection.{opened, shut, isProtection}
 use Rattle.meter_clock.specs.declared.protection.Protection.{Protection}
 use Rattle.meter_clock.specs.declared.protection.Level.the-variants.{Auxiliary, Main}
@@ -30,7 +30,7 @@ use Rattle.meter_command.proofs.KeepLaws.{protection-within, change-within, cha
 use Rattle.meter_command.specs.Parts.{functionIn, parameterIn, detailIn}
 use Rattle.meter_command.specs.Verdict.{isDone}
 use Rattle.meter_command.specs.declared.access.Met.{Met}
-use Rattle.frame.specs.declared.code.Function.the-variants as function
+use Rattle.parameters.specs.declared.code.Function.the-variants as function
 use Rattle.meter.specs.Bench.{slicePut}
 use Rattle.meter.specs.Effect.{renewed, afterOf, afterBy, clears, storeAfter}
 use Rattle.meter.specs.Reply.{isSound, met, heard, verdictOn, replied, answerOf}
@@ -57,7 +57,7 @@ after-by (function.Read reading) m r f w d = w
 after-by function.Change m r f w d =
     let a = change-accepted m r f d in
     renewed-within (changed (parameterIn f) r f) (change-within (parameterIn f) r f w (a .fits))
-    (ap (λ (p : Protection). isOpen (p .level)) (change-level (parameterIn f) r f) ∙ allowed-open ((rowOf (parameterIn f)) .access) (r .protection .level) (a .allowed))
+    (ap (λ (p : Protection). isOpen (p .level)) (change-level (parameterIn f) r f) ∙ allowed-open ((parameterRow (parameterIn f)) .access) (r .protection .level) (a .allowed))
 after-by function.Zero m r f w d =
     let a = zero-accepted m r f d in
     renewed-within (zeroed (parameterIn f) r) (zero-within (parameterIn f) r w)

@@ -6,24 +6,24 @@ use Prim.Native.Nat.{ℕ, _+_, _-_, _≤_}
 use native.Mathlib.Omega.{arith}
 use lib.Dec.{eqb, ltb, lit≤}
 use lib.ListN.{length, take, drop, length-append}
-use Rattle.words.specs.Number.{bytesOf}
-use Rattle.words.proofs.Part.{written-rest}
-use Rattle.words.specs.Place.{written}
-use Rattle.words.proofs.PlaceLaws.{written-append}
-use Rattle.figures.specs.Clock.{dateTimeBytes}
-use Rattle.figures.specs.Mask.{maskBytes}
-use Rattle.figures.specs.Power.{powersBytes}
-use Rattle.figures.proofs.PowerLaws.{length-powerBytes}
-use Rattle.figures.specs.Telemetry.{telemetryBytes}
-use Rattle.figures.specs.declared.power.Phases.{Phases}
+use Rattle.byte_numbers.specs.Number.{bytesOf}
+use Rattle.byte_numbers.proofs.Part.{written-rest}
+use Rattle.byte_numbers.specs.Place.{written}
+use Rattle.byte_numbers.proofs.PlaceLaws.{written-append}
+use Rattle.wire_values.specs.Clock.{dateTimeBytes}
+use Rattle.wire_values.specs.Mask.{maskBytes}
+use Rattle.wire_values.specs.Power.{powersBytes}
+use Rattle.wire_values.proofs.PowerLaws.{length-powerBytes}
+use Rattle.wire_values.specs.Telemetry.{telemetryBytes}
+use Rattle.wire_values.specs.declared.power.Phases.{Phases}
 use Rattle.frame.specs.Sealing.{framed, sealed}
 use Rattle.frame.proofs.SealingLaws.{sealed-written}
-use Rattle.frame.specs.Table.{replyBytes}
-use Rattle.frame.proofs.TableLaws.{reply-small}
-use Rattle.frame.specs.declared.code.Parameter.{Parameter}
-use Rattle.frame.specs.declared.code.Reading.{Reading}
-use Rattle.frame.specs.declared.code.Reading.the-variants.{Stored, Displayed}
-use Rattle.figures.proofs.DisplayedLaws.{length-energies}
+use Rattle.parameters.specs.Table.{replyBytes}
+use Rattle.parameters.proofs.TableLaws.{reply-small}
+use Rattle.parameters.specs.declared.code.Parameter.{Parameter}
+use Rattle.parameters.specs.declared.code.Reading.{Reading}
+use Rattle.parameters.specs.declared.code.Reading.the-variants.{Stored, Displayed}
+use Rattle.wire_values.proofs.DisplayedLaws.{length-energies}
 use Rattle.request.specs.Subject.{keyOf}
 use Rattle.request.specs.declared.request.Request.{Request}
 use Rattle.meter_store.specs.Store.{sliceOf, sixOf, rowBytes}
@@ -31,8 +31,8 @@ use Rattle.meter_record.specs.declared.record.Record.{Record}
 use Rattle.meter_command.specs.Parts.{functionIn, parameterIn, requestIn}
 use Rattle.meter_command.specs.Verdict.{isDone}
 use Rattle.meter_command.specs.declared.verdict.Verdict.{Verdict}
-use Rattle.meter_reading.specs.Reading.{powerData, sixBytes, figuresOf, displayedOf, figuresAs, isRead, dataOf, dataSize}
-use Rattle.frame.specs.declared.code.Parameter.the-variants as parameter
+use Rattle.meter_reply_data.specs.Reading.{powerData, sixBytes, figuresOf, displayedOf, figuresAs, isRead, dataOf, dataSize}
+use Rattle.parameters.specs.declared.code.Parameter.the-variants as parameter
 use Rattle.meter.specs.Reply.{outcome, isSound, heard, verdictOn, headOf, filled, done, refused, replied, answerOf}
 
 -- ---- the length of the data

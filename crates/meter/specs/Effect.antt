@@ -4,10 +4,10 @@ use mathlib.Core.Bool.{Bool, false, cond}
 use mathlib.Core.List.{List}
 use Prim.Native.Nat.{ℕ}
 use lib.Dec.{eqb}
-use Rattle.frame.specs.Code.{slice}
-use Rattle.frame.specs.Table.{codeOf}
-use Rattle.frame.specs.declared.code.Function.{Function}
-use Rattle.frame.specs.declared.code.Parameter.{Parameter}
+use Rattle.parameters.specs.Code.{slice}
+use Rattle.parameters.specs.Table.{codeOf}
+use Rattle.parameters.specs.declared.code.Function.{Function}
+use Rattle.parameters.specs.declared.code.Parameter.{Parameter}
 use Rattle.meter_clock.specs.Protection.{shut, opened}
 use Rattle.meter_store.specs.Store.{cleared}
 use Rattle.meter_record.specs.declared.record.Record.{Record}
@@ -15,7 +15,7 @@ use Rattle.meter_command.specs.Access.{levelFor}
 use Rattle.meter_record.specs.With.{withProtection}
 use Rattle.meter_command.specs.Change.{changed, zeroed}
 use Rattle.meter_command.specs.Parts.{functionIn, parameterIn, detailIn}
-use Rattle.frame.specs.declared.code.Function.the-variants as function
+use Rattle.parameters.specs.declared.code.Function.the-variants as function
 
 -- the level stays, and has all its seconds
 abbrev pub renewed : Record → Record

@@ -5,8 +5,8 @@ use mathlib.Core.List.{List, [], _∷_, _++_}
 use Prim.Native.Nat.{ℕ, _+_}
 use lib.Dec.{eqb, leb, ltb}
 use lib.ListN.{length}
-use Rattle.words.specs.Place.{byteAt, written}
-use Rattle.frame.specs.Code.{refused as topBit}
+use Rattle.byte_numbers.specs.Place.{byteAt, written}
+use Rattle.parameters.specs.Code.{refused as topBit}
 use Rattle.frame.specs.Layout.{addressPlace, functionPlace, dataPlace, longest, bareSize}
 use Rattle.frame.specs.Sealing.{framed, sealed, isSealed}
 use Rattle.meter_store.specs.Store.{storeBytes}
@@ -15,7 +15,7 @@ use Rattle.meter_record.specs.declared.record.Record.{Record}
 use Rattle.meter_command.specs.Parts.{parameterByte}
 use Rattle.meter.specs.Effect.{afterOf, storeAfter}
 use Rattle.meter_command.specs.Judgement.{verdictOf}
-use Rattle.meter_reading.specs.Reading.{dataOf, dataSize}
+use Rattle.meter_reply_data.specs.Reading.{dataOf, dataSize}
 use Rattle.meter_command.specs.Verdict.{isDone, resultOf}
 use Rattle.meter.specs.declared.reply.Answered.{Answered}
 use Rattle.meter_command.specs.declared.access.Met.{Met}

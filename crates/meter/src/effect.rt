@@ -1,10 +1,10 @@
 // What a command that is done leaves behind: the record after it, and the store.
-use frame::code;
-use frame::code::Function;
-use frame::code::Parameter;
 use frame::layout;
-use frame::table;
 use meter_record::Record;
+use parameters::code;
+use parameters::code::Function;
+use parameters::code::Parameter;
+use parameters::table;
 ghost use mathlib.Core.Path.{_≡_};
 ghost use Rattle.meter.specs.Effect.{renewed, afterOf, isSlice, clears, storeAfter};
 
@@ -28,7 +28,7 @@ pub fn record_after(r: Record, frame: &[u8]) -> Record
         Function::Change => renewed(meter_command::changed(p, r, frame)),
         Function::Zero => renewed(meter_command::zeroed(p, r)),
         Function::Unlock => Record {
-            protection: meter_clock::opened(meter_command::level_for(words::byte_at(
+            protection: meter_clock::opened(meter_command::level_for(byte_numbers::byte_at(
                 frame,
                 layout::DETAIL,
             ))),

@@ -1,19 +1,19 @@
 // The answer to a frame.
 use crate::effect;
-use frame::code;
 use frame::layout;
 use meter_command::Met;
 use meter_command::Verdict;
 use meter_record::Record;
+use parameters::code;
 ghost use mathlib.Core.Path.{_≡_};
 ghost use Prim.Native.Nat.{_≤_, _+_};
 ghost use lib.ListN.{length};
-ghost use Rattle.words.specs.Place.{written};
+ghost use Rattle.byte_numbers.specs.Place.{written};
 ghost use Rattle.frame.specs.Layout.{dataPlace, longest};
 ghost use Rattle.frame.specs.Sealing.{sealed};
 ghost use Rattle.meter.specs.Reply.{outcome, isSound, metAt, isHeard, functionFor, headOf, replied, filled, answerOf};
 ghost use Rattle.meter_command.specs.Judgement.{verdictOf};
-ghost use Rattle.meter_reading.specs.Reading.{dataOf};
+ghost use Rattle.meter_reply_data.specs.Reading.{dataOf};
 
 pub struct Answered {
     pub verdict: Verdict,
@@ -36,7 +36,7 @@ pub fn is_sound(r: Record, store: &[u8]) -> bool
 fn address_met(own: u8, frame: &[u8]) -> Met
     ensures { λ a. ⌜ a ≡ metAt own (now (frame .entry)) ⌝ }
 {
-    let address = words::byte_at(frame, layout::ADDRESS);
+    let address = byte_numbers::byte_at(frame, layout::ADDRESS);
     if frame::is_sealed(frame) {
         if address == 0 {
             return Met::Zero;
@@ -77,12 +77,12 @@ fn put_head(out: &mut [u8], v: Verdict, frame: &[u8])
     ensures { λ _. ⌜ now (out .exit) ≡ written (now (out .entry)) 0 (headOf v (now (frame .entry))) ⌝ }
 {
     let head = [
-        words::byte_at(frame, layout::ADDRESS),
-        function_for(v, words::byte_at(frame, layout::FUNCTION)),
+        byte_numbers::byte_at(frame, layout::ADDRESS),
+        function_for(v, byte_numbers::byte_at(frame, layout::FUNCTION)),
         meter_command::parameter_byte(frame),
         meter_command::result_of(v),
     ];
-    words::put_bytes(out, 0, &head);
+    byte_numbers::put_bytes(out, 0, &head);
 }
 
 // The meter's answer: the reply goes to the front of `out`, and what the command changes in the store is changed.
@@ -137,7 +137,7 @@ fn fill(out: &mut [u8], r: Record, store: &[u8], frame: &[u8])
     requires { ⌜ longest ≤ length (now out) ⌝ }
     ensures { λ _. ⌜ now (out .exit) ≡ written (now (out .entry)) dataPlace (dataOf r (now (store .entry)) (now (frame .entry))) ⌝ }
 {
-    meter_reading::put_data(&mut out[layout::DATA..], r, store, frame);
+    meter_reply_data::put_data(&mut out[layout::DATA..], r, store, frame);
 }
 
 // The data behind the head, and what the command leaves.
@@ -145,7 +145,7 @@ fn done(v: Verdict, r: Record, store: &mut [u8], frame: &[u8], out: &mut [u8]) -
     requires { ⌜ longest ≤ length (now out) ⌝ }
     ensures { λ a. ⌜ outcome a (now (store .exit)) (now (out .exit)) ≡ filled v r (now (store .entry)) (now (frame .entry)) (now (out .entry)) ⌝ }
 {
-    let size = meter_reading::data_size(frame);
+    let size = meter_reply_data::data_size(frame);
     fill(out, r, store, frame);
     frame::seal(out, layout::DATA + size);
     effect::clear_store(store, frame);

@@ -6,7 +6,7 @@ use Prim.Native.Nat.{ℕ, _+_, _-_, _≤_, _<_}
 use native.Mathlib.Omega.{arith}
 use lib.Dec.{leb, ltb}
 use borrow.Author.Tests.{le-leb, lt-ltb, leb-true, leb-false, eqb-true}
-use Rattle.case_laws.proofs.Test.{both, either}
+use Rattle.test_laws.proofs.Test.{both, either}
 use Rattle.calendar.specs.Date.{daysInMonth}
 use Rattle.calendar.specs.Sunday.{lastSunday, lastSundayOf}
 use Rattle.calendar.specs.Time.{isTime, secondNumber, centurySeconds, timeAt, timeBack, secondsLater, secondsEarlier}

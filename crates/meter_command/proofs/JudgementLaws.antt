@@ -5,16 +5,16 @@ use mathlib.Core.List.{List}
 use Prim.Native.Nat.{ℕ, _+_}
 use lib.Dec.{eqb}
 use lib.ListN.{length}
-use Rattle.words.specs.Place.{byteAt}
+use Rattle.byte_numbers.specs.Place.{byteAt}
 use Rattle.slots.specs.Day.{slotsOf}
 use Rattle.request.specs.Subject.{subjectOf, askable}
 use Rattle.meter_record.specs.declared.record.Record.{Record}
-use Rattle.frame.specs.Table.{rowOf, opensTo, known}
-use Rattle.frame.specs.declared.table.Access.{Access}
+use Rattle.parameters.specs.Table.{parameterRow, opensTo, known}
+use Rattle.parameters.specs.declared.table.Access.{Access}
 use Rattle.meter_clock.specs.Protection.{opened, isRunning, isProtection}
 use Rattle.meter_clock.specs.declared.protection.Level.{Level}
 use Rattle.meter_clock.specs.declared.protection.Level.the-variants.{Shut, Auxiliary, Main}
-use Rattle.frame.specs.declared.table.Access.the-variants as access
+use Rattle.parameters.specs.declared.table.Access.the-variants as access
 use Rattle.meter_command.specs.declared.access.Met.{Met}
 use Rattle.meter_command.specs.Access.{byOwn, isMain, isOpen, allows, changeAllowed}
 use Rattle.meter_command.specs.Judgement.{passed, checked, argumentFits, readVerdict, changeVerdict, zeroVerdict}
@@ -60,19 +60,19 @@ open-runs Main h = refl
 -- ---- what a read, a change and a zeroing that are done have passed
 
 pub read-accepted : (r : Record) (f : List ℕ) → isDone (readVerdict r f) ≡ true
-    → Accepted (known (rowOf (parameterIn f))) (opensTo ((requestIn f) .reading) (rowOf (parameterIn f))) (eqb (length f) 8) true true
+    → Accepted (known (parameterRow (parameterIn f))) (opensTo ((requestIn f) .reading) (parameterRow (parameterIn f))) (eqb (length f) 8) true true
     (askable (subjectOf (requestIn f) (slotsOf (r .minutes))))
 unfolding readVerdict
 read-accepted r f h = accepted _ _ _ _ _ _ h
 
 pub change-accepted : (met : Met) (r : Record) (f : List ℕ) → isDone (changeVerdict met r f) ≡ true
-    → Accepted (known (rowOf (parameterIn f))) ((rowOf (parameterIn f)) .changeable) (eqb (length f) (6 + (rowOf (parameterIn f)) .«change_bytes»))
+    → Accepted (known (parameterRow (parameterIn f))) ((parameterRow (parameterIn f)) .changeable) (eqb (length f) (6 + (parameterRow (parameterIn f)) .«change_bytes»))
     (byOwn met) (changeAllowed (parameterIn f) (r .protection .level)) (argumentFits (parameterIn f) r f)
 unfolding changeVerdict
 change-accepted met r f h = accepted _ _ _ _ _ _ h
 
 pub zero-accepted : (met : Met) (r : Record) (f : List ℕ) → isDone (zeroVerdict met r f) ≡ true
-    → Accepted (known (rowOf (parameterIn f))) ((rowOf (parameterIn f)) .zeroable) (eqb (length f) 6) (byOwn met) (isMain (r .protection .level))
+    → Accepted (known (parameterRow (parameterIn f))) ((parameterRow (parameterIn f)) .zeroable) (eqb (length f) 6) (byOwn met) (isMain (r .protection .level))
     (eqb (byteAt f 3) 0)
 unfolding zeroVerdict
 zero-accepted met r f h = accepted _ _ _ _ _ _ h

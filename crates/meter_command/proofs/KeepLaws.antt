@@ -4,11 +4,11 @@ use mathlib.Core.Bool.{Bool, true, false, cond}
 use mathlib.Core.List.{List}
 use Prim.Native.Nat.{ℕ}
 use lib.Dec.{eqb}
-use Rattle.case_laws.proofs.Test.{both, either}
-use Rattle.frame.specs.Table.{rowOf, codeOf}
-use Rattle.frame.specs.declared.code.Parameter.{Parameter}
-use Rattle.figures.specs.Telemetry.{telemetryOf}
-use Rattle.figures.specs.declared.mask.DisplayMask.{DisplayMask}
+use Rattle.test_laws.proofs.Test.{both, either}
+use Rattle.parameters.specs.Table.{parameterRow, codeOf}
+use Rattle.parameters.specs.declared.code.Parameter.{Parameter}
+use Rattle.wire_values.specs.Telemetry.{telemetryOf}
+use Rattle.wire_values.specs.declared.mask.DisplayMask.{DisplayMask}
 use Rattle.meter_clock.specs.Protection.{isProtection}
 use Rattle.meter_clock.specs.Season.{isFitting}
 use Rattle.meter_clock.proofs.SecondLaws.{Fitting, fitting, is-fitting}
@@ -36,7 +36,7 @@ fits-within false f g = g
 
 pub change-within : (p : Parameter) (r : Record) (f : List ℕ) → Within r → argumentFits p r f ≡ true → Within (changed p r f)
 unfolding changed changedTo argumentFits dataFits telemetryFits
-change-within p r f w h = go (both (detailFits ((rowOf p) .«detail_from») ((rowOf p) .«detail_to») (detailIn f)) (dataFits (codeOf p) (r .telemetry) (dataIn f)) h .1)
+change-within p r f w h = go (both (detailFits ((parameterRow p) .«detail_from») ((parameterRow p) .«detail_to») (detailIn f)) (dataFits (codeOf p) (r .telemetry) (dataIn f)) h .1)
   where
     t : Fitting (r .time)
     t = fitting (r .time) (w .time)

@@ -4,12 +4,12 @@ use mathlib.Core.List.{List}
 use Prim.Native.Nat.{ℕ}
 use lib.Dec.{eqb, leb}
 use lib.ListN.{length}
-use Rattle.words.specs.Place.{byteAt, numberAt}
-use Rattle.frame.specs.declared.code.Parameter.{Parameter}
+use Rattle.byte_numbers.specs.Place.{byteAt, numberAt}
+use Rattle.parameters.specs.declared.code.Parameter.{Parameter}
 use Rattle.frame.specs.Layout.{parameterPlace, detailPlace, dataPlace, bareSize, unlockSize}
-use Rattle.frame.specs.Table.{rowOf}
-use Rattle.frame.specs.declared.table.Access.{Access}
-use Rattle.frame.specs.declared.table.Access.the-variants as access
+use Rattle.parameters.specs.Table.{parameterRow}
+use Rattle.parameters.specs.declared.table.Access.{Access}
+use Rattle.parameters.specs.declared.table.Access.the-variants as access
 use Rattle.meter_clock.specs.declared.protection.Level.{Level}
 use Rattle.meter_clock.specs.declared.protection.Level.the-variants.{Shut, Auxiliary, Main}
 use Rattle.meter_record.specs.declared.record.Passwords.{Passwords}
@@ -40,7 +40,7 @@ allows access.Auxiliary l = isOpen l
 allows access.Main l = isMain l
 
 abbrev pub changeAllowed : Parameter → Level → Bool
-changeAllowed p l = allows ((rowOf p) .access) l
+changeAllowed p l = allows ((parameterRow p) .access) l
 
 -- figure 21: level 0 is main, 1 auxiliary
 unfoldable pub passwordFor : Passwords → ℕ → ℕ

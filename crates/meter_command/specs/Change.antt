@@ -3,14 +3,14 @@ use mathlib.Core.Bool.{Bool, true, cond, _&&_}
 use mathlib.Core.List.{List}
 use Prim.Native.Nat.{ℕ}
 use lib.Dec.{eqb, leb}
-use Rattle.words.specs.Place.{byteAt, numberAt}
+use Rattle.byte_numbers.specs.Place.{byteAt, numberAt}
 use Rattle.calendar.specs.Time.{isTime}
-use Rattle.figures.specs.Clock.{dateTimeOf}
-use Rattle.figures.specs.Mask.{maskOf}
-use Rattle.figures.specs.Telemetry.{telemetryOf}
-use Rattle.figures.specs.declared.telemetry.Telemetry.{Telemetry}
-use Rattle.frame.specs.Table.{codeOf}
-use Rattle.frame.specs.declared.code.Parameter.{Parameter}
+use Rattle.wire_values.specs.Clock.{dateTimeOf}
+use Rattle.wire_values.specs.Mask.{maskOf}
+use Rattle.wire_values.specs.Telemetry.{telemetryOf}
+use Rattle.wire_values.specs.declared.telemetry.Telemetry.{Telemetry}
+use Rattle.parameters.specs.Table.{codeOf}
+use Rattle.parameters.specs.declared.code.Parameter.{Parameter}
 use Rattle.meter_clock.specs.Season.{isSwitchable}
 use Rattle.meter_clock.specs.declared.season.SwitchDate.the-variants.{Automatic, ByHand}
 use Rattle.meter_record.specs.Ranges.{isTelemetry}

@@ -6,13 +6,13 @@ use Prim.Native.Nat.{ℕ, _+_}
 use lib.Dec.{eqb}
 use lib.ListN.{length}
 use Rattle.frame.specs.Layout.{readSize, bareSize}
-use Rattle.frame.specs.Table.{rowOf, opensTo, known}
-use Rattle.frame.specs.declared.code.Function.{Function}
-use Rattle.frame.specs.declared.code.Parameter.{Parameter}
+use Rattle.parameters.specs.Table.{parameterRow, opensTo, known}
+use Rattle.parameters.specs.declared.code.Function.{Function}
+use Rattle.parameters.specs.declared.code.Parameter.{Parameter}
 use Rattle.slots.specs.Day.{slotsOf}
 use Rattle.request.specs.Subject.{subjectOf, askable}
 use Rattle.meter_record.specs.declared.record.Record.{Record}
-use Rattle.frame.specs.declared.code.Function.the-variants as function
+use Rattle.parameters.specs.declared.code.Function.the-variants as function
 use Rattle.meter_command.specs.Access.{byOwn, isMain, changeAllowed, unlockVerdict, lockVerdict}
 use Rattle.meter_command.specs.Change.{detailFits, dataFits}
 use Rattle.meter_command.specs.Parts.{functionIn, parameterIn, requestIn, detailIn, dataIn}
@@ -36,12 +36,12 @@ checked knows opens lengthFits own allowed fits =
 unfoldable pub readVerdict : Record → List ℕ → Verdict
 unfolding checked
 readVerdict r f =
-    let w = rowOf (parameterIn f) in
+    let w = parameterRow (parameterIn f) in
     checked (known w) (opensTo ((requestIn f) .reading) w) (eqb (length f) readSize) true true (askable (subjectOf (requestIn f) (slotsOf (r .minutes))))
 
 unfoldable pub argumentFits : Parameter → Record → List ℕ → Bool
 argumentFits p r f =
-    let w = rowOf p in
+    let w = parameterRow p in
     detailFits (w .«detail_from») (w .«detail_to») (detailIn f) && dataFits (w .code) (r .telemetry) (dataIn f)
 
 -- "Change: function 16, parameter, data"
@@ -49,14 +49,14 @@ unfoldable pub changeVerdict : Met → Record → List ℕ → Verdict
 unfolding checked argumentFits
 changeVerdict met r f =
     let p = parameterIn f in
-    let w = rowOf p in
+    let w = parameterRow p in
     checked (known w) (w .changeable) (eqb (length f) (bareSize + w .«change_bytes»)) (byOwn met) (changeAllowed p (r .protection .level)) (argumentFits p r f)
 
 -- "Zeroing: function 30, parameter, 0 (else 15). Figure 19 gives 6 bytes for it."
 unfoldable pub zeroVerdict : Met → Record → List ℕ → Verdict
 unfolding checked
 zeroVerdict met r f =
-    let w = rowOf (parameterIn f) in
+    let w = parameterRow (parameterIn f) in
     checked (known w) (w .zeroable) (eqb (length f) bareSize) (byOwn met) (isMain (r .protection .level)) (eqb (detailIn f) 0)
 
 -- document 02, CR 6: "the protection commands are still accepted", by 0 too

@@ -5,15 +5,15 @@ use mathlib.Core.List.{List}
 use Prim.Native.Nat.{ℕ}
 use lib.Dec.{leb}
 use lib.ListN.{length, drop}
-use Rattle.words.specs.Place.{byteAt}
-use Rattle.frame.specs.Code.{functionOf}
+use Rattle.byte_numbers.specs.Place.{byteAt}
+use Rattle.parameters.specs.Code.{functionOf}
 use Rattle.frame.specs.Layout.{addressPlace, functionPlace, parameterPlace, detailPlace, dataPlace, shortest}
-use Rattle.frame.specs.Table.{parameterOf}
-use Rattle.frame.specs.declared.code.Function.{Function}
-use Rattle.frame.specs.declared.code.Function.the-variants as function
-use Rattle.frame.specs.declared.code.Parameter.{Parameter}
-use Rattle.frame.specs.declared.code.Reading.{Reading}
-use Rattle.frame.specs.declared.code.Reading.the-variants.{Stored}
+use Rattle.parameters.specs.Table.{parameterOf}
+use Rattle.parameters.specs.declared.code.Function.{Function}
+use Rattle.parameters.specs.declared.code.Function.the-variants as function
+use Rattle.parameters.specs.declared.code.Parameter.{Parameter}
+use Rattle.parameters.specs.declared.code.Reading.{Reading}
+use Rattle.parameters.specs.declared.code.Reading.the-variants.{Stored}
 use Rattle.request.specs.declared.request.Request.{Request}
 
 abbrev pub functionIn : List ℕ → Function

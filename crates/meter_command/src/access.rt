@@ -1,10 +1,10 @@
 // Protection: which address and which level a command needs, and the commands that open and shut a level.
 use crate::verdict::Verdict;
 use frame::layout;
-use frame::table::Access;
 use meter_clock::Level;
 use meter_record::Password;
 use meter_record::Passwords;
+use parameters::table::Access;
 ghost use mathlib.Core.Path.{_≡_};
 ghost use Rattle.meter_command.specs.Access.{byOwn, isMain, isOpen, allows, passwordFor, levelFor, unlockVerdict, lockVerdict};
 
@@ -85,7 +85,7 @@ pub fn level_for(named: u8) -> Level
 pub fn unlock_verdict(p: Passwords, frame: &[u8]) -> Verdict
     ensures { λ r. ⌜ r ≡ unlockVerdict p (now (frame .entry)) ⌝ }
 {
-    let named = words::byte_at(frame, layout::DETAIL);
+    let named = byte_numbers::byte_at(frame, layout::DETAIL);
     let right = password_for(p, named);
     if frame.len() != layout::UNLOCK_BYTES {
         return Verdict::WrongLength;
@@ -93,10 +93,10 @@ pub fn unlock_verdict(p: Passwords, frame: &[u8]) -> Verdict
     if AUXILIARY < named {
         return Verdict::WrongArgument;
     }
-    if words::u64_at(frame, layout::DATA) != right {
+    if byte_numbers::u64_at(frame, layout::DATA) != right {
         return Verdict::NoAccess;
     }
-    if words::byte_at(frame, layout::PARAMETER) != 0 {
+    if byte_numbers::byte_at(frame, layout::PARAMETER) != 0 {
         return Verdict::WrongArgument;
     }
     Verdict::Done
@@ -108,10 +108,10 @@ pub fn lock_verdict(frame: &[u8]) -> Verdict
     if frame.len() != layout::BARE_BYTES {
         return Verdict::WrongLength;
     }
-    if words::byte_at(frame, layout::PARAMETER) != 0 {
+    if byte_numbers::byte_at(frame, layout::PARAMETER) != 0 {
         return Verdict::WrongArgument;
     }
-    if words::byte_at(frame, layout::DETAIL) != 0 {
+    if byte_numbers::byte_at(frame, layout::DETAIL) != 0 {
         return Verdict::WrongArgument;
     }
     Verdict::Done

@@ -1,17 +1,17 @@
 // Changes: which fit, and the record after one. What the table of parameters does not open has no word here.
 use crate::remade;
-use figures::Telemetry;
-use frame::code;
-use frame::code::Parameter;
 use frame::layout;
-use frame::table;
 use meter_clock::SwitchDate;
 use meter_record::Password;
 use meter_record::Passwords;
 use meter_record::Record;
+use parameters::code;
+use parameters::code::Parameter;
+use parameters::table;
+use wire_values::Telemetry;
 ghost use mathlib.Core.Path.{_≡_};
 ghost use Rattle.meter_command.specs.Change.{telemetryFits, detailFits, dataFits, passwordsAfter, changed, zeroed};
-ghost use Rattle.frame.specs.Table.{codeOf};
+ghost use Rattle.parameters.specs.Table.{codeOf};
 
 const AUXILIARY: u8 = 1;
 
@@ -39,11 +39,11 @@ pub fn data_fits(p: Parameter, stored: Telemetry, bytes: &[u8]) -> bool
     ensures { λ r. ⌜ r ≡ dataFits (codeOf p) stored (now (bytes .entry)) ⌝ }
 {
     match table::code_of(p) {
-        code::ADDRESS => 1 <= words::byte_at(bytes, 0),
-        code::TELEMETRY => telemetry_fits(figures::telemetry_of(bytes), stored),
-        code::SUMMER_DATE => meter_clock::is_switchable(figures::date_time_of(bytes)),
-        code::WINTER_DATE => meter_clock::is_switchable(figures::date_time_of(bytes)),
-        code::CLOCK => calendar::is_time(figures::date_time_of(bytes)),
+        code::ADDRESS => 1 <= byte_numbers::byte_at(bytes, 0),
+        code::TELEMETRY => telemetry_fits(wire_values::telemetry_of(bytes), stored),
+        code::SUMMER_DATE => meter_clock::is_switchable(wire_values::date_time_of(bytes)),
+        code::WINTER_DATE => meter_clock::is_switchable(wire_values::date_time_of(bytes)),
+        code::CLOCK => calendar::is_time(wire_values::date_time_of(bytes)),
         _ => true,
     }
 }
@@ -69,25 +69,25 @@ pub fn changed(p: Parameter, r: Record, frame: &[u8]) -> Record
     ensures { λ a. ⌜ a ≡ changed p r (now (frame .entry)) ⌝ }
 {
     let passwords = r.passwords;
-    let bytes = words::tail(frame, layout::DATA);
+    let bytes = byte_numbers::tail(frame, layout::DATA);
     match table::code_of(p) {
-        code::ADDRESS => remade::with_address(r, words::byte_at(bytes, 0)),
-        code::TELEMETRY => remade::with_telemetry(r, figures::telemetry_of(bytes)),
+        code::ADDRESS => remade::with_address(r, byte_numbers::byte_at(bytes, 0)),
+        code::TELEMETRY => remade::with_telemetry(r, wire_values::telemetry_of(bytes)),
         code::SUMMER_DATE => remade::with_summer(
             r,
-            SwitchDate::ByHand(figures::date_time_of(bytes)),
+            SwitchDate::ByHand(wire_values::date_time_of(bytes)),
         ),
         code::WINTER_DATE => remade::with_winter(
             r,
-            SwitchDate::ByHand(figures::date_time_of(bytes)),
+            SwitchDate::ByHand(wire_values::date_time_of(bytes)),
         ),
-        code::CLOCK => remade::with_clock(r, figures::date_time_of(bytes)),
-        code::DISPLAY_MASK => remade::with_mask(r, figures::display_mask(bytes)),
+        code::CLOCK => remade::with_clock(r, wire_values::date_time_of(bytes)),
+        code::DISPLAY_MASK => remade::with_mask(r, wire_values::display_mask(bytes)),
         code::PASSWORD => {
-            let detail = words::byte_at(frame, layout::DETAIL);
+            let detail = byte_numbers::byte_at(frame, layout::DETAIL);
             remade::with_passwords(
                 r,
-                passwords_after(passwords, detail, words::u64_at(bytes, 0)),
+                passwords_after(passwords, detail, byte_numbers::u64_at(bytes, 0)),
             )
         }
         _ => r,

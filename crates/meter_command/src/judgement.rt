@@ -4,12 +4,12 @@ use crate::access::Met;
 use crate::change;
 use crate::parts;
 use crate::verdict::Verdict;
-use frame::code;
-use frame::code::Function;
-use frame::code::Parameter;
 use frame::layout;
-use frame::table;
 use meter_record::Record;
+use parameters::code;
+use parameters::code::Function;
+use parameters::code::Parameter;
+use parameters::table;
 ghost use mathlib.Core.Path.{_≡_};
 ghost use mathlib.Core.Bool.{Bool};
 ghost use Rattle.meter_command.specs.Judgement.{passed, checked, argumentFits, readVerdict, changeVerdict, zeroVerdict, verdictOf};
@@ -55,7 +55,7 @@ fn passed(own: bool, allowed: bool, fits: bool) -> Verdict
 fn read_verdict(r: Record, frame: &[u8]) -> Verdict
     ensures { λ a. ⌜ a ≡ readVerdict r (now (frame .entry)) ⌝ }
 {
-    let row = table::row_of(parts::parameter_in(frame));
+    let row = table::parameter_row(parts::parameter_in(frame));
     let slots = slots::slots_of(r.minutes);
     let q = parts::request_in(frame);
     let reading = q.reading;
@@ -74,7 +74,7 @@ fn change_verdict(met: Met, r: Record, frame: &[u8]) -> Verdict
     ensures { λ a. ⌜ a ≡ changeVerdict met r (now (frame .entry)) ⌝ }
 {
     let p = parts::parameter_in(frame);
-    let row = table::row_of(p);
+    let row = table::parameter_row(p);
     let access = row.access;
     let protection = r.protection;
     let level = protection.level;
@@ -92,13 +92,13 @@ fn argument_fits(p: Parameter, r: Record, frame: &[u8]) -> bool
     ensures { λ a. ⌜ a ≡ argumentFits p r (now (frame .entry)) ⌝ }
 {
     let stored = r.telemetry;
-    let row = table::row_of(p);
+    let row = table::parameter_row(p);
     if change::detail_fits(
         row.detail_from,
         row.detail_to,
-        words::byte_at(frame, layout::DETAIL),
+        byte_numbers::byte_at(frame, layout::DETAIL),
     ) {
-        return change::data_fits(p, stored, words::tail(frame, layout::DATA));
+        return change::data_fits(p, stored, byte_numbers::tail(frame, layout::DATA));
     }
     false
 }
@@ -106,7 +106,7 @@ fn argument_fits(p: Parameter, r: Record, frame: &[u8]) -> bool
 fn zero_verdict(met: Met, r: Record, frame: &[u8]) -> Verdict
     ensures { λ a. ⌜ a ≡ zeroVerdict met r (now (frame .entry)) ⌝ }
 {
-    let row = table::row_of(parts::parameter_in(frame));
+    let row = table::parameter_row(parts::parameter_in(frame));
     let protection = r.protection;
     let level = protection.level;
     checked(
@@ -115,7 +115,7 @@ fn zero_verdict(met: Met, r: Record, frame: &[u8]) -> Verdict
         frame.len() == layout::BARE_BYTES,
         access::by_own(met),
         access::is_main(level),
-        words::byte_at(frame, layout::DETAIL) == 0,
+        byte_numbers::byte_at(frame, layout::DETAIL) == 0,
     )
 }
 

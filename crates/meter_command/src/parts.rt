@@ -1,10 +1,10 @@
 // The parts of a command's frame.
-use frame::code;
-use frame::code::Function;
-use frame::code::Parameter;
-use frame::code::Reading;
 use frame::layout;
-use frame::table;
+use parameters::code;
+use parameters::code::Function;
+use parameters::code::Parameter;
+use parameters::code::Reading;
+use parameters::table;
 use request::Request;
 ghost use mathlib.Core.Path.{_≡_};
 ghost use Rattle.meter_command.specs.Parts.{named, readingOf, functionIn, parameterByte, parameterIn, requestIn};
@@ -12,7 +12,7 @@ ghost use Rattle.meter_command.specs.Parts.{named, readingOf, functionIn
 pub fn function_in(frame: &[u8]) -> Function
     ensures { λ r. ⌜ r ≡ functionIn (now (frame .entry)) ⌝ }
 {
-    code::function_of(words::byte_at(frame, layout::FUNCTION))
+    code::function_of(byte_numbers::byte_at(frame, layout::FUNCTION))
 }
 
 // Whether the function's commands name a parameter.
@@ -37,7 +37,7 @@ pub fn parameter_byte(frame: &[u8]) -> u8
         return 0;
     }
     if is_named(function_in(frame)) {
-        return words::byte_at(frame, layout::PARAMETER);
+        return byte_numbers::byte_at(frame, layout::PARAMETER);
     }
     0
 }
@@ -68,10 +68,10 @@ pub fn request_in(frame: &[u8]) -> Request
 {
     Request {
         reading: reading_of(function_in(frame)),
-        address: words::byte_at(frame, layout::ADDRESS),
-        parameter: words::byte_at(frame, layout::PARAMETER),
-        offset: words::byte_at(frame, layout::OFFSET),
-        tariff: words::byte_at(frame, layout::TARIFF),
-        detail: words::byte_at(frame, layout::READ_DETAIL),
+        address: byte_numbers::byte_at(frame, layout::ADDRESS),
+        parameter: byte_numbers::byte_at(frame, layout::PARAMETER),
+        offset: byte_numbers::byte_at(frame, layout::OFFSET),
+        tariff: byte_numbers::byte_at(frame, layout::TARIFF),
+        detail: byte_numbers::byte_at(frame, layout::READ_DETAIL),
     }
 }

@@ -1,11 +1,11 @@
 // A record with one thing changed, and the rest as it was.
 use calendar::DateTime;
-use figures::DisplayMask;
-use figures::Telemetry;
 use meter_clock::SwitchDate;
 use meter_clock::Time;
 use meter_record::Passwords;
 use meter_record::Record;
+use wire_values::DisplayMask;
+use wire_values::Telemetry;
 ghost use mathlib.Core.Path.{_≡_};
 ghost use Rattle.meter_record.specs.With.{withAddress, withPasswords, withTime, withTelemetry, withMask, withNext, withClock, withSummer, withWinter};
 

@@ -1,5 +1,5 @@
 // What became of a frame.
-use frame::code;
+use parameters::code;
 ghost use mathlib.Core.Path.{_≡_};
 ghost use Rattle.meter_command.specs.Verdict.{numberOf, resultOf, isDone};
 

@@ -10,11 +10,11 @@ use native.Mathlib.Nat.{mul-one}
 use lib.Dec.{T, lit≤}
 use lib.Ieee.Fits.{and-l, and-r}
 use lib.Ieee.Scale.{finite}
-use Rattle.figures.specs.Power.{totalOf, powersOf, powersBytes, FitsPhases}
-use Rattle.figures.proofs.PowerLaws.{FinitePhases, powersOf-bytes}
-use Rattle.figures.proofs.Within.{Within, within-finite, not-above, not-below, total-within}
-use Rattle.figures.specs.declared.power.Phases.{Phases}
-use Rattle.figures.specs.declared.power.PowersAnswer.the-variants as powers
+use Rattle.wire_values.specs.Power.{totalOf, powersOf, powersBytes, FitsPhases}
+use Rattle.wire_values.proofs.PowerLaws.{FinitePhases, powersOf-bytes}
+use Rattle.wire_values.proofs.Within.{Within, within-finite, not-above, not-below, total-within}
+use Rattle.wire_values.specs.declared.power.Phases.{Phases}
+use Rattle.wire_values.specs.declared.power.PowersAnswer.the-variants as powers
 use Rattle.meter_record.specs.Power.{most, least, inBounds, arePowers}
 
 pub most-is : most ≡ ofInt binary32 (pos 1000000)

@@ -3,11 +3,11 @@ use mathlib.Core.Path.{_≡_, refl, ap₂}
 use mathlib.Core.Bool.{Bool, true, false, _&&_}
 use Prim.Native.Nat.{ℕ}
 use lib.Dec.{eqb, leb, ltb}
-use Rattle.case_laws.proofs.Test.{both}
+use Rattle.test_laws.proofs.Test.{both}
 use Rattle.calendar.specs.declared.time.DateTime.{DateTime}
-use Rattle.figures.specs.declared.mask.DisplayMask.{DisplayMask}
-use Rattle.figures.specs.declared.power.Phases.{Phases}
-use Rattle.figures.specs.declared.telemetry.Telemetry.{Telemetry}
+use Rattle.wire_values.specs.declared.mask.DisplayMask.{DisplayMask}
+use Rattle.wire_values.specs.declared.power.Phases.{Phases}
+use Rattle.wire_values.specs.declared.telemetry.Telemetry.{Telemetry}
 use Rattle.meter_clock.specs.Protection.{isProtection}
 use Rattle.meter_clock.specs.Season.{isFitting}
 use Rattle.meter_clock.proofs.SecondLaws.{quiet-fits, next-fits}

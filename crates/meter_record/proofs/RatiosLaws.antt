@@ -4,7 +4,7 @@ use mathlib.Core.Bool.{true, _&&_}
 use Prim.Native.Nat.{_*_, _≤_}
 use lib.Dec.{leb}
 use borrow.Author.Tests.{leb-true}
-use Rattle.case_laws.proofs.Test.{both}
+use Rattle.test_laws.proofs.Test.{both}
 use Rattle.meter_record.specs.Ratios.{areRatios}
 use Rattle.meter_record.specs.declared.record.Ratios.{Ratios}
 

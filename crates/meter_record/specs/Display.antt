@@ -3,7 +3,7 @@
 use mathlib.Core.Bool.{Bool, cond}
 use Prim.Native.Nat.{ℕ, _+_, _/_, _%_, _^_}
 use lib.Dec.{eqb}
-use Rattle.figures.specs.declared.mask.DisplayMask.{DisplayMask}
+use Rattle.wire_values.specs.declared.mask.DisplayMask.{DisplayMask}
 
 -- "bit 0 is number 1"
 unfoldable pub isBit : ℕ → ℕ → Bool

@@ -1,7 +1,7 @@
 -- The powers that the bench sets. Source: document 01, "Powers": "The bench sets only finite figures from -1,000,000 to 1,000,000."
 use mathlib.Core.Bool.{Bool, _&&_}
 use lib.Ieee.{Float, binary32, ofBits, le}
-use Rattle.figures.specs.declared.power.Phases.{Phases}
+use Rattle.wire_values.specs.declared.power.Phases.{Phases}
 
 -- 1,000,000 (`most-is`)
 abbrev pub most : Float

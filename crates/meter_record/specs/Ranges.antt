@@ -2,7 +2,7 @@
 use mathlib.Core.Bool.{Bool, _&&_}
 use Prim.Native.Nat.{_*_}
 use lib.Dec.{leb, ltb}
-use Rattle.figures.specs.declared.telemetry.Telemetry.{Telemetry}
+use Rattle.wire_values.specs.declared.telemetry.Telemetry.{Telemetry}
 use Rattle.meter_clock.specs.Protection.{isProtection}
 use Rattle.meter_clock.specs.Season.{isFitting}
 use Rattle.slots.specs.Day.{isMinutes}

@@ -4,8 +4,8 @@ use Prim.Native.Nat.{ℕ}
 use lib.Dec.{eqb}
 use lib.Ieee.{binary32, ofBits}
 use Rattle.calendar.specs.declared.time.DateTime.{DateTime}
-use Rattle.figures.specs.declared.telemetry.Telemetry.{Telemetry}
-use Rattle.figures.specs.declared.power.Phases.{Phases}
+use Rattle.wire_values.specs.declared.telemetry.Telemetry.{Telemetry}
+use Rattle.wire_values.specs.declared.power.Phases.{Phases}
 use Rattle.meter_clock.specs.Protection.{shut, quietSecond}
 use Rattle.meter_clock.specs.Season.{nextTime}
 use Rattle.meter_clock.specs.declared.season.Season.{Season}

@@ -1,8 +1,8 @@
 -- A record's numbers fit their widths, as those of every Rattle value do. Laws over any record of numbers ask for it where bytes are made
 -- of them.
 use Prim.Native.Nat.{_^_, _<_}
-use Rattle.figures.specs.Power.{FitsPhases}
-use Rattle.figures.specs.Telemetry.{FitsTelemetry}
+use Rattle.wire_values.specs.Power.{FitsPhases}
+use Rattle.wire_values.specs.Telemetry.{FitsTelemetry}
 use Rattle.meter_record.specs.declared.record.Record.{Record}
 
 pub record FitsRecord (r : Record) : Type 0 where

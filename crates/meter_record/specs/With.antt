@@ -1,8 +1,8 @@
 -- A record with one thing changed. Source: document 01, "The bench meter's record".
 use Prim.Native.Nat.{ℕ}
 use Rattle.calendar.specs.declared.time.DateTime.{DateTime}
-use Rattle.figures.specs.declared.mask.DisplayMask.{DisplayMask}
-use Rattle.figures.specs.declared.telemetry.Telemetry.{Telemetry}
+use Rattle.wire_values.specs.declared.mask.DisplayMask.{DisplayMask}
+use Rattle.wire_values.specs.declared.telemetry.Telemetry.{Telemetry}
 use Rattle.meter_clock.specs.declared.protection.Protection.{Protection}
 use Rattle.meter_clock.specs.declared.season.SwitchDate.{SwitchDate}
 use Rattle.meter_clock.specs.declared.season.Time.{Time}

@@ -1,5 +1,5 @@
 // What the display shows: what the mask says, and what is always shown.
-use figures::DisplayMask;
+use wire_values::DisplayMask;
 ghost use mathlib.Core.Path.{_≡_};
 ghost use Rattle.meter_record.specs.Display.{shownOf, withBit};
 

@@ -6,12 +6,12 @@ use crate::record::Ratios;
 use crate::record::Record;
 use crate::record::RecordAnswer;
 use calendar::DateTime;
-use figures::DisplayMask;
-use figures::Phases;
-use figures::Telemetry;
 use meter_clock::Season;
 use meter_clock::SwitchDate;
 use meter_clock::Time;
+use wire_values::DisplayMask;
+use wire_values::Phases;
+use wire_values::Telemetry;
 ghost use mathlib.Core.Path.{_≡_};
 ghost use Rattle.meter_record.specs.Record.{fresh, made};
 

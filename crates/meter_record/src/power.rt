@@ -2,8 +2,8 @@
 use crate::ranges::is_within;
 use crate::record::Record;
 use crate::record::RecordAnswer;
-use figures::Phases;
-use frame::code;
+use parameters::code;
+use wire_values::Phases;
 ghost use mathlib.Core.Path.{_≡_};
 ghost use Rattle.meter_record.specs.Power.{inBounds, arePowers};
 ghost use Rattle.meter_record.specs.Record.{powersSet, setPowers};

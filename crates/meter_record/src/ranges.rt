@@ -2,7 +2,7 @@
 use crate::power::are_powers;
 use crate::ratios::are_ratios;
 use crate::record::Record;
-use figures::Telemetry;
+use wire_values::Telemetry;
 ghost use mathlib.Core.Path.{_≡_};
 ghost use Rattle.meter_record.specs.Ranges.{isTelemetry, isWithin, settingsRight, benchRight};
 

@@ -1,8 +1,8 @@
-use figures::DisplayMask;
-use figures::Phases;
-use figures::Telemetry;
 use meter_clock::Protection;
 use meter_clock::Time;
+use wire_values::DisplayMask;
+use wire_values::Phases;
+use wire_values::Telemetry;
 ghost use mathlib.Core.Path.{_≡_};
 ghost use Rattle.meter_record.specs.Record.{numberOf};
 

@@ -4,8 +4,8 @@ use mathlib.Core.List.{List, _++_}
 use Prim.Native.Nat.{ℕ, _-_}
 use native.Mathlib.Nat.{add-zero}
 use lib.ListN.{length, take, drop}
-use Rattle.words.proofs.Part.{written-rest}
-use Rattle.words.specs.Place.{written}
+use Rattle.byte_numbers.proofs.Part.{written-rest}
+use Rattle.byte_numbers.specs.Place.{written}
 
 -- what `&mut s[a..]` leaves of s, where its borrower left x of it: bs, written from place a on
 pub part-put : (a : ℕ) (s x bs : List ℕ) → x ≡ written (take (length s - a) (drop a s)) 0 bs

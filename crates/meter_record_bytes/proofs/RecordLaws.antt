@@ -8,19 +8,19 @@ use native.Mathlib.Omega.{arith}
 use borrow.Author.Tests.{eqb-true}
 use lib.Dec.{eqb}
 use lib.ListN.{length, drop, length-append, drop-of-length-le}
-use Rattle.words.specs.Number.{bytesOf}
-use Rattle.words.specs.Place.{byteAt, numberAt, written}
-use Rattle.words.proofs.PlaceLaws.{numberAt-front, written-fits}
-use Rattle.figures.specs.Clock.{dateTimeBytes}
-use Rattle.figures.specs.Mask.{maskOf, maskBytes}
-use Rattle.figures.proofs.MaskLaws.{maskOf-bytes}
-use Rattle.figures.specs.Power.{powerBytes, phasesBytes, phasesOf}
-use Rattle.figures.proofs.PowerLaws.{FinitePhases, phasesOf-bytes}
-use Rattle.figures.specs.Telemetry.{telemetryOf, telemetryBytes}
-use Rattle.figures.proofs.TelemetryLaws.{telemetryOf-bytes}
+use Rattle.byte_numbers.specs.Number.{bytesOf}
+use Rattle.byte_numbers.specs.Place.{byteAt, numberAt, written}
+use Rattle.byte_numbers.proofs.PlaceLaws.{numberAt-front, written-fits}
+use Rattle.wire_values.specs.Clock.{dateTimeBytes}
+use Rattle.wire_values.specs.Mask.{maskOf, maskBytes}
+use Rattle.wire_values.proofs.MaskLaws.{maskOf-bytes}
+use Rattle.wire_values.specs.Power.{powerBytes, phasesBytes, phasesOf}
+use Rattle.wire_values.proofs.PowerLaws.{FinitePhases, phasesOf-bytes}
+use Rattle.wire_values.specs.Telemetry.{telemetryOf, telemetryBytes}
+use Rattle.wire_values.proofs.TelemetryLaws.{telemetryOf-bytes}
 use Rattle.meter_record.specs.Widths.{FitsRecord}
 use Rattle.meter_record.specs.declared.record.Record.{Record}
-use Rattle.figures.specs.declared.power.PhasesAnswer.the-variants as phases
+use Rattle.wire_values.specs.declared.power.PhasesAnswer.the-variants as phases
 use Rattle.meter_record_bytes.specs.Level.{levelByte, levelOf}
 use Rattle.meter_record_bytes.proofs.LevelLaws.{level-back}
 use Rattle.meter_record_bytes.specs.Time.{timeBytes, timeOf, switchBytes}

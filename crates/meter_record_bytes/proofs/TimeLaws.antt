@@ -3,7 +3,7 @@ use mathlib.Core.Path.{_≡_, refl}
 use mathlib.Core.List.{List, _++_}
 use Prim.Native.Nat.{ℕ}
 use lib.ListN.{length, drop}
-use Rattle.figures.specs.Clock.{dateTimeOf, dateTimeBytes}
+use Rattle.wire_values.specs.Clock.{dateTimeOf, dateTimeBytes}
 use Rattle.meter_clock.specs.declared.season.Season.{Season}
 use Rattle.meter_clock.specs.declared.season.Season.the-variants.{Winter, Summer}
 use Rattle.meter_clock.specs.declared.season.SwitchDate.{SwitchDate}

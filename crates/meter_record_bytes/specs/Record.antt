@@ -5,14 +5,14 @@ use mathlib.Core.List.{List, [], _∷_, _++_}
 use Prim.Native.Nat.{ℕ}
 use lib.Dec.{eqb}
 use lib.ListN.{length, drop}
-use Rattle.words.specs.Number.{bytesOf}
-use Rattle.words.specs.Place.{byteAt, numberAt}
-use Rattle.figures.specs.Mask.{maskOf, maskBytes}
-use Rattle.figures.specs.Power.{phasesBytes, phasesOf}
-use Rattle.figures.specs.Telemetry.{telemetryOf, telemetryBytes}
-use Rattle.figures.specs.declared.power.Phases.{Phases}
-use Rattle.figures.specs.declared.power.PhasesAnswer.{PhasesAnswer}
-use Rattle.figures.specs.declared.power.PhasesAnswer.the-variants as phases
+use Rattle.byte_numbers.specs.Number.{bytesOf}
+use Rattle.byte_numbers.specs.Place.{byteAt, numberAt}
+use Rattle.wire_values.specs.Mask.{maskOf, maskBytes}
+use Rattle.wire_values.specs.Power.{phasesBytes, phasesOf}
+use Rattle.wire_values.specs.Telemetry.{telemetryOf, telemetryBytes}
+use Rattle.wire_values.specs.declared.power.Phases.{Phases}
+use Rattle.wire_values.specs.declared.power.PhasesAnswer.{PhasesAnswer}
+use Rattle.wire_values.specs.declared.power.PhasesAnswer.the-variants as phases
 use Rattle.meter_record.specs.declared.record.Passwords.{Passwords}
 use Rattle.meter_record.specs.declared.record.Record.{Record}
 use Rattle.meter_clock.specs.declared.protection.Level.{Level}

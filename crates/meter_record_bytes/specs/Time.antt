@@ -5,9 +5,9 @@ use mathlib.Core.List.{List, _∷_, _++_}
 use Prim.Native.Nat.{ℕ}
 use lib.Dec.{eqb}
 use lib.ListN.{drop}
-use Rattle.words.specs.Place.{byteAt}
+use Rattle.byte_numbers.specs.Place.{byteAt}
 use Rattle.calendar.specs.declared.time.DateTime.{DateTime}
-use Rattle.figures.specs.Clock.{dateTimeOf, dateTimeBytes}
+use Rattle.wire_values.specs.Clock.{dateTimeOf, dateTimeBytes}
 use Rattle.meter_clock.specs.declared.season.Season.{Season}
 use Rattle.meter_clock.specs.declared.season.Season.the-variants.{Winter, Summer}
 use Rattle.meter_clock.specs.declared.season.SwitchDate.{SwitchDate}

@@ -5,10 +5,6 @@ use crate::level::level_of;
 use crate::time::TimeRead;
 use crate::time::put_time;
 use crate::time::time_of;
-use figures::DisplayMask;
-use figures::Phases;
-use figures::PhasesAnswer;
-use figures::Telemetry;
 use meter_clock::Level;
 use meter_clock::Protection;
 use meter_clock::Time;
@@ -16,10 +12,14 @@ use meter_record::Password;
 use meter_record::Passwords;
 use meter_record::Ratios;
 use meter_record::Record;
+use wire_values::DisplayMask;
+use wire_values::Phases;
+use wire_values::PhasesAnswer;
+use wire_values::Telemetry;
 ghost use mathlib.Core.Path.{_≡_};
-ghost use Rattle.words.specs.Place.{written};
-ghost use Rattle.figures.specs.Mask.{maskBytes};
-ghost use Rattle.figures.specs.Telemetry.{telemetryBytes};
+ghost use Rattle.byte_numbers.specs.Place.{written};
+ghost use Rattle.wire_values.specs.Mask.{maskBytes};
+ghost use Rattle.wire_values.specs.Telemetry.{telemetryBytes};
 ghost use Rattle.meter_record_bytes.specs.Record.{accessBytes, settingBytes, benchBytes, recordBytes, passwordsIn};
 ghost use Rattle.meter_record_bytes.specs.Record.{recordWith, together, recordIn, recordOf};
 
@@ -77,9 +77,9 @@ fn put_access(out: &mut [u8], r: Record)
     let main = passwords.main;
     let auxiliary = passwords.auxiliary;
     let head = [r.address, level_byte(level), protection.left];
-    words::put_bytes(out, ADDRESS, &head);
-    words::put_u64(out, MAIN_PASSWORD, main.0);
-    words::put_u64(out, AUXILIARY_PASSWORD, auxiliary.0);
+    byte_numbers::put_bytes(out, ADDRESS, &head);
+    byte_numbers::put_u64(out, MAIN_PASSWORD, main.0);
+    byte_numbers::put_u64(out, AUXILIARY_PASSWORD, auxiliary.0);
 }
 
 // The clock and its seasons, the telemetry, the mask.
@@ -101,12 +101,12 @@ fn put_bench(out: &mut [u8], r: Record)
     let active = r.active;
     let reactive = r.reactive;
     let ratios = r.ratios;
-    figures::put_phases(out, ACTIVE, active);
-    figures::put_phases(out, REACTIVE, reactive);
-    words::put_byte(out, MINUTES, r.minutes);
-    words::put_u16(out, NEXT, r.next);
-    words::put_u32(out, KI, ratios.ki);
-    words::put_u32(out, KU, ratios.ku);
+    wire_values::put_phases(out, ACTIVE, active);
+    wire_values::put_phases(out, REACTIVE, reactive);
+    byte_numbers::put_byte(out, MINUTES, r.minutes);
+    byte_numbers::put_u16(out, NEXT, r.next);
+    byte_numbers::put_u32(out, KI, ratios.ki);
+    byte_numbers::put_u32(out, KU, ratios.ku);
 }
 
 // A figure in the part that begins at a place.
@@ -114,7 +114,7 @@ fn put_telemetry(out: &mut [u8], at: usize, t: Telemetry)
     ensures { λ _. ⌜ now (out .exit) ≡ written (now (out .entry)) at (telemetryBytes t) ⌝ }
 {
     if at < out.len() {
-        figures::put_telemetry(&mut out[at..], t);
+        wire_values::put_telemetry(&mut out[at..], t);
     }
 }
 
@@ -122,7 +122,7 @@ fn put_mask(out: &mut [u8], at: usize, m: DisplayMask)
     ensures { λ _. ⌜ now (out .exit) ≡ written (now (out .entry)) at (maskBytes m) ⌝ }
 {
     if at < out.len() {
-        figures::put_display_mask(&mut out[at..], m);
+        wire_values::put_display_mask(&mut out[at..], m);
     }
 }
 
@@ -138,10 +138,10 @@ pub fn record_of(bytes: &[u8]) -> RecordRead
 fn record_in(bytes: &[u8]) -> RecordRead
     ensures { λ r. ⌜ r ≡ recordIn (now (bytes .entry)) ⌝ }
 {
-    let level = level_of(words::byte_at(bytes, LEVEL));
-    let time = time_of(words::tail(bytes, CLOCK));
-    let active = figures::phases_of(words::tail(bytes, ACTIVE));
-    let reactive = figures::phases_of(words::tail(bytes, REACTIVE));
+    let level = level_of(byte_numbers::byte_at(bytes, LEVEL));
+    let time = time_of(byte_numbers::tail(bytes, CLOCK));
+    let active = wire_values::phases_of(byte_numbers::tail(bytes, ACTIVE));
+    let reactive = wire_values::phases_of(byte_numbers::tail(bytes, REACTIVE));
     together(bytes, level, time, active, reactive)
 }
 
@@ -169,22 +169,22 @@ fn record_with(bytes: &[u8], level: Level, time: Time, active: Phases, reactive:
     ensures { λ r. ⌜ r ≡ recordWith (now (bytes .entry)) level time active reactive ⌝ }
 {
     Record {
-        address: words::byte_at(bytes, ADDRESS),
+        address: byte_numbers::byte_at(bytes, ADDRESS),
         protection: Protection {
             level: level,
-            left: words::byte_at(bytes, LEFT),
+            left: byte_numbers::byte_at(bytes, LEFT),
         },
         passwords: passwords_in(bytes),
         time: time,
-        telemetry: figures::telemetry_of(words::tail(bytes, TELEMETRY)),
-        mask: figures::display_mask(words::tail(bytes, MASK)),
+        telemetry: wire_values::telemetry_of(byte_numbers::tail(bytes, TELEMETRY)),
+        mask: wire_values::display_mask(byte_numbers::tail(bytes, MASK)),
         active: active,
         reactive: reactive,
-        minutes: words::byte_at(bytes, MINUTES),
-        next: words::u16_at(bytes, NEXT),
+        minutes: byte_numbers::byte_at(bytes, MINUTES),
+        next: byte_numbers::u16_at(bytes, NEXT),
         ratios: Ratios {
-            ki: words::u32_at(bytes, KI),
-            ku: words::u32_at(bytes, KU),
+            ki: byte_numbers::u32_at(bytes, KI),
+            ku: byte_numbers::u32_at(bytes, KU),
         },
     }
 }
@@ -193,7 +193,7 @@ fn passwords_in(bytes: &[u8]) -> Passwords
     ensures { λ r. ⌜ r ≡ passwordsIn (now (bytes .entry)) ⌝ }
 {
     Passwords {
-        main: Password(words::u64_at(bytes, MAIN_PASSWORD)),
-        auxiliary: Password(words::u64_at(bytes, AUXILIARY_PASSWORD)),
+        main: Password(byte_numbers::u64_at(bytes, MAIN_PASSWORD)),
+        auxiliary: Password(byte_numbers::u64_at(bytes, AUXILIARY_PASSWORD)),
     }
 }

@@ -5,8 +5,8 @@ use meter_clock::Season;
 use meter_clock::SwitchDate;
 use meter_clock::Time;
 ghost use mathlib.Core.Path.{_≡_};
-ghost use Rattle.words.specs.Place.{written};
-ghost use Rattle.figures.specs.Clock.{dateTimeBytes};
+ghost use Rattle.byte_numbers.specs.Place.{written};
+ghost use Rattle.wire_values.specs.Clock.{dateTimeBytes};
 ghost use Rattle.meter_record_bytes.specs.Time.{seasonByte, seasonOf, choiceByte, dateOrZeros, switchBytes, switchOf, timeBytes, together, timeOf};
 
 pub enum SeasonRead {
@@ -90,7 +90,7 @@ fn put_date_time(out: &mut [u8], at: usize, t: DateTime)
     ensures { λ _. ⌜ now (out .exit) ≡ written (now (out .entry)) at (dateTimeBytes t) ⌝ }
 {
     if at < out.len() {
-        figures::put_date_time(&mut out[at..], t);
+        wire_values::put_date_time(&mut out[at..], t);
     }
 }
 
@@ -98,7 +98,7 @@ fn put_switch(out: &mut [u8], at: usize, choice: SwitchDate)
     ensures { λ _. ⌜ now (out .exit) ≡ written (now (out .entry)) at (switchBytes choice) ⌝ }
 {
     if at < out.len() {
-        words::put_byte(out, at, choice_byte(choice));
+        byte_numbers::put_byte(out, at, choice_byte(choice));
         put_date_time(out, at + 1, date_or_zeros(choice));
     }
 }
@@ -106,10 +106,10 @@ fn put_switch(out: &mut [u8], at: usize, choice: SwitchDate)
 fn switch_of(bytes: &[u8]) -> SwitchRead
     ensures { λ r. ⌜ r ≡ switchOf (now (bytes .entry)) ⌝ }
 {
-    let byte = words::byte_at(bytes, 0);
+    let byte = byte_numbers::byte_at(bytes, 0);
     match byte {
         AUTOMATIC => SwitchRead::Read(SwitchDate::Automatic),
-        BY_HAND => SwitchRead::Read(SwitchDate::ByHand(figures::date_time_of(words::tail(
+        BY_HAND => SwitchRead::Read(SwitchDate::ByHand(wire_values::date_time_of(byte_numbers::tail(
             bytes,
             1,
         )))),
@@ -126,7 +126,7 @@ pub fn put_time(out: &mut [u8], at: usize, t: Time)
     let winter = t.winter;
     if at < out.len() {
         put_date_time(out, at, clock);
-        words::put_byte(out, at + SEASON, season_byte(season));
+        byte_numbers::put_byte(out, at + SEASON, season_byte(season));
         put_switch(out, at + SUMMER_DATE, summer);
         put_switch(out, at + WINTER_DATE, winter);
     }
@@ -135,10 +135,10 @@ pub fn put_time(out: &mut [u8], at: usize, t: Time)
 pub fn time_of(bytes: &[u8]) -> TimeRead
     ensures { λ r. ⌜ r ≡ timeOf (now (bytes .entry)) ⌝ }
 {
-    let clock = figures::date_time_of(bytes);
-    let season = season_of(words::byte_at(bytes, SEASON));
-    let summer = switch_of(words::tail(bytes, SUMMER_DATE));
-    let winter = switch_of(words::tail(bytes, WINTER_DATE));
+    let clock = wire_values::date_time_of(bytes);
+    let season = season_of(byte_numbers::byte_at(bytes, SEASON));
+    let summer = switch_of(byte_numbers::tail(bytes, SUMMER_DATE));
+    let winter = switch_of(byte_numbers::tail(bytes, WINTER_DATE));
     together(clock, season, summer, winter)
 }
 

@@ -7,7 +7,7 @@ use mathlib.Core.Bool.{Bool, true, false, _&&_}
 use mathlib.Core.List.{List}
 use lib.Dec.{eqb}
 use borrow.Author.Tests.{eqb-true, eqb-false, eq-eqb, ne-eqb}
-use Rattle.words.specs.Place.{byteAt}
+use Rattle.byte_numbers.specs.Place.{byteAt}
 use Rattle.slots.specs.declared.key.Key.{Key}
 use Rattle.meter_store.specs.Store.{keyOf, keyAt, sameKey, firstFrom, isDay}
 use Rattle.meter_store.proofs.FindLaws.{first-hit, first-miss, first-end}

@@ -12,9 +12,9 @@ use lib.Dec.{eqb, ltb}
 use lib.ListN.{length, getD, take, drop, set, replicate, length-replicate, replicate-append-replicate, drop-of-length-le}
 use lib.Seq.{drop-cons, drop-drop, take-take, set-at, append-snoc}
 use borrow.Author.Tests.{ltb-true, ltb-false, lt-ltb, le-ltb, eqb-true, eqb-false, ne-eqb}
-use Rattle.words.specs.Number.{number, bytesOf}
-use Rattle.words.specs.Place.{byteAt, numberAt, written}
-use Rattle.words.proofs.PlaceLaws.{Apart, length-written, take-drop, part-written, byteAt-kept, byteAt-written, numberAt-kept}
+use Rattle.byte_numbers.specs.Number.{number, bytesOf}
+use Rattle.byte_numbers.specs.Place.{byteAt, numberAt, written}
+use Rattle.byte_numbers.proofs.PlaceLaws.{Apart, length-written, take-drop, part-written, byteAt-kept, byteAt-written, numberAt-kept}
 use Rattle.slots.specs.declared.key.Key.{Key}
 use Rattle.meter_store.specs.Store.{places, storeBytes, keyAt, sameKey, firstFrom, placeOf, isKept, rowAt, zeroRow, sliceOf, countAt, rowBytes}
 use Rattle.meter_store.specs.Store.{placeBytesOf, putPlace, putStore, putNext, cleared}

@@ -5,8 +5,8 @@ use mathlib.Core.List.{List, [], _∷_, _++_}
 use lib.Dec.{eqb, ltb}
 use lib.ListN.{length, getD, replicate}
 use mathlib.Core.Path.{_≡_}
-use Rattle.words.specs.Number.{bytesOf}
-use Rattle.words.specs.Place.{byteAt, numberAt, written}
+use Rattle.byte_numbers.specs.Number.{bytesOf}
+use Rattle.byte_numbers.specs.Place.{byteAt, numberAt, written}
 use Rattle.slots.specs.declared.key.Key.{Key}
 
 -- "The store starts as 2,976 unused places": 31 days of 96 slots

@@ -114,11 +114,11 @@ fn holds(store: &[u8], i: u16, month: u8, day: u8, number: u16) -> bool
         }
         return store[at] == month;
     }
-    if words::byte_at(store, at) != month {
+    if byte_numbers::byte_at(store, at) != month {
         return false;
     }
-    if words::byte_at(store, at + 1) != day {
+    if byte_numbers::byte_at(store, at + 1) != day {
         return false;
     }
-    (words::byte_at(store, at + 2) as u16) == number
+    (byte_numbers::byte_at(store, at + 2) as u16) == number
 }

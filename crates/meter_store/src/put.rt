@@ -1,7 +1,7 @@
 // Slices, put into the store, and the store made empty.
 ghost use mathlib.Core.Path.{_≡_};
 ghost use Prim.Native.Nat.{_*_};
-ghost use Rattle.words.specs.Place.{written};
+ghost use Rattle.byte_numbers.specs.Place.{written};
 ghost use Rattle.meter_store.specs.Store.{rowBytes, placeBytesOf, putStore, putNext, cleared};
 use crate::find::PLACE_BYTES;
 use crate::find::PLACES;
@@ -29,9 +29,9 @@ fn write_place(store: &mut [u8], i: u16, k: Key, counts: [u16; 4])
     ensures { λ _. ⌜ now (store .exit) ≡ written (now (store .entry)) (11 * i) (placeBytesOf k counts) ⌝ }
 {
     let at = PLACE_BYTES * (i as usize);
-    words::put_byte(store, at, k.month);
-    words::put_byte(store, at + 1, k.day);
-    words::put_byte(store, at + 2, k.number);
+    byte_numbers::put_byte(store, at, k.month);
+    byte_numbers::put_byte(store, at + 1, k.day);
+    byte_numbers::put_byte(store, at + 2, k.number);
     put_row(store, at + 3, counts);
 }
 
@@ -40,10 +40,10 @@ pub fn put_row(out: &mut [u8], at: usize, counts: [u16; 4])
     ensures { λ _. ⌜ now (out .exit) ≡ written (now (out .entry)) at (rowBytes counts) ⌝ }
 {
     if at < out.len() {
-        words::put_u16(out, at, counts[0]);
-        words::put_u16(out, at + 2, counts[1]);
-        words::put_u16(out, at + 4, counts[2]);
-        words::put_u16(out, at + 6, counts[3]);
+        byte_numbers::put_u16(out, at, counts[0]);
+        byte_numbers::put_u16(out, at + 2, counts[1]);
+        byte_numbers::put_u16(out, at + 4, counts[2]);
+        byte_numbers::put_u16(out, at + 6, counts[3]);
     }
 }
 

@@ -42,9 +42,9 @@ fn row_at(store: &[u8], i: u16) -> [u16; 4]
 {
     let at = PLACE_BYTES * (i as usize);
     [
-        words::u16_at(store, at + 3),
-        words::u16_at(store, at + 5),
-        words::u16_at(store, at + 7),
-        words::u16_at(store, at + 9),
+        byte_numbers::u16_at(store, at + 3),
+        byte_numbers::u16_at(store, at + 5),
+        byte_numbers::u16_at(store, at + 7),
+        byte_numbers::u16_at(store, at + 9),
     ]
 }

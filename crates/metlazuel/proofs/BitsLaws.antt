@@ -4,7 +4,7 @@ use mathlib.Core.Bool.{Bool, true, false}
 use Prim.Native.Nat.{ℕ}
 use lib.Ieee.{Float, inf, binary32, ofBits, le}
 use lib.Ieee.Scale.{finite}
-use Rattle.figures.specs.declared.power.Phases.{Phases}
+use Rattle.wire_values.specs.declared.power.Phases.{Phases}
 use Rattle.meter_record.specs.Power.{inBounds, arePowers}
 use Rattle.meter_record.proofs.PowerLaws.{bounds-finite, powers-bounds}
 use Rattle.meter_record.specs.Record.{setPowers}

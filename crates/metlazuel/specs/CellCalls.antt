@@ -3,12 +3,12 @@ use mathlib.Core.List.{List, [], _∷_}
 use Prim.Native.Nat.{ℕ}
 use lib.Dec.{ltb}
 use Rattle.refusal.specs.Outcome.{Outcome, outcome, check}
-use Rattle.log.specs.Header.{ifSound}
-use Rattle.log.specs.Interval.{intervalOf, ifAt}
-use Rattle.log.specs.Cell.{ifGood}
+use Rattle.log_header.specs.Header.{ifSound}
+use Rattle.log_header.specs.Interval.{intervalOf, ifAt}
+use Rattle.log_cell.specs.Cell.{ifGood}
 use Rattle.log.specs.View.{View}
-use Rattle.log.specs.declared.cell.Cell.{Cell}
-use Rattle.log.specs.declared.cell.Cell.the-variants.{Gap, Empty, Measured}
+use Rattle.log_cell.specs.declared.cell.Cell.{Cell}
+use Rattle.log_cell.specs.declared.cell.Cell.the-variants.{Gap, Empty, Measured}
 use Rattle.polling.specs.Next.{nextGap}
 use Rattle.polling.specs.declared.next.Next.{Next}
 use Rattle.polling.specs.declared.next.Next.the-variants.{Slot, Nothing}

@@ -1,21 +1,21 @@
--- What C is given of the log's calls. The open ask is four lent bytes; a log with its figures, lent together, is `Both` (document 02, CR 8).
+-- What C is given of the log's calls. The open ask is four lent bytes; a log with its figures, lent together, is `LogAndRows` (document 02, CR 8).
 use mathlib.Core.Bool.{Bool, false, cond, _||_}
 use mathlib.Core.List.{List}
 use Prim.Native.Nat.{ℕ}
 use lib.Dec.{eqb}
 use lib.ListN.{length}
 use Rattle.refusal.specs.Outcome.{Outcome, outcome}
-use Rattle.words.specs.Place.{written}
+use Rattle.byte_numbers.specs.Place.{written}
 use Rattle.frame.specs.Layout.{readSize}
 use Rattle.log.specs.View.{View}
-use Rattle.log.specs.declared.header.Header.{Header}
+use Rattle.log_header.specs.declared.header.Header.{Header}
 use Rattle.log.specs.declared.fresh.FreshAnswer.{FreshAnswer}
 use Rattle.log.specs.declared.fresh.FreshAnswer.the-variants as made
-use Rattle.day_figures.specs.Both.{Both}
-use Rattle.logfile.specs.declared.read.ReadAnswer.{ReadAnswer}
-use Rattle.logfile.specs.Read.{ifRead}
-use Rattle.logfile.specs.declared.write.WriteAnswer.{WriteAnswer}
-use Rattle.logfile.specs.declared.write.WriteAnswer.the-variants as wrote
+use Rattle.day_rows.specs.LogAndRows.{LogAndRows}
+use Rattle.log_file.specs.declared.read.ReadAnswer.{ReadAnswer}
+use Rattle.log_file.specs.Read.{ifRead}
+use Rattle.log_file.specs.declared.write.WriteAnswer.{WriteAnswer}
+use Rattle.log_file.specs.declared.write.WriteAnswer.the-variants as wrote
 use Rattle.logger.specs.Ask as ask
 use Rattle.logger.specs.Lapse as lapse
 use Rattle.logger.specs.Take as take
@@ -82,16 +82,16 @@ lapseForC (Read held) log bs = lapsedForC held (lapse.lapsed log held) bs
 lapseForC Unreadable log bs = outcome 28 (log, bs)
 
 -- the numbers with which a reply closes the ask: 0, and those with "ask closed"
-unfoldable pub closes : ℕ → Bool
-closes n = eqb n 0 || eqb n 24 || eqb n 25
+unfoldable pub closesAsk : ℕ → Bool
+closesAsk n = eqb n 0 || eqb n 24 || eqb n 25
 
 -- left: the meter's result, the length received, the log with its figures, and the ask's bytes
-abbrev pub takenForC : Outcome Taken Both → List ℕ → ℕ → ℕ → List ℕ → Outcome ℕ (ℕ × ℕ × Both × List ℕ)
+abbrev pub takenForC : Outcome Taken LogAndRows → List ℕ → ℕ → ℕ → List ℕ → Outcome ℕ (ℕ × ℕ × LogAndRows × List ℕ)
 takenForC o y result size bs =
     let n = take.numberOf (o .result .answer) in
-    outcome n (resultAfter n y result, receivedAfter n y size, o .left, askLeft (closes n) (o .result .held) bs)
+    outcome n (resultAfter n y result, receivedAfter n y size, o .left, askLeft (closesAsk n) (o .result .held) bs)
 
 -- bytes that are no ask are 28 too, as those of an unsound log are: before 1 for too few figures
-unfoldable pub takeForC : AskRead → Both → List ℕ → List ℕ → ℕ → ℕ → Outcome ℕ (ℕ × ℕ × Both × List ℕ)
+unfoldable pub takeForC : AskRead → LogAndRows → List ℕ → List ℕ → ℕ → ℕ → Outcome ℕ (ℕ × ℕ × LogAndRows × List ℕ)
 takeForC (Read held) b bs y result size = takenForC (take.taken b held y) y result size bs
 takeForC Unreadable b bs y result size = outcome 28 (result, size, b, bs)

@@ -6,10 +6,10 @@ use lib.Dec.{eqb, ltb}
 use lib.Ieee.{binary32, ofBits}
 use lib.ListN.{length}
 use Rattle.refusal.specs.Outcome.{Outcome, outcome}
-use Rattle.words.specs.Place.{written}
+use Rattle.byte_numbers.specs.Place.{written}
 use Rattle.calendar.specs.declared.time.DateTime.{DateTime}
-use Rattle.figures.specs.declared.power.Phases.{Phases}
-use Rattle.figures.specs.declared.telemetry.Telemetry.{Telemetry}
+use Rattle.wire_values.specs.declared.power.Phases.{Phases}
+use Rattle.wire_values.specs.declared.telemetry.Telemetry.{Telemetry}
 use Rattle.frame.specs.Layout.{longest}
 use Rattle.slots.specs.declared.key.Key.{Key}
 use Rattle.meter_record.specs.Record.{made, secondOf, setPowers, setRatios, numberOf}
@@ -24,7 +24,7 @@ use Rattle.meter_record_bytes.specs.declared.time.SeasonRead.{SeasonRead}
 use Rattle.meter_record_bytes.specs.declared.time.SeasonRead.the-variants as season
 use Rattle.meter_command.specs.Parts.{functionIn}
 use Rattle.meter_command.specs.Verdict as verdict
-use Rattle.meter_reading.specs.Reading.{isRead}
+use Rattle.meter_reply_data.specs.Reading.{isRead}
 use Rattle.meter.specs.Bench.{slicePut}
 use Rattle.meter.specs.Reply as reply
 use Rattle.meter.specs.Reply.{answerOf}

@@ -6,8 +6,8 @@ use Prim.Native.Nat.{ℕ}
 use lib.Dec.{eqb, ltb}
 use lib.ListN.{length}
 use Rattle.refusal.specs.Outcome.{Outcome, outcome}
-use Rattle.words.specs.Place.{written}
-use Rattle.frame.specs.declared.code.Reading.{Reading}
+use Rattle.byte_numbers.specs.Place.{written}
+use Rattle.parameters.specs.declared.code.Reading.{Reading}
 use Rattle.request.specs.Subject.{subjectOf, mostSlots}
 use Rattle.request.specs.declared.request.Request.{Request}
 use Rattle.reader.specs.Reply.{decodedOf, numberOf}

@@ -3,14 +3,14 @@
 // ranges: 28. Here stand the bench's own calls; `answer_call` has a frame answered.
 use calendar::Date;
 use calendar::DateTime;
-use figures::Phases;
-use figures::Telemetry;
 use meter_record::Ratios;
 use meter_record::RecordAnswer;
 use meter_record_bytes::RECORD_BYTES;
 use meter_record_bytes::RecordRead;
 use meter_record_bytes::SeasonRead;
 use slots::Key;
+use wire_values::Phases;
+use wire_values::Telemetry;
 ghost use mathlib.Core.Path.{_≡_};
 ghost use Prim.Native.Nat.{_*_};
 ghost use Rattle.refusal.specs.Outcome.{outcome};

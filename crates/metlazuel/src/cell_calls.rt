@@ -1,8 +1,8 @@
 // Single cells of a log for C: what one holds, and which one is asked for next. A refusal leaves what is lent.
-use log::Cell;
-use log::CellAnswer;
-use log::Interval;
-use log::Lent;
+use log_cell::Cell;
+use log_cell::CellAnswer;
+use log_header::Interval;
+use log_header::LogHeader;
 use polling::Next;
 ghost use mathlib.Core.Path.{_≡_};
 ghost use Rattle.refusal.specs.Outcome.{outcome};
@@ -35,10 +35,10 @@ pub extern "C" fn metlazuel_cell(
     ensures { λ n. ⌜ outcome n (now (kind .exit), now (counts .exit), now (lapses .exit))
         ≡ cellForC (viewOf (now (log .entry))) day slot (now (kind .entry)) (now (counts .entry)) (now (lapses .entry)) ⌝ }
 {
-    let Lent::Sound(h) = log::sound(log) else {
+    let LogHeader::Sound(h) = log_header::sound(log) else {
         return refusal::UNSOUND;
     };
-    let Interval::At(i) = log::interval_of(h, day, slot) else {
+    let Interval::At(i) = log_header::interval_of(h, day, slot) else {
         return refusal::NOT_IN_LOG;
     };
     let CellAnswer::Good(c) = log::cell_at(log, i) else {
@@ -77,7 +77,7 @@ fn counts_of(c: Cell) -> [u16; 4]
 pub extern "C" fn metlazuel_next_gap(log: &[u8], day: u8, from: u8, slot: &mut u8) -> u8
     ensures { λ n. ⌜ outcome n (now (slot .exit)) ≡ nextGapForC (viewOf (now (log .entry))) day from (now (slot .entry)) ⌝ }
 {
-    let Lent::Sound(h) = log::sound(log) else {
+    let LogHeader::Sound(h) = log_header::sound(log) else {
         return refusal::UNSOUND;
     };
     if h.days <= day {

@@ -18,7 +18,7 @@ pub fn result_after(number: u8, reply: &[u8], before: u8) -> u8
     ensures { λ r. ⌜ r ≡ resultAfter number (now (reply .entry)) before ⌝ }
 {
     if number == refusal::METER_REFUSED {
-        return words::byte_at(reply, layout::RESULT);
+        return byte_numbers::byte_at(reply, layout::RESULT);
     }
     before
 }

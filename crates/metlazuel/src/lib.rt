@@ -4,10 +4,10 @@
 ghost use mathlib.Core.Path.{_≡_};
 ghost use Rattle.crc16.specs.Crc.{crcOf};
 ghost use Rattle.refusal.specs.Outcome.{outcome};
-ghost use Rattle.log.specs.Header.{soundOf};
-ghost use Rattle.day_figures.specs.Both.{both};
-ghost use Rattle.logfile.specs.Read.{readFile, readNumber};
-ghost use Rattle.dayreport.specs.Report.{reportOf, reportNumber};
+ghost use Rattle.log_header.specs.Header.{soundOf};
+ghost use Rattle.day_rows.specs.LogAndRows.{logAndRows};
+ghost use Rattle.log_file.specs.Read.{readFile, readNumber};
+ghost use Rattle.day_report.specs.Report.{reportOf, reportNumber};
 ghost use Rattle.metlazuel.specs.Calls.{numbered, sized};
 ghost use Rattle.metlazuel.specs.LogCalls.{lengthAfter};
 
@@ -58,10 +58,10 @@ pub extern "C" fn metlazuel_read_file(
     figures: &mut [u32],
     length: &mut usize,
 ) -> u8
-    ensures { λ r. ⌜ outcome r (now (length .exit), both (now (out .exit)) (now (figures .exit)))
+    ensures { λ r. ⌜ outcome r (now (length .exit), logAndRows (now (out .exit)) (now (figures .exit)))
         ≡ sized readNumber lengthAfter (readFile (now (file .entry)) (now (out .entry)) (now (figures .entry))) (now (length .entry)) ⌝ }
 {
-    let answer = logfile::read_file(file, out, figures);
+    let answer = log_file::read_file(file, out, figures);
     *length = answer.length_or(*length);
     answer.number()
 }
@@ -72,5 +72,5 @@ pub extern "C" fn metlazuel_day_report(log: &[u8], figures: &[u32], day: u8, row
     ensures { λ r. ⌜ outcome r (now (row .exit))
         ≡ numbered reportNumber (reportOf (soundOf (now (log .entry))) (now (figures .entry)) day (now (row .entry))) ⌝ }
 {
-    dayreport::day_report(log, figures, day, row).number()
+    day_report::day_report(log, figures, day, row).number()
 }

@@ -6,19 +6,19 @@ use c_values::AskRead;
 use calendar::Date;
 use frame::layout::READ_BYTES;
 use log::FreshAnswer;
-use log::Header;
-use logfile::WriteAnswer;
+use log_file::WriteAnswer;
+use log_header::Header;
 use logger::OpenAsk;
 ghost use mathlib.Core.Path.{_≡_};
 ghost use Rattle.refusal.specs.Outcome.{outcome};
 ghost use Rattle.log.specs.Fresh.{freshNumber};
 ghost use Rattle.log.specs.View.{viewOf};
-ghost use Rattle.day_figures.specs.Both.{both};
-ghost use Rattle.day_figures.specs.Fresh.{freshWith};
-ghost use Rattle.logfile.specs.Write.{writtenFile, writeNumber};
+ghost use Rattle.day_rows.specs.LogAndRows.{logAndRows};
+ghost use Rattle.day_rows.specs.Fresh.{freshWith};
+ghost use Rattle.log_file.specs.Write.{writtenFile, writeNumber};
 ghost use Rattle.c_values.specs.Ask.{askOf};
 ghost use Rattle.metlazuel.specs.Calls.{sized};
-ghost use Rattle.metlazuel.specs.LogCalls.{headerFrom, imageLength, fileLength, askLeft, askForC, lapseCloses, lapseForC, closes, takeForC};
+ghost use Rattle.metlazuel.specs.LogCalls.{headerFrom, imageLength, fileLength, askLeft, askForC, lapseCloses, lapseForC, closesAsk, takeForC};
 
 // uint8_t metlazuel_log_fresh(uint8_t *log, size_t room, uint32_t *figures, size_t numbers, uint8_t year, uint8_t month, uint8_t day,
 //     uint8_t days, uint8_t minutes, uint16_t ke, uint8_t seasons, size_t *length)
@@ -38,7 +38,7 @@ pub extern "C" fn metlazuel_log_fresh(
     seasons: u8,
     length: &mut usize,
 ) -> u8
-    ensures { λ n. ⌜ outcome n (now (length .exit), both (now (log .exit)) (now (figures .exit)))
+    ensures { λ n. ⌜ outcome n (now (length .exit), logAndRows (now (log .exit)) (now (figures .exit)))
         ≡ sized freshNumber imageLength (freshWith (headerFrom year month day days minutes ke seasons) (now (log .entry)) (now (figures .entry)))
         (now (length .entry)) ⌝ }
 {
@@ -53,7 +53,7 @@ pub extern "C" fn metlazuel_log_fresh(
         ke: ke,
         seasons: seasons,
     };
-    let answer = day_figures::fresh_log(header, log, figures);
+    let answer = day_rows::fresh_log(header, log, figures);
     *length = image_length(answer, *length);
     answer.number()
 }
@@ -77,7 +77,7 @@ pub extern "C" fn metlazuel_write_file(log: &[u8], out: &mut [u8], length: &mut 
     ensures { λ n. ⌜ outcome n (now (length .exit), now (out .exit))
         ≡ sized writeNumber fileLength (writtenFile (viewOf (now (log .entry))) (now (out .entry))) (now (length .entry)) ⌝ }
 {
-    let answer = logfile::write_file(log, out);
+    let answer = log_file::write_file(log, out);
     *length = file_length(answer, *length);
     answer.number()
 }
@@ -172,8 +172,8 @@ pub extern "C" fn metlazuel_take(
     result: &mut u8,
     length: &mut usize,
 ) -> u8
-    ensures { λ n. ⌜ outcome n (now (result .exit), now (length .exit), both (now (log .exit)) (now (figures .exit)), now (ask .exit))
-        ≡ takeForC (askOf (now (ask .entry))) (both (now (log .entry)) (now (figures .entry))) (now (ask .entry)) (now (reply .entry))
+    ensures { λ n. ⌜ outcome n (now (result .exit), now (length .exit), logAndRows (now (log .exit)) (now (figures .exit)), now (ask .exit))
+        ≡ takeForC (askOf (now (ask .entry))) (logAndRows (now (log .entry)) (now (figures .entry))) (now (ask .entry)) (now (reply .entry))
         (now (result .entry)) (now (length .entry)) ⌝ }
 {
     let AskRead::Read(held) = c_values::ask_of(ask) else {
@@ -191,7 +191,7 @@ pub extern "C" fn metlazuel_take(
 
 // Whether a reply that got the number closed the ask.
 fn closes(number: u8) -> bool
-    ensures { λ r. ⌜ r ≡ closes number ⌝ }
+    ensures { λ r. ⌜ r ≡ closesAsk number ⌝ }
 {
     if number == refusal::DONE {
         return true;

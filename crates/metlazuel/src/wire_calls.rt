@@ -1,12 +1,12 @@
 // Read requests and their replies for C, without a log. A reply's figures go to a lent row of 32-bit numbers.
 use crate::given;
-use frame::code::Reading;
+use parameters::code::Reading;
 use request::Request;
 ghost use mathlib.Core.Path.{_≡_};
 ghost use mathlib.Core.Bool.{cond};
 ghost use lib.Dec.{eqb};
 ghost use Rattle.refusal.specs.Outcome.{outcome};
-ghost use Rattle.frame.specs.declared.code.Reading.the-variants.{Stored, Displayed};
+ghost use Rattle.parameters.specs.declared.code.Reading.the-variants.{Stored, Displayed};
 ghost use Rattle.request.specs.Request.{requested, numberOf};
 ghost use Rattle.metlazuel.specs.Calls.{numbered};
 ghost use Rattle.metlazuel.specs.WireCalls.{requestFrom, decodeForC};

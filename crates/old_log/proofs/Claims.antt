@@ -4,20 +4,20 @@ use mathlib.Core.List.{List, [], _∷_}
 use Prim.Native.Nat.{ℕ}
 use Rattle.log.specs.Fresh.{freshImage}
 use Rattle.log.specs.View.{View}
-use Rattle.day_figures.specs.Both.{Both}
-use Rattle.day_figures.specs.Fresh.{freshWith}
-use Rattle.logfile.specs.Read.{readCells, readFields, readFile}
-use Rattle.logfile.specs.Write.{writtenFile, writeNumber}
-use Rattle.dayreport.specs.Report.{reportOf, reportNumber}
-use Rattle.dayreport.specs.Day.{dayText}
-use Rattle.dayreport.specs.Strip.{stripText}
+use Rattle.day_rows.specs.LogAndRows.{LogAndRows}
+use Rattle.day_rows.specs.Fresh.{freshWith}
+use Rattle.log_file.specs.Read.{readCells, readFields, readFile}
+use Rattle.log_file.specs.Write.{writtenFile, writeNumber}
+use Rattle.day_report.specs.Report.{reportOf, reportNumber}
+use Rattle.day_report.specs.Day.{dayText}
+use Rattle.day_report.specs.Strip.{stripText}
 use Rattle.logger.specs.Ask.{asked}
 use Rattle.logger.specs.Lapse.{lapsed}
 use Rattle.logger.specs.Take.{taken}
 use Rattle.logger.specs.Book.{Call, ask, lapse, reply}
 use Rattle.logger.specs.Run.{State, step}
 use Rattle.logger.specs.declared.held.OpenAsk.{OpenAsk}
-use Rattle.polling.specs.Fate.{heard, settled}
+use Rattle.polling.specs.Fate.{heard, askSettled}
 use Rattle.c_values.specs.Ask.{askOf}
 use Rattle.c_values.specs.declared.ask.AskRead.{AskRead}
 use Rattle.c_values.specs.declared.ask.AskRead.the-variants.{Read, Unreadable}
@@ -31,7 +31,7 @@ use Rattle.console.specs.declared.form.YearAnswer.the-variants.{Year, OutOfRang
 use Rattle.console.specs.declared.value.BytesAnswer.{BytesAnswer}
 use Rattle.console.specs.declared.value.BytesAnswer.the-variants as digits
 use Rattle.console_log.specs.Log as line
-use Rattle.console_log.specs.declared.logs.Kept.{Kept}
+use Rattle.console_log.specs.declared.logs.ConsoleLog.{ConsoleLog}
 use Rattle.polling.specs.Next.{nextWanted}
 use Rattle.old_log.specs.Layout.{columns, lapsedIn, takenIn, heardIn, settledIn, freshIn, readCellsIn, readFieldsIn, readIn, stepIn}
 use Rattle.old_log.specs.Same.{Today, SameAnswers}
@@ -41,8 +41,8 @@ use Rattle.old_log.proofs.SameLaws as same
 use Rattle.old_log.proofs.ForCLaws as for-c
 use Rattle.old_log.proofs.LineLaws as lines
 
-today-settle : (b : Both) (held : OpenAsk) (y : List ℕ) → settledIn columns b held y ≡ settled b held y
-unfolding settledIn settled heardIn heard takenIn taken lapsedIn lapsed
+today-settle : (b : LogAndRows) (held : OpenAsk) (y : List ℕ) → settledIn columns b held y ≡ askSettled b held y
+unfolding settledIn askSettled heardIn heard takenIn taken lapsedIn lapsed
 today-settle b held [] = refl
 today-settle b held (x ∷ y) = refl
 
@@ -87,7 +87,7 @@ unfolding lapseForCIn lapseForC lapsedIn lapsed
 today-lapse-c (Read held) log bs = refl
 today-lapse-c Unreadable log bs = refl
 
-today-take-c : (a : AskRead) (b : Both) (bs y : List ℕ) (result size : ℕ) → takeForCIn columns a b bs y result size ≡ takeForC a b bs y result size
+today-take-c : (a : AskRead) (b : LogAndRows) (bs y : List ℕ) (result size : ℕ) → takeForCIn columns a b bs y result size ≡ takeForC a b bs y result size
 unfolding takeForCIn takeForC takenIn taken
 today-take-c (Read held) b bs y result size = refl
 today-take-c Unreadable b bs y result size = refl
@@ -124,12 +124,12 @@ same-for-c = record {
 
 -- ---- the console's lines
 
-today-year : (y : YearAnswer) (text : List ℕ) (b : Both) (kept : Kept) → freshYear columns y text b kept ≡ line.freshIn y text b kept
+today-year : (y : YearAnswer) (text : List ℕ) (b : LogAndRows) (kept : ConsoleLog) → freshYear columns y text b kept ≡ line.freshIn y text b kept
 unfolding freshYear line.freshIn freshIn freshWith freshImage
 today-year (Year year) text b kept = refl
 today-year OutOfRange text b kept = refl
 
-today-bytes : (x : BytesAnswer) (buffer : List ℕ) (b : Both) (kept : Kept) → replyBytes columns x buffer b kept ≡ line.replyIn x buffer b kept
+today-bytes : (x : BytesAnswer) (buffer : List ℕ) (b : LogAndRows) (kept : ConsoleLog) → replyBytes columns x buffer b kept ≡ line.replyIn x buffer b kept
 unfolding replyBytes line.replyIn line.replyOf takenIn taken
 today-bytes (digits.Bytes n) buffer b kept = refl
 today-bytes digits.Unread buffer b kept = refl

@@ -5,14 +5,14 @@ use mathlib.Core.List.{List, [], _∷_}
 use Prim.Native.Nat.{ℕ}
 use lib.ListN.{take}
 use Rattle.refusal.specs.Outcome.{Outcome}
-use Rattle.words.specs.Number.{Bytes}
+use Rattle.byte_numbers.specs.Number.{Bytes}
 use Rattle.log.specs.Fresh.{freshNumber}
-use Rattle.log.specs.declared.header.Header.{Header}
-use Rattle.log.specs.declared.header.Lent.the-variants.{Sound}
+use Rattle.log_header.specs.declared.header.Header.{Header}
+use Rattle.log_header.specs.declared.header.LogHeader.the-variants.{Sound}
 use Rattle.log.specs.declared.fresh.FreshAnswer.the-variants as fresh
-use Rattle.day_figures.specs.Both.{Both, both}
-use Rattle.logfile.specs.Read.{readNumber}
-use Rattle.logfile.specs.declared.read.ReadAnswer.the-variants as read
+use Rattle.day_rows.specs.LogAndRows.{LogAndRows, logAndRows}
+use Rattle.log_file.specs.Read.{readNumber}
+use Rattle.log_file.specs.declared.read.ReadAnswer.the-variants as read
 use Rattle.logger.specs.Lapse as Lapse
 use Rattle.logger.specs.Take as Take
 use Rattle.logger.specs.Book.{Call, ask, lapse, reply, Answer, runOf, CallBytes, AllBytes}
@@ -20,7 +20,7 @@ use Rattle.c_values.specs.Ask.{askOf}
 use Rattle.c_values.specs.declared.ask.AskRead.{AskRead}
 use Rattle.c_values.specs.declared.ask.AskRead.the-variants.{Read, Unreadable}
 use Rattle.metlazuel.specs.Calls.{sized, resultAfter, receivedAfter}
-use Rattle.metlazuel.specs.LogCalls.{imageLength, lengthAfter, askLeft, askForC, lapseCloses, closes}
+use Rattle.metlazuel.specs.LogCalls.{imageLength, lengthAfter, askLeft, askForC, lapseCloses, closesAsk}
 use Rattle.c_claims.specs.Demand3.{Lent, told}
 use Rattle.c_claims.proofs.Ends.{image-kept, length-kept}
 use Rattle.old_log.specs.Layout.{rows, columns}
@@ -42,7 +42,7 @@ same-lapse s t e (Read held) bs =
     }
 same-lapse s t e Unreadable bs = record { answer = refl; seen = e; ask = refl }
 
-pub same-take : (b c : Both) → Alike (b .log) (c .log) → b .figures ≡ c .figures → (a : AskRead) (bs y : List ℕ) (result size : ℕ) → Bytes y
+pub same-take : (b c : LogAndRows) → Alike (b .log) (c .log) → b .figures ≡ c .figures → (a : AskRead) (bs y : List ℕ) (result size : ℕ) → Bytes y
     → SameTake (takeForCIn rows a b bs y result size) (takeForCIn columns a c bs y result size)
 unfolding takeForCIn
 same-take b c e q (Read held) bs y result size bytes =
@@ -53,7 +53,7 @@ same-take b c e q (Read held) bs y result size bytes =
       size = λ i. receivedAfter (Take.numberOf (w .answer i .answer)) y size;
       seen = w .seen;
       figures = w .figures;
-      ask = λ i. askLeft (closes (Take.numberOf (w .answer i .answer))) (w .answer i .held) bs;
+      ask = λ i. askLeft (closesAsk (Take.numberOf (w .answer i .answer))) (w .answer i .held) bs;
     }
 same-take b c e q Unreadable bs y result size bytes = record { answer = refl; result = refl; size = refl; seen = e; figures = q; ask = refl }
 
@@ -62,7 +62,7 @@ same-take b c e q Unreadable bs y result size bytes = record { answer = refl; re
 -- the word behind `length` is told with 0, and left by a refusal
 module _ {A : Type 0} (number : A → ℕ) (done : ℕ → A) (size : A → ℕ → ℕ) (told : (n word : ℕ) → size (done n) word ≡ n)
     (left : (x : A) (word : ℕ) → (number x ≡ 0 → ⊥) → size x word ≡ word) where
-  made-for-c : (a b : List ℕ) (word : ℕ) (o n : Outcome A Both) → SameMade number done a b o n
+  made-for-c : (a b : List ℕ) (word : ℕ) (o n : Outcome A LogAndRows) → SameMade number done a b o n
       → SameMadeForC a b word (sized number size o word) (sized number size n word)
   made-for-c a b word o n w = record {
     answer = w .answer;
@@ -127,8 +127,8 @@ same-step m n lapse w k =
       left = record { seen = z .seen; figures = w .figures; ask = z .ask; result = w .result; size = w .size };
     }
 same-step m n (reply y) w k =
-    let b = both (m .log) (m .figures) in
-    let c = both (n .log) (n .figures) in
+    let b = logAndRows (m .log) (m .figures) in
+    let c = logAndRows (n .log) (n .figures) in
     let z : SameTake (takeForCIn rows (askOf (m .ask)) b (m .ask) y (m .result) (m .size)) (takeForCIn columns (askOf (n .ask)) c (n .ask) y (n .result) (n .size)) =
     rw (sym (w .ask), sym (w .result), sym (w .size)) (same-take b c (w .seen) (w .figures) (askOf (m .ask)) (m .ask) y (m .result) (m .size) k) in
     record {

@@ -9,22 +9,22 @@ use lib.ListN.{length, take, drop, getD, replicate, length-append, length-take}
 use lib.Seq.{take-at, length-take-le}
 use borrow.Author.Tests.{le-ltb, le-leb, ltb-true, eqb-true, eqb-false}
 use Rattle.refusal.specs.Outcome.{Outcome, outcome}
-use Rattle.words.specs.Number.{Bytes}
-use Rattle.words.specs.Place.{written}
-use Rattle.case_laws.proofs.Test.{either}
+use Rattle.byte_numbers.specs.Number.{Bytes}
+use Rattle.byte_numbers.specs.Place.{written}
+use Rattle.test_laws.proofs.Test.{either}
 use Rattle.frame.specs.Layout.{readSize}
 use Rattle.log.specs.Fresh.{freshNumber}
 use Rattle.log.specs.View.{View}
-use Rattle.log.specs.declared.header.Lent.the-variants.{Sound}
+use Rattle.log_header.specs.declared.header.LogHeader.the-variants.{Sound}
 use Rattle.log.specs.declared.fresh.FreshAnswer.{FreshAnswer}
 use Rattle.log.specs.declared.fresh.FreshAnswer.the-variants as fresh
-use Rattle.log.proofs.HeaderLaws.{sound-log}
+use Rattle.log_header.proofs.HeaderLaws.{sound-log}
 use Rattle.log.proofs.ImageLaws.{bytes-written}
 use Rattle.log.proofs.ViewLaws as new
-use Rattle.day_figures.specs.Both.{Both, both}
-use Rattle.logfile.specs.Read.{readNumber}
-use Rattle.logfile.specs.declared.read.ReadAnswer.{ReadAnswer}
-use Rattle.logfile.specs.declared.read.ReadAnswer.the-variants as read
+use Rattle.day_rows.specs.LogAndRows.{LogAndRows, logAndRows}
+use Rattle.log_file.specs.Read.{readNumber}
+use Rattle.log_file.specs.declared.read.ReadAnswer.{ReadAnswer}
+use Rattle.log_file.specs.declared.read.ReadAnswer.the-variants as read
 use Rattle.logger.specs.Ask.{asked}
 use Rattle.logger.specs.Lapse.{lapsing}
 use Rattle.logger.specs.Take.{decided}
@@ -45,7 +45,7 @@ use Rattle.console.specs.declared.value.BytesAnswer.{BytesAnswer}
 use Rattle.console.specs.declared.value.BytesAnswer.the-variants as digits
 use Rattle.console_log.specs.Words.{replyRead}
 use Rattle.console_log.specs.Log.{withAsk, keptAfter, keptLoaded}
-use Rattle.console_log.specs.declared.logs.Kept.{Kept}
+use Rattle.console_log.specs.declared.logs.ConsoleLog.{ConsoleLog}
 use Rattle.old_log.specs.Layout.{rows, columns, lapsedIn, takenIn}
 use Rattle.old_log.specs.Same.{Alike, Made, SameMade, FileRooms}
 use Rattle.old_log.specs.Lines.{freshYear, freshLineIn, loadedIn, askLineIn, lapseLineIn, replyBytes, replyLineIn, SameKept, SameLine, LineRooms}
@@ -62,7 +62,7 @@ room s a k e = rw (length-append s (drop k a)) (omega (arith, e))
 -- ---- lines that alter a log
 
 -- what two calls left of the logs, laid over the images
-laid : (a b s t : List ℕ) (k j : Kept) (g h : OpenAsk) → length s ≡ k .length → length t ≡ j .length → Alike s t → g ≡ h
+laid : (a b s t : List ℕ) (k j : ConsoleLog) (g h : OpenAsk) → length s ≡ k .length → length t ≡ j .length → Alike s t → g ≡ h
     → SameKept (s ++ drop (k .length) a) (withAsk k g) (t ++ drop (j .length) b) (withAsk j h)
 laid a b s t k j g h p q e same = record {
   old-room = room s a (k .length) p;
@@ -71,7 +71,7 @@ laid a b s t k j g h p q e same = record {
   held = same;
 }
 
-module _ (line a b : List ℕ) (k j : Kept) (w : SameKept a k b j) where
+module _ (line a b : List ℕ) (k j : ConsoleLog) (w : SameKept a k b j) where
   abbrev s : List ℕ
   s = take (k .length) a
 
@@ -113,12 +113,12 @@ module _ (line a b : List ℕ) (k j : Kept) (w : SameKept a k b j) where
           (new.length-applied (lapsing (columns .view t) (j .held) .change) t ∙ new-size) (z .seen) (λ i. z .answer i .held))
 
   same-bytes : (figs y : List ℕ) → Bytes y → (n : ℕ) (buffer : List ℕ) → partOf n buffer ≡ y
-      → SameLine (replyBytes rows (digits.Bytes n) buffer (both a figs) k) (replyBytes columns (digits.Bytes n) buffer (both b figs) j)
+      → SameLine (replyBytes rows (digits.Bytes n) buffer (logAndRows a figs) k) (replyBytes columns (digits.Bytes n) buffer (logAndRows b figs) j)
   unfolding replyBytes takenIn
   same-bytes figs y bytes n buffer e =
-      let z = same.same-take (both s figs) (both t figs) (k .held) (j .held) y (w .seen) refl (w .held) bytes in
+      let z = same.same-take (logAndRows s figs) (logAndRows t figs) (k .held) (j .held) y (w .seen) refl (w .held) bytes in
       rw (e, le-ltb _ _ (w .old-room), le-ltb _ _ (w .new-room)) (record {
-        kept = laid a b (takenIn rows (both s figs) (k .held) y .left .log) (takenIn columns (both t figs) (j .held) y .left .log) k j _ _
+        kept = laid a b (takenIn rows (logAndRows s figs) (k .held) y .left .log) (takenIn columns (logAndRows t figs) (j .held) y .left .log) k j _ _
             (laws.length-applied (decided (rows .view s) figs (k .held) y .result .change) s ∙ old-size)
             (new.length-applied (decided (columns .view t) figs (j .held) y .result .change) t ∙ new-size) (z .seen) (λ i. z .answer i .held);
         figures = z .figures;
@@ -193,13 +193,13 @@ part-bytes n s k = either (λ (x : List ℕ). Bytes x) (leb n (length s)) (bytes
 abbrev typed : List ℕ → Outcome BytesAnswer (List ℕ)
 typed line = replyRead line 1 (replicate 2048 0)
 
-pub same-reply : (line a b figs : List ℕ) (k j : Kept) → SameKept a k b j
-    → SameLine (replyLineIn rows line (both a figs) k) (replyLineIn columns line (both b figs) j)
+pub same-reply : (line a b figs : List ℕ) (k j : ConsoleLog) → SameKept a k b j
+    → SameLine (replyLineIn rows line (logAndRows a figs) k) (replyLineIn columns line (logAndRows b figs) j)
 unfolding replyLineIn replyBytes
 same-reply line a b figs k j w = go (typed line .result)
   where
     go : (x : BytesAnswer)
-        → SameLine (replyBytes rows x (typed line .left) (both a figs) k) (replyBytes columns x (typed line .left) (both b figs) j)
+        → SameLine (replyBytes rows x (typed line .left) (logAndRows a figs) k) (replyBytes columns x (typed line .left) (logAndRows b figs) j)
     go (digits.Bytes n) =
         let buffer = typed line .left in
         let bytes = part-bytes n buffer (reply-bytes line 1 (replicate 2048 0) (zeros 2048)) in
@@ -212,10 +212,10 @@ same-reply line a b figs k j w = go (typed line .result)
 within : (n : ℕ) (s : List ℕ) → length (take n s) ≡ n → n ≤ length s
 within n s e = let l = length-take n s in omega (arith, e, l)
 
-module _ {A : Type 0} (number : A → ℕ) (done : ℕ → A) (keep : A → Kept → Kept)
-    (told : (n : ℕ) (k : Kept) → keep (done n) k ≡ record { length = n; held = Closed })
-    (left : (x : A) (k : Kept) → (number x ≡ 0 → ⊥) → keep x k ≡ k) where
-  made-kept : (k j : Kept) (o n : Outcome A Both) → Made done o n → SameKept (o .left .log) (keep (o .result) k) (n .left .log) (keep (n .result) j)
+module _ {A : Type 0} (number : A → ℕ) (done : ℕ → A) (keep : A → ConsoleLog → ConsoleLog)
+    (told : (n : ℕ) (k : ConsoleLog) → keep (done n) k ≡ record { length = n; held = Closed })
+    (left : (x : A) (k : ConsoleLog) → (number x ≡ 0 → ⊥) → keep x k ≡ k) where
+  made-kept : (k j : ConsoleLog) (o n : Outcome A LogAndRows) → Made done o n → SameKept (o .left .log) (keep (o .result) k) (n .left .log) (keep (n .result) j)
   made-kept k j o n m =
       let h = m .header in
       let old-sound : rows .view (take (rows .size h) (o .left .log)) .lent ≡ Sound h = ap (λ (v : View). v .lent) (m .seen) ∙ m .sound in
@@ -226,7 +226,7 @@ module _ {A : Type 0} (number : A → ℕ) (done : ℕ → A) (keep : A → Kept
         held = refl;
       })
 
-  pub new-kept : (a b : List ℕ) (k j : Kept) (o n : Outcome A Both) → SameKept a k b j → SameMade number done a b o n
+  pub new-kept : (a b : List ℕ) (k j : ConsoleLog) (o n : Outcome A LogAndRows) → SameKept a k b j → SameMade number done a b o n
       → SameLine (outcome (keep (o .result) k) (o .left)) (outcome (keep (n .result) j) (n .left))
   new-kept a b k j o n w m = go (eqb (number (n .result)) 0) refl
     where
@@ -240,30 +240,30 @@ module _ {A : Type 0} (number : A → ℕ) (done : ℕ → A) (keep : A → Kept
             figures = m .figures;
           }
 
-fresh-left : (x : FreshAnswer) (k : Kept) → (freshNumber x ≡ 0 → ⊥) → keptAfter x k ≡ k
+fresh-left : (x : FreshAnswer) (k : ConsoleLog) → (freshNumber x ≡ 0 → ⊥) → keptAfter x k ≡ k
 unfolding keptAfter
 fresh-left (fresh.Done n) k r = absurd (r refl)
 fresh-left fresh.OutOfRange k r = refl
 fresh-left fresh.TooShort k r = refl
 
-read-left : (x : ReadAnswer) (k : Kept) → (readNumber x ≡ 0 → ⊥) → keptLoaded x k ≡ k
+read-left : (x : ReadAnswer) (k : ConsoleLog) → (readNumber x ≡ 0 → ⊥) → keptLoaded x k ≡ k
 unfolding keptLoaded
 read-left x k r = read-refused x k _ r
 
-pub same-fresh : (line a b figs : List ℕ) (k j : Kept) → SameKept a k b j → LineRooms line a b
-    → SameLine (freshLineIn rows line (both a figs) k) (freshLineIn columns line (both b figs) j)
+pub same-fresh : (line a b figs : List ℕ) (k j : ConsoleLog) → SameKept a k b j → LineRooms line a b
+    → SameLine (freshLineIn rows line (logAndRows a figs) k) (freshLineIn columns line (logAndRows b figs) j)
 unfolding freshLineIn freshYear keptAfter
 same-fresh line a b figs k j w room = go (isForm line (65535 ∷ 255 ∷ 255 ∷ 255 ∷ 255 ∷ 65535 ∷ 255 ∷ [])) (yearOf (shortIn line 1)) refl
   where
     go : (c : Bool) (y : YearAnswer) → yearOf (shortIn line 1) ≡ y
-        → SameLine (cond c (freshYear rows y line (both a figs) k) (outcome k (both a figs))) (cond c (freshYear columns y line (both b figs) j) (outcome j (both b figs)))
+        → SameLine (cond c (freshYear rows y line (logAndRows a figs) k) (outcome k (logAndRows a figs))) (cond c (freshYear columns y line (logAndRows b figs) j) (outcome j (logAndRows b figs)))
     go true (Year year) e =
         new-kept freshNumber fresh.Done keptAfter (λ n x. refl) fresh-left a b k j _ _ w (same.same-fresh _ a b figs (room year e))
     go true OutOfRange e = record { kept = w; figures = refl }
     go false y e = record { kept = w; figures = refl }
 
-pub same-load : (f a b figs : List ℕ) (k j : Kept) → SameKept a k b j → Bytes f → FileRooms f a b
-    → SameLine (loadedIn rows f (both a figs) k) (loadedIn columns f (both b figs) j)
+pub same-load : (f a b figs : List ℕ) (k j : ConsoleLog) → SameKept a k b j → Bytes f → FileRooms f a b
+    → SameLine (loadedIn rows f (logAndRows a figs) k) (loadedIn columns f (logAndRows b figs) j)
 unfolding keptLoaded
 same-load f a b figs k j w bytes room =
     new-kept readNumber read.Done keptLoaded (λ n x. refl) read-left a b k j _ _ w (same.same-read f a b figs bytes room)

@@ -10,25 +10,25 @@ use lib.Dec.{ltb, eqb}
 use lib.ListN.{length, getD, take, drop, length-append, length-take, length-drop, List·getD-eq-default}
 use lib.Seq.{take-at, drop-nil, drop-cons, drop-append-add, getD-drop, getD-append-seam}
 use borrow.Author.Tests.{ltb-true, ltb-false, eqb-true, eqb-false, eq-eqb, ne-eqb}
-use Rattle.case_laws.proofs.Test.{both, chosen}
-use Rattle.words.specs.Place.{byteAt, numberAt, written}
-use Rattle.words.proofs.PlaceLaws.{length-written, part-kept, part-written, byteAt-kept, byteAt-written, numberAt-kept}
-use Rattle.log.specs.Header.{headerSize, version, cellsOf, isHeader, headerBytes, headerAt, markRight, versionRight, fieldsRight, headerOf}
-use Rattle.log.proofs.HeaderLaws.{length-headerBytes, mark-right, version-right, header-right}
-use Rattle.log.specs.Cell.{countsSize, cellSize, cellOf, countsBytes, cellBytes, IsCell}
-use Rattle.log.proofs.CellLaws.{length-countsBytes, length-cellBytes, cellOf-bytes}
+use Rattle.test_laws.proofs.Test.{both, chosen}
+use Rattle.byte_numbers.specs.Place.{byteAt, numberAt, written}
+use Rattle.byte_numbers.proofs.PlaceLaws.{length-written, part-kept, part-written, byteAt-kept, byteAt-written, numberAt-kept}
+use Rattle.log_header.specs.Header.{headerSize, version, cellsOf, isHeader, headerBytes, headerAt, markRight, versionRight, fieldsRight, headerOf}
+use Rattle.log_header.proofs.HeaderLaws.{length-headerBytes, mark-right, version-right, header-right}
+use Rattle.log_cell.specs.Cell.{countsSize, cellSize, cellOf, countsBytes, cellBytes, IsCell}
+use Rattle.log_cell.proofs.CellLaws.{length-countsBytes, length-cellBytes, cellOf-bytes}
 use Rattle.log.specs.Image.{AllCells}
 use Rattle.log.specs.View.{View}
 use Rattle.log.proofs.ViewLaws.{changed, Within, Holds, cellIn, cell-in, none-in, viewBy, same-view, within}
 use Rattle.old_log.specs.OldRows.{lengthOf, fittedTo, soundOf, cellStart, lapsesPlace, cellAt, lapsesAt, viewOf, putCell, putLapses, applied, cellsBytes, imageOf}
-use Rattle.log.specs.declared.header.Header.{Header}
-use Rattle.log.specs.declared.header.HeaderAnswer.the-variants.{Right, Wrong}
-use Rattle.log.specs.declared.header.Lent.{Lent}
-use Rattle.log.specs.declared.header.Lent.the-variants.{Sound, Unsound}
-use Rattle.log.specs.declared.cell.Cell.{Cell}
-use Rattle.log.specs.declared.cell.Cell.the-variants.{Gap}
-use Rattle.log.specs.declared.cell.CellAnswer.{CellAnswer}
-use Rattle.log.specs.declared.cell.CellAnswer.the-variants.{Good, Bad}
+use Rattle.log_header.specs.declared.header.Header.{Header}
+use Rattle.log_header.specs.declared.header.HeaderAnswer.the-variants.{Right, Wrong}
+use Rattle.log_header.specs.declared.header.LogHeader.{LogHeader}
+use Rattle.log_header.specs.declared.header.LogHeader.the-variants.{Sound, Unsound}
+use Rattle.log_cell.specs.declared.cell.Cell.{Cell}
+use Rattle.log_cell.specs.declared.cell.Cell.the-variants.{Gap}
+use Rattle.log_cell.specs.declared.cell.CellAnswer.{CellAnswer}
+use Rattle.log_cell.specs.declared.cell.CellAnswer.the-variants.{Good, Bad}
 use Rattle.log.specs.declared.image.Change.{Change}
 use Rattle.log.specs.declared.image.Change.the-variants.{None, Put, Lapses}
 

@@ -9,33 +9,33 @@ use lib.ListN.{length, take, drop, getD}
 use lib.Seq.{take-at}
 use borrow.Author.Tests.{le-leb}
 use Rattle.refusal.specs.Outcome.{Outcome, outcome, check}
-use Rattle.words.specs.Number.{Bytes}
-use Rattle.words.specs.Place.{written}
+use Rattle.byte_numbers.specs.Number.{Bytes}
+use Rattle.byte_numbers.specs.Place.{written}
 use Rattle.frame.specs.Sealing.{crcFits}
-use Rattle.log.specs.Header.{headerSize, isHeader, cellsOf, lengthOf, markRight, versionAt, ifRight}
+use Rattle.log_header.specs.Header.{headerSize, isHeader, cellsOf, lengthOf, markRight, versionAt, ifRight}
 use Rattle.log.specs.Image.{applied, imageOf, AllCells}
 use Rattle.log.specs.View.{View, viewOf}
 use Rattle.log.specs.Fresh.{gaps, noLapses, freshNumber}
-use Rattle.log.proofs.CellLaws.{gap-is-cell}
+use Rattle.log_cell.proofs.CellLaws.{gap-is-cell}
 use Rattle.log.proofs.FreshLaws.{length-gaps, gap-at}
 use Rattle.log.proofs.ImageLaws.{length-imageOf, sound-image}
 use Rattle.log.proofs.ViewLaws as new
 use Rattle.log.proofs.ViewLaws.{changed, Holds}
-use Rattle.log.specs.declared.header.Header.{Header}
-use Rattle.log.specs.declared.header.HeaderAnswer.{HeaderAnswer}
-use Rattle.log.specs.declared.header.HeaderAnswer.the-variants.{Right, Wrong}
-use Rattle.log.specs.declared.cell.Cell.{Cell}
-use Rattle.log.specs.declared.cell.Cell.the-variants.{Gap}
+use Rattle.log_header.specs.declared.header.Header.{Header}
+use Rattle.log_header.specs.declared.header.HeaderAnswer.{HeaderAnswer}
+use Rattle.log_header.specs.declared.header.HeaderAnswer.the-variants.{Right, Wrong}
+use Rattle.log_cell.specs.declared.cell.Cell.{Cell}
+use Rattle.log_cell.specs.declared.cell.Cell.the-variants.{Gap}
 use Rattle.log.specs.declared.image.Change.{Change}
 use Rattle.log.specs.declared.fresh.FreshAnswer.the-variants as fresh
-use Rattle.day_figures.specs.Both.{Both, both, enough}
-use Rattle.logfile.specs.Row.{rowAt, lapsesIn}
-use Rattle.logfile.specs.File.{isVersion, fileHeader, fileLengthAs, cellsIn, cellsRight}
-use Rattle.logfile.specs.Read.{markSize, readNumber}
-use Rattle.logfile.specs.declared.read.ReadAnswer.the-variants.{Done, WrongMark, WrongVersion, WrongHeader, WrongLength, WrongCrc, WrongCell, TooShort}
-use Rattle.logfile.proofs.RowLaws.{read-is-cell}
-use Rattle.logfile.proofs.WalkLaws.{passed, right-good}
-use Rattle.logfile.proofs.FileLaws.{file-header-right, written-front, length-image}
+use Rattle.day_rows.specs.LogAndRows.{LogAndRows, logAndRows, enough}
+use Rattle.log_file.specs.Row.{rowAt, lapsesIn}
+use Rattle.log_file.specs.File.{isVersion, fileHeader, fileLengthAs, cellsIn, cellsRight}
+use Rattle.log_file.specs.Read.{markSize, readNumber}
+use Rattle.log_file.specs.declared.read.ReadAnswer.the-variants.{Done, WrongMark, WrongVersion, WrongHeader, WrongLength, WrongCrc, WrongCell, TooShort}
+use Rattle.log_file.proofs.RowLaws.{read-is-cell}
+use Rattle.log_file.proofs.WalkLaws.{passed, right-good}
+use Rattle.log_file.proofs.FileLaws.{file-header-right, written-front, length-image}
 use Rattle.logger.specs.Ask as Ask
 use Rattle.logger.specs.Lapse as Lapse
 use Rattle.logger.specs.Take as Take
@@ -68,7 +68,7 @@ same-lapse s t h k e p = record {
   seen = same-after s t _ _ e (λ i. Lapse.lapsing (e i) (p i) .change) (lapsing-holds (viewOf t) k);
 }
 
-pub same-take : (b c : Both) (h k : OpenAsk) (y : List ℕ) → Alike (b .log) (c .log) → b .figures ≡ c .figures → h ≡ k → Bytes y
+pub same-take : (b c : LogAndRows) (h k : OpenAsk) (y : List ℕ) → Alike (b .log) (c .log) → b .figures ≡ c .figures → h ≡ k → Bytes y
     → SameBoth (takenIn rows b h y) (takenIn columns c k y)
 unfolding takenIn
 same-take b c h k y e q p bytes = record {
@@ -77,22 +77,22 @@ same-take b c h k y e q p bytes = record {
   figures = λ i. Take.decided (e i) (q i) (p i) y .left;
 }
 
-same-heard : (s t figs : List ℕ) (h : OpenAsk) (y : List ℕ) → Alike s t → Bytes y → SameBoth (heardIn rows (both s figs) h y) (heardIn columns (both t figs) h y)
+same-heard : (s t figs : List ℕ) (h : OpenAsk) (y : List ℕ) → Alike s t → Bytes y → SameBoth (heardIn rows (logAndRows s figs) h y) (heardIn columns (logAndRows t figs) h y)
 unfolding heardIn
 same-heard s t figs h [] e bytes = record { answer = refl; seen = e; figures = refl }
 same-heard s t figs h (x ∷ y) e bytes =
-    let w = same-take (both s figs) (both t figs) h h (x ∷ y) e refl refl bytes in
+    let w = same-take (logAndRows s figs) (logAndRows t figs) h h (x ∷ y) e refl refl bytes in
     record {
       answer = λ i. record { fate = fateOf (w .answer i .answer); held = w .answer i .held };
       seen = w .seen;
       figures = w .figures;
     }
 
-pub same-settle : (s t figs : List ℕ) (h : OpenAsk) (y : List ℕ) → Alike s t → Bytes y → SameBoth (settledIn rows (both s figs) h y) (settledIn columns (both t figs) h y)
+pub same-settle : (s t figs : List ℕ) (h : OpenAsk) (y : List ℕ) → Alike s t → Bytes y → SameBoth (settledIn rows (logAndRows s figs) h y) (settledIn columns (logAndRows t figs) h y)
 unfolding settledIn
 same-settle s t figs h y e bytes =
     let w = same-heard s t figs h y e bytes in
-    let z = same-lapse (heardIn rows (both s figs) h y .left .log) (heardIn columns (both t figs) h y .left .log) _ _ (w .seen) (λ i. w .answer i .held) in
+    let z = same-lapse (heardIn rows (logAndRows s figs) h y .left .log) (heardIn columns (logAndRows t figs) h y .left .log) _ _ (w .seen) (λ i. w .answer i .held) in
     record {
       answer = λ i. record { fate = fateLapsed (z .answer i .answer) (w .answer i .fate); held = z .answer i .held };
       seen = z .seen;
@@ -116,8 +116,8 @@ old-length h cs lapses e = laws.length-imageOf lapses h cs ∙ omega (arith, e)
 
 images-made : {A : Type 0} (done : ℕ → A) (h : Header) (cs : List Cell) (lapses : ℕ → ℕ) (a b figs : List ℕ) → isHeader h ≡ true → length cs ≡ cellsOf h
     → AllCells cs → Rooms h a b
-    → Made done (outcome (done (rows .size h)) (both (written a 0 (old.imageOf h cs lapses)) figs))
-    (outcome (done (columns .size h)) (both (written b 0 (imageOf h cs lapses)) figs))
+    → Made done (outcome (done (rows .size h)) (logAndRows (written a 0 (old.imageOf h cs lapses)) figs))
+    (outcome (done (columns .size h)) (logAndRows (written b 0 (imageOf h cs lapses)) figs))
 images-made done h cs lapses a b figs right count each room =
     let p = front a (old.imageOf h cs lapses) (old.lengthOf h) (old-length h cs lapses count) (room .of-rows) in
     let q = front b (imageOf h cs lapses) (lengthOf h) (length-image h cs lapses count) (room .of-columns) in
@@ -131,16 +131,16 @@ images-made done h cs lapses a b figs right count each room =
 
 -- one of a call's checks, by both
 module _ {A : Type 0} (number : A → ℕ) (done : ℕ → A) (a b figs : List ℕ) where
-  same-refusal : (r : A) → 0 < number r → SameMade number done a b (outcome r (both a figs)) (outcome r (both b figs))
+  same-refusal : (r : A) → 0 < number r → SameMade number done a b (outcome r (logAndRows a figs)) (outcome r (logAndRows b figs))
   same-refusal r l = record { answer = refl; figures = refl; made = λ e. absurd (omega (arith, l, e)); refused = λ n. (refl, refl) }
 
-  same-check : (c : Bool) (r : A) (x y : Outcome A Both) → 0 < number r → (c ≡ true → SameMade number done a b x y)
-      → SameMade number done a b (check c (outcome r (both a figs)) x) (check c (outcome r (both b figs)) y)
+  same-check : (c : Bool) (r : A) (x y : Outcome A LogAndRows) → 0 < number r → (c ≡ true → SameMade number done a b x y)
+      → SameMade number done a b (check c (outcome r (logAndRows a figs)) x) (check c (outcome r (logAndRows b figs)) y)
   same-check true r x y l f = f refl
   same-check false r x y l f = same-refusal r l
 
 -- the room is there
-room-check : {A : Type 0} (number : A → ℕ) (done : ℕ → A) (a b : List ℕ) (h : Header) (p q x y : Outcome A Both) → Rooms h a b → SameMade number done a b x y
+room-check : {A : Type 0} (number : A → ℕ) (done : ℕ → A) (a b : List ℕ) (h : Header) (p q x y : Outcome A LogAndRows) → Rooms h a b → SameMade number done a b x y
     → SameMade number done a b (check (leb (rows .size h) (length a)) p x) (check (leb (columns .size h) (length b)) q y)
 room-check number done a b h p q x y room f = rw (le-leb _ _ (room .of-rows), le-leb _ _ (room .of-columns)) f
 
@@ -185,12 +185,12 @@ module _ (f a b figs : List ℕ) (bytes : Bytes f) where
     where
       go : (r : HeaderAnswer) → fileHeader f ≡ r
           → SameMade readNumber Done a b
-          (ifRight r (outcome WrongHeader (both a figs)) (λ h.
-          check (eqb (length f) (fileLengthAs (versionAt f) h)) (outcome WrongLength (both a figs)) (
-          check (crcFits f) (outcome WrongCrc (both a figs)) (readCellsIn rows f h a figs))))
-          (ifRight r (outcome WrongHeader (both b figs)) (λ h.
-          check (eqb (length f) (fileLengthAs (versionAt f) h)) (outcome WrongLength (both b figs)) (
-          check (crcFits f) (outcome WrongCrc (both b figs)) (readCellsIn columns f h b figs))))
+          (ifRight r (outcome WrongHeader (logAndRows a figs)) (λ h.
+          check (eqb (length f) (fileLengthAs (versionAt f) h)) (outcome WrongLength (logAndRows a figs)) (
+          check (crcFits f) (outcome WrongCrc (logAndRows a figs)) (readCellsIn rows f h a figs))))
+          (ifRight r (outcome WrongHeader (logAndRows b figs)) (λ h.
+          check (eqb (length f) (fileLengthAs (versionAt f) h)) (outcome WrongLength (logAndRows b figs)) (
+          check (crcFits f) (outcome WrongCrc (logAndRows b figs)) (readCellsIn columns f h b figs))))
       go Wrong p = same-refusal readNumber Done a b figs WrongHeader (omega arith)
       go (Right h) p =
           same-check readNumber Done a b figs (eqb (length f) (fileLengthAs (versionAt f) h)) WrongLength _ _ (omega arith) (λ size.
@@ -224,7 +224,7 @@ same-step s t lapse w k =
       left = record { seen = z .seen; figures = w .figures; held = λ i. z .answer i .held };
     }
 same-step s t (reply y) w k =
-    let z = same-take (both (s .log) (s .figures)) (both (t .log) (t .figures)) (s .held) (t .held) y (w .seen) (w .figures) (w .held) k in
+    let z = same-take (logAndRows (s .log) (s .figures)) (logAndRows (t .log) (t .figures)) (s .held) (t .held) y (w .seen) (w .figures) (w .held) k in
     record {
       answer = λ i. takeAnswer (z .answer i .answer);
       left = record { seen = z .seen; figures = z .figures; held = λ i. z .answer i .held };

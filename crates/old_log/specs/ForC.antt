@@ -6,15 +6,15 @@ use mathlib.Core.List.{List}
 use Prim.Native.Nat.{ℕ}
 use lib.ListN.{take}
 use Rattle.refusal.specs.Outcome.{Outcome, outcome}
-use Rattle.words.specs.Number.{Bytes}
+use Rattle.byte_numbers.specs.Number.{Bytes}
 use Rattle.log.specs.Fresh.{freshNumber}
-use Rattle.log.specs.declared.header.Header.{Header}
-use Rattle.log.specs.declared.header.Lent.the-variants.{Sound}
-use Rattle.day_figures.specs.Both.{Both, both}
-use Rattle.day_figures.specs.Fresh.{freshWith}
-use Rattle.dayreport.specs.Report.{reportOf, reportNumber}
-use Rattle.logfile.specs.Read.{readFile, readNumber}
-use Rattle.logfile.specs.Write.{writtenFile, writeNumber}
+use Rattle.log_header.specs.declared.header.Header.{Header}
+use Rattle.log_header.specs.declared.header.LogHeader.the-variants.{Sound}
+use Rattle.day_rows.specs.LogAndRows.{LogAndRows, logAndRows}
+use Rattle.day_rows.specs.Fresh.{freshWith}
+use Rattle.day_report.specs.Report.{reportOf, reportNumber}
+use Rattle.log_file.specs.Read.{readFile, readNumber}
+use Rattle.log_file.specs.Write.{writtenFile, writeNumber}
 use Rattle.logger.specs.Book.{Call, ask, lapse, reply, Answer, runOf, AllBytes}
 use Rattle.c_values.specs.Ask.{askOf}
 use Rattle.c_values.specs.declared.ask.AskRead.{AskRead}
@@ -33,15 +33,15 @@ unfoldable pub lapseForCIn : Layout → AskRead → List ℕ → List ℕ → Ou
 lapseForCIn l (Read held) log bs = lapsedForC held (lapsedIn l log held) bs
 lapseForCIn l Unreadable log bs = outcome 28 (log, bs)
 
-unfoldable pub takeForCIn : Layout → AskRead → Both → List ℕ → List ℕ → ℕ → ℕ → Outcome ℕ (ℕ × ℕ × Both × List ℕ)
+unfoldable pub takeForCIn : Layout → AskRead → LogAndRows → List ℕ → List ℕ → ℕ → ℕ → Outcome ℕ (ℕ × ℕ × LogAndRows × List ℕ)
 takeForCIn l (Read held) b bs y result size = takenForC (takenIn l b held y) y result size bs
 takeForCIn l Unreadable b bs y result size = outcome 28 (result, size, b, bs)
 
 -- what `metlazuel_log_fresh` and `metlazuel_read_file` promise
-abbrev pub freshForCIn : Layout → Header → List ℕ → List ℕ → ℕ → Outcome ℕ (ℕ × Both)
+abbrev pub freshForCIn : Layout → Header → List ℕ → List ℕ → ℕ → Outcome ℕ (ℕ × LogAndRows)
 freshForCIn l h out figs word = sized freshNumber imageLength (freshIn l h out figs) word
 
-abbrev pub readForCIn : Layout → List ℕ → List ℕ → List ℕ → ℕ → Outcome ℕ (ℕ × Both)
+abbrev pub readForCIn : Layout → List ℕ → List ℕ → List ℕ → ℕ → Outcome ℕ (ℕ × LogAndRows)
 readForCIn l f out figs word = sized readNumber lengthAfter (readIn l f out figs) word
 
 -- `stepForC` of c_claims/specs/Demand3.antt, and a list of calls
@@ -53,7 +53,7 @@ stepForCIn l m lapse =
     let o = lapseForCIn l (askOf (m .ask)) (m .log) (m .ask) in
     outcome (told (o .result) (m .result) (m .size)) (record { log = o .left .0; figures = m .figures; ask = o .left .1; result = m .result; size = m .size })
 stepForCIn l m (reply y) =
-    let o = takeForCIn l (askOf (m .ask)) (both (m .log) (m .figures)) (m .ask) y (m .result) (m .size) in
+    let o = takeForCIn l (askOf (m .ask)) (logAndRows (m .log) (m .figures)) (m .ask) y (m .result) (m .size) in
     outcome (told (o .result) (o .left .0) (o .left .1))
     (record { log = o .left .2 .log; figures = o .left .2 .figures; ask = o .left .3; result = o .left .0; size = o .left .1 })
 
@@ -63,7 +63,7 @@ runForCIn l m calls = runOf (stepForCIn l) m calls
 -- over columns they are today's
 pub record TodayForC : Type 0 where
   pub lapse : (a : AskRead) (log bs : List ℕ) → lapseForCIn columns a log bs ≡ lapseForC a log bs
-  pub take : (a : AskRead) (b : Both) (bs y : List ℕ) (result size : ℕ) → takeForCIn columns a b bs y result size ≡ takeForC a b bs y result size
+  pub take : (a : AskRead) (b : LogAndRows) (bs y : List ℕ) (result size : ℕ) → takeForCIn columns a b bs y result size ≡ takeForC a b bs y result size
   pub fresh : (h : Header) (out figs : List ℕ) (word : ℕ) → freshForCIn columns h out figs word ≡ sized freshNumber imageLength (freshWith h out figs) word
   pub read : (f out figs : List ℕ) (word : ℕ) → readForCIn columns f out figs word ≡ sized readNumber lengthAfter (readFile f out figs) word
   pub step : (m : Lent) (c : Call) → stepForCIn columns m c ≡ stepForC m c
@@ -77,7 +77,7 @@ pub record SameLapse (o n : Outcome ℕ (List ℕ × List ℕ)) : Type 0 where
   pub ask : o .left .1 ≡ n .left .1
 
 -- of a reply, the words behind `result` and `length` too
-pub record SameTake (o n : Outcome ℕ (ℕ × ℕ × Both × List ℕ)) : Type 0 where
+pub record SameTake (o n : Outcome ℕ (ℕ × ℕ × LogAndRows × List ℕ)) : Type 0 where
   pub answer : o .result ≡ n .result
   pub result : o .left .0 ≡ n .left .0
   pub size : o .left .1 ≡ n .left .1
@@ -86,7 +86,7 @@ pub record SameTake (o n : Outcome ℕ (ℕ × ℕ × Both × List ℕ)) : Type 
   pub ask : o .left .3 ≡ n .left .3
 
 -- of a log made in the lent bytes: its length is told, by each layout, and in so many bytes of each the same is seen
-pub record MadeForC (o n : Outcome ℕ (ℕ × Both)) : Type 0 where
+pub record MadeForC (o n : Outcome ℕ (ℕ × LogAndRows)) : Type 0 where
   pub header : Header
   pub old-length : o .left .0 ≡ rows .size header
   pub new-length : n .left .0 ≡ columns .size header
@@ -94,13 +94,13 @@ pub record MadeForC (o n : Outcome ℕ (ℕ × Both)) : Type 0 where
   pub seen : Alike (take (o .left .0) (o .left .1 .log)) (take (n .left .0) (n .left .1 .log))
 
 -- a refusal leaves both outputs, and the word behind `length`
-pub record LeftForC (a b : List ℕ) (word : ℕ) (o n : Outcome ℕ (ℕ × Both)) : Type 0 where
+pub record LeftForC (a b : List ℕ) (word : ℕ) (o n : Outcome ℕ (ℕ × LogAndRows)) : Type 0 where
   pub old-length : o .left .0 ≡ word
   pub new-length : n .left .0 ≡ word
   pub old-log : o .left .1 .log ≡ a
   pub new-log : n .left .1 .log ≡ b
 
-pub record SameMadeForC (a b : List ℕ) (word : ℕ) (o n : Outcome ℕ (ℕ × Both)) : Type 0 where
+pub record SameMadeForC (a b : List ℕ) (word : ℕ) (o n : Outcome ℕ (ℕ × LogAndRows)) : Type 0 where
   pub answer : o .result ≡ n .result
   pub figures : o .left .1 .figures ≡ n .left .1 .figures
   pub made : n .result ≡ 0 → MadeForC o n
@@ -123,7 +123,7 @@ pub record SameForC : Type 0 where
       → askForC (askOf bs) (rows .view s) bs address day slot out ≡ askForC (askOf bs) (columns .view t) bs address day slot out
   pub lapse : (s t : List ℕ) → Alike s t → (bs : List ℕ) → SameLapse (lapseForCIn rows (askOf bs) s bs) (lapseForCIn columns (askOf bs) t bs)
   pub take : (s t : List ℕ) → Alike s t → (figs bs y : List ℕ) (result size : ℕ) → Bytes y
-      → SameTake (takeForCIn rows (askOf bs) (both s figs) bs y result size) (takeForCIn columns (askOf bs) (both t figs) bs y result size)
+      → SameTake (takeForCIn rows (askOf bs) (logAndRows s figs) bs y result size) (takeForCIn columns (askOf bs) (logAndRows t figs) bs y result size)
   pub fresh : (h : Header) (a b figs : List ℕ) (word : ℕ) → Rooms h a b
       → SameMadeForC a b word (freshForCIn rows h a figs word) (freshForCIn columns h b figs word)
   pub read : (f a b figs : List ℕ) (word : ℕ) → Bytes f → FileRooms f a b

@@ -6,18 +6,18 @@ use mathlib.Core.Bool.{cond, _&&_}
 use mathlib.Core.List.{List, [], _∷_, _++_}
 use lib.Dec.{eqb}
 use lib.ListN.{take, drop, length}
-use Rattle.words.specs.Place.{byteAt, written}
-use Rattle.log.specs.Header.{headerSize, headerBytes, cellsOf, headerOf, markRight, versionRight, ifSound}
-use Rattle.log.specs.Cell.{countsSize, cellSize, cellOf, countsBytes, cellBytes}
+use Rattle.byte_numbers.specs.Place.{byteAt, written}
+use Rattle.log_header.specs.Header.{headerSize, headerBytes, cellsOf, headerOf, markRight, versionRight, ifSound}
+use Rattle.log_cell.specs.Cell.{countsSize, cellSize, cellOf, countsBytes, cellBytes}
 use Rattle.log.specs.View.{View}
-use Rattle.log.specs.declared.header.Header.{Header}
-use Rattle.log.specs.declared.header.HeaderAnswer.{HeaderAnswer}
-use Rattle.log.specs.declared.header.HeaderAnswer.the-variants.{Right, Wrong}
-use Rattle.log.specs.declared.header.Lent.{Lent}
-use Rattle.log.specs.declared.header.Lent.the-variants.{Sound, Unsound}
-use Rattle.log.specs.declared.cell.Cell.{Cell}
-use Rattle.log.specs.declared.cell.CellAnswer.{CellAnswer}
-use Rattle.log.specs.declared.cell.CellAnswer.the-variants.{Bad}
+use Rattle.log_header.specs.declared.header.Header.{Header}
+use Rattle.log_header.specs.declared.header.HeaderAnswer.{HeaderAnswer}
+use Rattle.log_header.specs.declared.header.HeaderAnswer.the-variants.{Right, Wrong}
+use Rattle.log_header.specs.declared.header.LogHeader.{LogHeader}
+use Rattle.log_header.specs.declared.header.LogHeader.the-variants.{Sound, Unsound}
+use Rattle.log_cell.specs.declared.cell.Cell.{Cell}
+use Rattle.log_cell.specs.declared.cell.CellAnswer.{CellAnswer}
+use Rattle.log_cell.specs.declared.cell.CellAnswer.the-variants.{Bad}
 use Rattle.log.specs.declared.image.Change.{Change}
 use Rattle.log.specs.declared.image.Change.the-variants.{None, Put, Lapses}
 
@@ -26,11 +26,11 @@ unfoldable pub lengthOf : Header → ℕ
 lengthOf h = headerSize + cellSize * cellsOf h
 
 -- whether lent bytes are a log, and with which header
-unfoldable pub fittedTo : ℕ → HeaderAnswer → Lent
+unfoldable pub fittedTo : ℕ → HeaderAnswer → LogHeader
 fittedTo n Wrong = Unsound
 fittedTo n (Right h) = cond (eqb n (lengthOf h)) (Sound h) Unsound
 
-unfoldable pub soundOf : List ℕ → Lent
+unfoldable pub soundOf : List ℕ → LogHeader
 soundOf s = cond (markRight s && versionRight s) (fittedTo (length s) (headerOf s)) Unsound
 
 -- where cell i begins, and where its lapses stand: "at its end" (CR 7)

@@ -6,29 +6,29 @@ use mathlib.Core.List.{List}
 use Prim.Native.Nat.{ℕ, _≤_}
 use lib.ListN.{length, take}
 use Rattle.refusal.specs.Outcome.{Outcome}
-use Rattle.words.specs.Number.{Bytes}
+use Rattle.byte_numbers.specs.Number.{Bytes}
 use Rattle.log.specs.Fresh.{freshNumber}
 use Rattle.log.specs.View.{View}
-use Rattle.log.specs.declared.header.Header.{Header}
-use Rattle.log.specs.declared.header.HeaderAnswer.the-variants.{Right}
-use Rattle.log.specs.declared.header.Lent.the-variants.{Sound}
+use Rattle.log_header.specs.declared.header.Header.{Header}
+use Rattle.log_header.specs.declared.header.HeaderAnswer.the-variants.{Right}
+use Rattle.log_header.specs.declared.header.LogHeader.the-variants.{Sound}
 use Rattle.log.specs.declared.fresh.FreshAnswer.the-variants as fresh
-use Rattle.day_figures.specs.Both.{Both, both}
-use Rattle.day_figures.specs.Fresh.{freshWith}
-use Rattle.logfile.specs.File.{fileHeader}
-use Rattle.logfile.specs.Read.{readNumber, readFile}
-use Rattle.logfile.specs.Write.{writtenFile}
-use Rattle.logfile.specs.declared.read.ReadAnswer.the-variants as read
-use Rattle.dayreport.specs.Report.{reportOf}
-use Rattle.dayreport.specs.Day.{dayText}
-use Rattle.dayreport.specs.Strip.{stripText}
+use Rattle.day_rows.specs.LogAndRows.{LogAndRows, logAndRows}
+use Rattle.day_rows.specs.Fresh.{freshWith}
+use Rattle.log_file.specs.File.{fileHeader}
+use Rattle.log_file.specs.Read.{readNumber, readFile}
+use Rattle.log_file.specs.Write.{writtenFile}
+use Rattle.log_file.specs.declared.read.ReadAnswer.the-variants as read
+use Rattle.day_report.specs.Report.{reportOf}
+use Rattle.day_report.specs.Day.{dayText}
+use Rattle.day_report.specs.Strip.{stripText}
 use Rattle.logger.specs.Ask.{asked}
 use Rattle.logger.specs.Lapse.{lapsed}
 use Rattle.logger.specs.Take.{taken}
 use Rattle.logger.specs.Book.{Call, Answer, AllBytes}
 use Rattle.logger.specs.Run.{State, step}
 use Rattle.logger.specs.declared.held.OpenAsk.{OpenAsk}
-use Rattle.polling.specs.Fate.{settled}
+use Rattle.polling.specs.Fate.{askSettled}
 use Rattle.polling.specs.Next.{nextWanted}
 use Rattle.polling.specs.declared.next.Wanted.{Wanted}
 use Rattle.old_log.specs.Layout.{rows, columns, lapsedIn, takenIn, settledIn, freshIn, readIn, stepIn, runIn}
@@ -46,14 +46,14 @@ pub record SameLog {A : Type 0} (o n : Outcome A (List ℕ)) : Type 0 where
   pub seen : Alike (o .left) (n .left)
 
 -- of one that alters a log and its figures
-pub record SameBoth {A : Type 0} (o n : Outcome A Both) : Type 0 where
+pub record SameBoth {A : Type 0} (o n : Outcome A LogAndRows) : Type 0 where
   pub answer : o .result ≡ n .result
   pub seen : Alike (o .left .log) (n .left .log)
   pub figures : o .left .figures ≡ n .left .figures
 
 -- at the front of an old and a new output stand logs with one header, as long as each layout asks, which is the length that is told, and the same is seen of
 -- both
-pub record Made {A : Type 0} (done : ℕ → A) (o n : Outcome A Both) : Type 0 where
+pub record Made {A : Type 0} (done : ℕ → A) (o n : Outcome A LogAndRows) : Type 0 where
   pub header : Header
   pub old-told : o .result ≡ done (rows .size header)
   pub new-told : n .result ≡ done (columns .size header)
@@ -61,7 +61,7 @@ pub record Made {A : Type 0} (done : ℕ → A) (o n : Outcome A Both) : Type 0 
   pub seen : Alike (take (rows .size header) (o .left .log)) (take (columns .size header) (n .left .log))
 
 -- of one that makes a log, by the number of its answer: 0 comes with each layout's own length. A refusal leaves both outputs
-pub record SameMade {A : Type 0} (number : A → ℕ) (done : ℕ → A) (a b : List ℕ) (o n : Outcome A Both) : Type 0 where
+pub record SameMade {A : Type 0} (number : A → ℕ) (done : ℕ → A) (a b : List ℕ) (o n : Outcome A LogAndRows) : Type 0 where
   pub answer : number (o .result) ≡ number (n .result)
   pub figures : o .left .figures ≡ n .left .figures
   pub made : number (n .result) ≡ 0 → Made done o n
@@ -88,8 +88,8 @@ FileRooms f a b = (h : Header) → fileHeader f ≡ Right h → Rooms h a b
 -- the calls over columns are today's, those that the contracts cite
 pub record Today : Type 0 where
   pub lapse : (s : List ℕ) (held : OpenAsk) → lapsedIn columns s held ≡ lapsed s held
-  pub take : (b : Both) (held : OpenAsk) (y : List ℕ) → takenIn columns b held y ≡ taken b held y
-  pub settle : (b : Both) (held : OpenAsk) (y : List ℕ) → settledIn columns b held y ≡ settled b held y
+  pub take : (b : LogAndRows) (held : OpenAsk) (y : List ℕ) → takenIn columns b held y ≡ taken b held y
+  pub settle : (b : LogAndRows) (held : OpenAsk) (y : List ℕ) → settledIn columns b held y ≡ askSettled b held y
   pub fresh : (h : Header) (out figs : List ℕ) → freshIn columns h out figs ≡ freshWith h out figs
   pub read : (f out figs : List ℕ) → readIn columns f out figs ≡ readFile f out figs
   pub step : (s : State) (c : Call) → stepIn columns s c ≡ step s c
@@ -100,9 +100,9 @@ pub record SameAnswers : Type 1 where
       → asked (rows .view s) held address day slot out ≡ asked (columns .view t) held address day slot out
   pub lapse : (s t : List ℕ) → Alike s t → (held : OpenAsk) → SameLog (lapsedIn rows s held) (lapsedIn columns t held)
   pub take : (s t : List ℕ) → Alike s t → (figs : List ℕ) (held : OpenAsk) (y : List ℕ) → Bytes y
-      → SameBoth (takenIn rows (both s figs) held y) (takenIn columns (both t figs) held y)
+      → SameBoth (takenIn rows (logAndRows s figs) held y) (takenIn columns (logAndRows t figs) held y)
   pub settle : (s t : List ℕ) → Alike s t → (figs : List ℕ) (held : OpenAsk) (y : List ℕ) → Bytes y
-      → SameBoth (settledIn rows (both s figs) held y) (settledIn columns (both t figs) held y)
+      → SameBoth (settledIn rows (logAndRows s figs) held y) (settledIn columns (logAndRows t figs) held y)
   pub report : (s t : List ℕ) → Alike s t → (figs : List ℕ) (day : ℕ) (row : List ℕ)
       → reportOf (rows .view s .lent) figs day row ≡ reportOf (columns .view t .lent) figs day row
   pub text : (s t : List ℕ) → Alike s t → (figs : List ℕ) (day : ℕ) (out : List ℕ)

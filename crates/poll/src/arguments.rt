@@ -1,6 +1,6 @@
 // The program's arguments.
 use calendar::Date;
-use log::Header;
+use log_header::Header;
 use polling::Order;
 use polling::Wanted;
 use text::NumberAnswer;

@@ -2,9 +2,9 @@
 // alone, so that demand 3 says what stands in every cell.
 ghost use mathlib.Core.Path.{_≡_};
 ghost use Rattle.refusal.specs.Outcome.{outcome};
-ghost use Rattle.day_figures.specs.Both.{both};
+ghost use Rattle.day_rows.specs.LogAndRows.{logAndRows};
 ghost use Rattle.logger.specs.Run.{state};
-ghost use Rattle.polling.specs.Fate.{settled};
+ghost use Rattle.polling.specs.Fate.{askSettled};
 ghost use Rattle.polling.specs.Reached.{Reached, Polled};
 use crate::part::file_of;
 use crate::part::front;
@@ -15,9 +15,9 @@ use crate::wire::Wire;
 use frame::layout::LONGEST;
 use frame::layout::READ_BYTES;
 use frame::layout::SLICE_REPLY;
-use log::Header;
-use logfile::FILE_MOST;
-use logfile::WriteAnswer;
+use log_file::FILE_MOST;
+use log_file::WriteAnswer;
+use log_header::Header;
 use logger::AskAnswer;
 use logger::OpenAsk;
 use polling::Fate;
@@ -68,7 +68,7 @@ pub fn poll(
     from: u8,
     end: u8,
 ) -> Course
-    ensures { λ _. ⌜ Polled (both (now (image .entry)) (now (figures .entry))) (both (now (image .exit)) (now (figures .exit))) ⌝ }
+    ensures { λ _. ⌜ Polled (logAndRows (now (image .entry)) (now (figures .entry))) (logAndRows (now (image .exit)) (now (figures .exit))) ⌝ }
 {
     let order = plan.order;
     let mut course = nothing(OpenAsk::Closed);
@@ -96,8 +96,8 @@ fn one_day(
     day: u8,
     earlier: Course,
 ) -> Course
-    ensures { λ r. ⌜ Reached (state (both (now (image .entry)) (now (figures .entry))) (earlier .held))
-        (state (both (now (image .exit)) (now (figures .exit))) (r .held)) ⌝ }
+    ensures { λ r. ⌜ Reached (state (logAndRows (now (image .entry)) (now (figures .entry))) (earlier .held))
+        (state (logAndRows (now (image .exit)) (now (figures .exit))) (r .held)) ⌝ }
 {
     let held = earlier.held;
     let after = asks(wire, plan, device, path, image, figures, day, held);
@@ -175,8 +175,8 @@ fn asks(
     day: u8,
     held: OpenAsk,
 ) -> Course
-    ensures { λ r. ⌜ Reached (state (both (now (image .entry)) (now (figures .entry))) held)
-        (state (both (now (image .exit)) (now (figures .exit))) (r .held)) ⌝ }
+    ensures { λ r. ⌜ Reached (state (logAndRows (now (image .entry)) (now (figures .entry))) held)
+        (state (logAndRows (now (image .exit)) (now (figures .exit))) (r .held)) ⌝ }
 {
     let wanted = plan.wanted;
     let order = plan.order;
@@ -208,8 +208,8 @@ fn one_slot(
     slot: u8,
     earlier: Course,
 ) -> Course
-    ensures { λ r. ⌜ Reached (state (both (now (image .entry)) (now (figures .entry))) (earlier .held))
-        (state (both (now (image .exit)) (now (figures .exit))) (r .held)) ⌝ }
+    ensures { λ r. ⌜ Reached (state (logAndRows (now (image .entry)) (now (figures .entry))) (earlier .held))
+        (state (logAndRows (now (image .exit)) (now (figures .exit))) (r .held)) ⌝ }
 {
     let h = plan.header;
     let standing = polling::standing_of(h, day, slot, plan.now);
@@ -230,8 +230,8 @@ fn one_ask(
     slot: u8,
     earlier: Course,
 ) -> Course
-    ensures { λ r. ⌜ Reached (state (both (now (image .entry)) (now (figures .entry))) (earlier .held))
-        (state (both (now (image .exit)) (now (figures .exit))) (r .held)) ⌝ }
+    ensures { λ r. ⌜ Reached (state (logAndRows (now (image .entry)) (now (figures .entry))) (earlier .held))
+        (state (logAndRows (now (image .exit)) (now (figures .exit))) (r .held)) ⌝ }
 {
     let tally = earlier.tally;
     let passed = earlier.passed;
@@ -263,8 +263,8 @@ fn exchanged(
     held: OpenAsk,
     earlier: Course,
 ) -> Course
-    ensures { λ r. ⌜ Reached (state (both (now (image .entry)) (now (figures .entry))) held)
-        (state (both (now (image .exit)) (now (figures .exit))) (r .held)) ⌝ }
+    ensures { λ r. ⌜ Reached (state (logAndRows (now (image .entry)) (now (figures .entry))) held)
+        (state (logAndRows (now (image .exit)) (now (figures .exit))) (r .held)) ⌝ }
 {
     let mut reply = [0u8; LONGEST];
     match wire::exchange(wire, device, frame, SLICE_REPLY, &mut reply) {
@@ -287,10 +287,10 @@ fn heard(
     held: OpenAsk,
     earlier: Course,
 ) -> Course
-    ensures { λ r. ⌜ Reached (state (both (now (image .entry)) (now (figures .entry))) held)
-        (state (both (now (image .exit)) (now (figures .exit))) (r .held)) ⌝ }
+    ensures { λ r. ⌜ Reached (state (logAndRows (now (image .entry)) (now (figures .entry))) held)
+        (state (logAndRows (now (image .exit)) (now (figures .exit))) (r .held)) ⌝ }
 {
-    let after = settled(image, figures, held, reply);
+    let after = ask_settled(image, figures, held, reply);
     let fate = after.fate;
     let left = after.held;
     let course = followed(wire, device, path, fate, counted(earlier, fate));
@@ -298,11 +298,11 @@ fn heard(
 }
 
 // What was heard is taken, and the ask lapses where it is still open: one history of the logger's calls, which the equation names.
-fn settled(image: &mut [u8], figures: &mut [u32], held: OpenAsk, reply: &[u8]) -> Settled
-    ensures { λ r. ⌜ outcome r (both (now (image .exit)) (now (figures .exit)))
-        ≡ settled (both (now (image .entry)) (now (figures .entry))) held (now (reply .entry)) ⌝ }
-    ensures { λ r. ⌜ Reached (state (both (now (image .entry)) (now (figures .entry))) held)
-        (state (both (now (image .exit)) (now (figures .exit))) (r .held)) ⌝ }
+fn ask_settled(image: &mut [u8], figures: &mut [u32], held: OpenAsk, reply: &[u8]) -> Settled
+    ensures { λ r. ⌜ outcome r (logAndRows (now (image .exit)) (now (figures .exit)))
+        ≡ askSettled (logAndRows (now (image .entry)) (now (figures .entry))) held (now (reply .entry)) ⌝ }
+    ensures { λ r. ⌜ Reached (state (logAndRows (now (image .entry)) (now (figures .entry))) held)
+        (state (logAndRows (now (image .exit)) (now (figures .exit))) (r .held)) ⌝ }
 {
     polling::settle(image, figures, held, reply)
 }
@@ -323,7 +323,7 @@ fn followed(wire: Wire, device: &[u8], path: &[u8], fate: Fate, course: Course) 
 }
 
 fn after_a_loss(wire: Wire, device: &[u8], course: Course) -> Course {
-    if wire::settled(wire, device) {
+    if wire::silent_again(wire, device) {
         return course;
     }
     ends(course, End::Stopped)
@@ -420,7 +420,7 @@ fn is_over(course: Course) -> bool {
 
 fn saved(wire: Wire, path: &[u8], image: &[u8]) -> bool {
     let mut file = [0u8; FILE_MOST];
-    let answer = logfile::write_file(image, &mut file);
+    let answer = log_file::write_file(image, &mut file);
     let WriteAnswer::Done(n) = answer else {
         say::new_line(wire.terminal);
         return say::refused(path, answer.number());

@@ -4,12 +4,12 @@ use crate::arguments::Start;
 use crate::part::file_of;
 use crate::part::front;
 use crate::say;
-use day_figures::FIGURES_MOST;
+use day_rows::FIGURES_MOST;
 use log::FreshAnswer;
-use log::Header;
-use log::IMAGE_MOST;
-use logfile::FILE_MOST;
-use logfile::WriteAnswer;
+use log_file::FILE_MOST;
+use log_file::WriteAnswer;
+use log_header::Header;
+use log_header::IMAGE_MOST;
 
 // Whether it was made; where not, that is said.
 pub fn make() -> bool {
@@ -24,7 +24,7 @@ pub fn make() -> bool {
 fn made_of(path: &[u8], h: Header) -> bool {
     let mut image = [0u8; IMAGE_MOST];
     let mut figures = [0u32; FIGURES_MOST];
-    let answer = day_figures::fresh_log(h, &mut image, &mut figures);
+    let answer = day_rows::fresh_log(h, &mut image, &mut figures);
     match answer {
         FreshAnswer::Done(length) => put(path, front(&image, length)),
         _ => say::refused(path, answer.number()),
@@ -33,7 +33,7 @@ fn made_of(path: &[u8], h: Header) -> bool {
 
 fn put(path: &[u8], image: &[u8]) -> bool {
     let mut file = [0u8; FILE_MOST];
-    let answer = logfile::write_file(image, &mut file);
+    let answer = log_file::write_file(image, &mut file);
     let WriteAnswer::Done(n) = answer else {
         return say::refused(path, answer.number());
     };

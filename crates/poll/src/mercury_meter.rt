@@ -96,7 +96,7 @@ fn asked(wire: Wire, device: &[u8], address: u32, code: u8) -> Told {
         if is_settled(told) {
             return told;
         }
-        if !wire::settled(wire, device) {
+        if !wire::silent_again(wire, device) {
             return Told::Failed;
         }
         turns -= 1;

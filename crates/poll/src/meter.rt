@@ -7,7 +7,7 @@ use crate::wire::Wire;
 use calendar::DateTime;
 use frame::layout::LONGEST;
 use frame::layout::READ_BYTES;
-use log::Header;
+use log_header::Header;
 use polling::Learned;
 use polling::Moment;
 use polling::Question;
@@ -66,7 +66,7 @@ fn at(t: DateTime, anyway: bool) -> Known {
         say::no_time(t);
         return Known::Not;
     };
-    let machine = polling::machine_minute(machine_clock::seconds());
+    let machine = polling::machine_minute(file_io::seconds());
     if polling::far_apart(meter, machine) {
         say::far_apart(t, machine, anyway);
         if !anyway {
@@ -93,7 +93,7 @@ fn fits(wire: Wire, device: &[u8], h: Header, question: Question) -> bool {
 
 // What the meter tells; silence is said.
 fn heard(wire: Wire, device: &[u8], question: Question) -> Told {
-    let before = machine_clock::seconds();
+    let before = file_io::seconds();
     let told = asked(wire, device, question);
     match told {
         Told::Silence => {
@@ -111,7 +111,7 @@ fn heard(wire: Wire, device: &[u8], question: Question) -> Told {
 
 // Whether the tries since then took as long as reads that wait do.
 fn have_waited(before: u64) -> bool {
-    let now = machine_clock::seconds();
+    let now = file_io::seconds();
     if now < before {
         return true;
     }
@@ -127,7 +127,7 @@ fn asked(wire: Wire, device: &[u8], question: Question) -> Told {
         if is_settled(told) {
             return told;
         }
-        if !wire::settled(wire, device) {
+        if !wire::silent_again(wire, device) {
             return Told::Failed;
         }
         turns -= 1;

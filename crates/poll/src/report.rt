@@ -1,15 +1,15 @@
 // The day report, on standard output.
 use crate::part::front;
-use dayreport::LINE_MOST;
-use dayreport::STRIP_MOST;
-use dayreport::TextAnswer;
+use day_report::LINE_MOST;
+use day_report::STRIP_MOST;
+use day_report::TextAnswer;
 use libc::STDERR_FILENO;
 use libc::STDOUT_FILENO;
 
 // A heading, and a line for each day from one on and before another. Where a person looks, the days' strips follow on standard error.
 pub fn show(terminal: bool, path: &[u8], image: &[u8], figures: &[u32], from: u8, end: u8) {
     let mut text = [0u8; LINE_MOST];
-    let answer = dayreport::put_heading(&mut text);
+    let answer = day_report::put_heading(&mut text);
     tell(path, answer, &text);
     for day in from..end {
         one_day(path, image, figures, day);
@@ -27,7 +27,7 @@ fn strips(image: &[u8], from: u8, end: u8) {
 
 fn strip(image: &[u8], day: u8) {
     let mut text = [0u8; STRIP_MOST];
-    match dayreport::put_strip(image, day, &mut text) {
+    match day_report::put_strip(image, day, &mut text) {
         TextAnswer::Done(n) => {
             io::write_all(STDERR_FILENO, front(&text, n));
         }
@@ -38,7 +38,7 @@ fn strip(image: &[u8], day: u8) {
 
 fn one_day(path: &[u8], image: &[u8], figures: &[u32], day: u8) {
     let mut text = [0u8; LINE_MOST];
-    let answer = dayreport::put_day(image, figures, day, &mut text);
+    let answer = day_report::put_day(image, figures, day, &mut text);
     tell(path, answer, &text);
 }
 

@@ -3,7 +3,7 @@ use calendar::Date;
 use calendar::DateAnswer;
 use calendar::DateTime;
 use libc::STDERR_FILENO;
-use log::Header;
+use log_header::Header;
 use polling::DAY_MINUTES;
 use polling::Faults;
 use polling::Learned;
@@ -266,9 +266,9 @@ fn machine_time(minute: u32) {
 fn time(date: Date, hour: u8, minute: u8) {
     let mut text = [0u8; DATE_BYTES + TIME_BYTES];
     text::put_date(&mut text, 0, date);
-    words::put_byte(&mut text, DATE_BYTES, b' ');
+    byte_numbers::put_byte(&mut text, DATE_BYTES, b' ');
     text::put_two(&mut text, DATE_BYTES + 1, hour);
-    words::put_byte(&mut text, DATE_BYTES + 3, b':');
+    byte_numbers::put_byte(&mut text, DATE_BYTES + 3, b':');
     text::put_two(&mut text, DATE_BYTES + 4, minute);
     put(&text);
 }

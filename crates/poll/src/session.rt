@@ -15,15 +15,15 @@ use crate::part::front;
 use crate::report;
 use crate::say;
 use crate::wire::Wire;
-use day_figures::FIGURES_MOST;
+use day_rows::FIGURES_MOST;
 use file_io::FileAnswer;
 use libc::STDERR_FILENO;
-use log::Header;
-use log::Lent;
-use logfile::ReadAnswer;
+use log_file::ReadAnswer;
+use log_header::Header;
+use log_header::LogHeader;
 
 // One byte more than the longest file has, so that a longer one shows.
-const FILE_ROOM: usize = logfile::FILE_MOST + 1;
+const FILE_ROOM: usize = log_file::FILE_MOST + 1;
 
 // The days from one on and before another.
 pub struct Span {
@@ -72,7 +72,7 @@ fn loaded(device: &[u8], address: u8, path: &[u8]) -> bool {
 fn read(device: &[u8], address: u8, path: &[u8], file: &[u8]) -> bool {
     let mut image = [0u8; FILE_ROOM];
     let mut figures = [0u32; FIGURES_MOST];
-    let answer = logfile::read_file(file, &mut image, &mut figures);
+    let answer = log_file::read_file(file, &mut image, &mut figures);
     match answer {
         ReadAnswer::Done(length) => {
             if length <= FILE_ROOM {
@@ -87,8 +87,8 @@ fn read(device: &[u8], address: u8, path: &[u8], file: &[u8]) -> bool {
 fn on_log(device: &[u8], address: u8, path: &[u8], image: &mut [u8], figures: &mut [u32]) -> bool {
     let options = arguments::said_options();
     let chosen = options.chosen;
-    match log::sound(image) {
-        Lent::Sound(h) => match span_of(chosen, h.days) {
+    match log_header::sound(image) {
+        LogHeader::Sound(h) => match span_of(chosen, h.days) {
             SpanAnswer::Of(span) => on_line(
                 device,
                 address,
@@ -101,7 +101,7 @@ fn on_log(device: &[u8], address: u8, path: &[u8], image: &mut [u8], figures: &m
             ),
             SpanAnswer::NotInLog => say::refused(path, refusal::NOT_IN_LOG),
         },
-        Lent::Unsound => say::refused(path, refusal::UNSOUND),
+        LogHeader::Unsound => say::refused(path, refusal::UNSOUND),
     }
 }
 

@@ -60,7 +60,7 @@ pub fn exchange(wire: Wire, device: &[u8], frame: &[u8], full: usize, reply: &mu
 
 // Lets the line fall silent after an ask that was lost, so that a late reply is not taken for the next one's. Where it does not, or
 // the device fails, that is said.
-pub fn settled(wire: Wire, device: &[u8]) -> bool {
+pub fn silent_again(wire: Wire, device: &[u8]) -> bool {
     drained(wire, device, AFTER_A_LOSS)
 }
 

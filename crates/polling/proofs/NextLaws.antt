@@ -7,18 +7,18 @@ use lib.Dec.{ltb}
 use borrow.Author.Tests.{ltb-true, ltb-false}
 use Rattle.slots.specs.Day.{slotsOf}
 use Rattle.slots.proofs.DayLaws.{slotsMost, slots-at-most}
-use Rattle.log.specs.Header.{ifSound}
-use Rattle.log.specs.Interval.{intervalOf, ifAt, exists}
-use Rattle.log.proofs.IntervalLaws.{InLog, in-log, interval-at}
+use Rattle.log_header.specs.Header.{ifSound}
+use Rattle.log_header.specs.Interval.{intervalOf, ifAt, exists}
+use Rattle.log_header.proofs.IntervalLaws.{InLog, in-log, interval-at}
 use Rattle.log.specs.View.{View}
-use Rattle.log.specs.declared.header.Header.{Header}
-use Rattle.log.specs.declared.header.Lent.{Lent}
-use Rattle.log.specs.declared.interval.Interval.{Interval}
-use Rattle.log.specs.declared.interval.Interval.the-variants.{At, Outside}
-use Rattle.log.specs.declared.cell.Cell.the-variants.{Gap, Empty, Measured}
-use Rattle.log.specs.declared.cell.CellAnswer.{CellAnswer}
-use Rattle.log.specs.declared.cell.CellAnswer.the-variants.{Good, Bad}
-use Rattle.log.specs.declared.header.Lent.the-variants as lent
+use Rattle.log_header.specs.declared.header.Header.{Header}
+use Rattle.log_header.specs.declared.header.LogHeader.{LogHeader}
+use Rattle.log_header.specs.declared.interval.Interval.{Interval}
+use Rattle.log_header.specs.declared.interval.Interval.the-variants.{At, Outside}
+use Rattle.log_cell.specs.declared.cell.Cell.the-variants.{Gap, Empty, Measured}
+use Rattle.log_cell.specs.declared.cell.CellAnswer.{CellAnswer}
+use Rattle.log_cell.specs.declared.cell.CellAnswer.the-variants.{Good, Bad}
+use Rattle.log_header.specs.declared.header.LogHeader.the-variants as lent
 use Rattle.polling.specs.Next.{isWanted, asksFor, firstFrom, nextIn, nextWanted}
 use Rattle.polling.specs.declared.next.Wanted.{Wanted}
 use Rattle.polling.specs.declared.next.Wanted.the-variants.{Gaps}
@@ -155,7 +155,7 @@ pub next-is : (w : Wanted) (v : View) (d k j : ℕ) → nextWanted w v d k ≡ S
 unfolding nextWanted
 next-is w v d k j e = go (v .lent) refl e
   where
-    go : (a : Lent) → v .lent ≡ a → ifSound a Nothing (λ h. nextIn w h (v .cell) d k) ≡ Slot j → NextIs w v d k j
+    go : (a : LogHeader) → v .lent ≡ a → ifSound a Nothing (λ h. nextIn w h (v .cell) d k) ≡ Slot j → NextIs w v d k j
     go lent.Unsound q p = let z : _≡_ {A = ℕ} 0 1 = cc in absurd (omega arith)
     go (lent.Sound h) q p = next-in w h v d k j q p
 

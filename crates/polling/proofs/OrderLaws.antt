@@ -5,11 +5,11 @@ use mathlib.Core.Path.{_≡_, refl}
 use mathlib.Core.Bool.{Bool, true, false, cond}
 use lib.Dec.{ltb}
 use borrow.Author.Tests.{ltb-true, ltb-false, lt-leb}
-use Rattle.log.specs.Header.{ifSound}
+use Rattle.log_header.specs.Header.{ifSound}
 use Rattle.log.specs.View.{View}
-use Rattle.log.specs.declared.header.Header.{Header}
-use Rattle.log.specs.declared.header.Lent.{Lent}
-use Rattle.log.specs.declared.header.Lent.the-variants as lent
+use Rattle.log_header.specs.declared.header.Header.{Header}
+use Rattle.log_header.specs.declared.header.LogHeader.{LogHeader}
+use Rattle.log_header.specs.declared.header.LogHeader.the-variants as lent
 use Rattle.polling.specs.Next.{asksFor}
 use Rattle.polling.specs.Order.{lastBelow, lastWanted, daySlots, nextInOrder, passedWith}
 use Rattle.polling.proofs.NextLaws.{Asks, asks-is, next-bounds}
@@ -70,7 +70,7 @@ pub newest-is : (w : Wanted) (v : View) (d passed j : ℕ) → nextInOrder Newes
 unfolding nextInOrder lastWanted
 newest-is w v d passed j e = go (v .lent) refl e
   where
-    go : (a : Lent) → v .lent ≡ a → ifSound a Nothing (λ h. lastBelow (asksFor w h (v .cell) d) (daySlots - passed)) ≡ Slot j → NewestIs w v d passed j
+    go : (a : LogHeader) → v .lent ≡ a → ifSound a Nothing (λ h. lastBelow (asksFor w h (v .cell) d) (daySlots - passed)) ≡ Slot j → NewestIs w v d passed j
     go lent.Unsound q p = let z : _≡_ {A = ℕ} 0 1 = cc in absurd (omega arith)
     go (lent.Sound h) q p =
         let f = last-is (asksFor w h (v .cell) d) (daySlots - passed) j p in

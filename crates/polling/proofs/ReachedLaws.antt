@@ -3,15 +3,15 @@ use Prim.Native.Nat.{ℕ}
 use mathlib.Core.Path.{_≡_, refl, sym, ap, _∙_}
 use mathlib.Core.List.{List, [], _∷_, _++_}
 use Rattle.refusal.specs.Outcome.{Outcome, outcome}
-use Rattle.words.specs.Number.{Bytes}
+use Rattle.byte_numbers.specs.Number.{Bytes}
 use Rattle.log.specs.View.{viewOf}
-use Rattle.day_figures.specs.Both.{Both}
+use Rattle.day_rows.specs.LogAndRows.{LogAndRows}
 use Rattle.logger.specs.Book.{Call, ask, AllBytes, runOf}
 use Rattle.logger.specs.Run.{State, state, step, run}
 use Rattle.logger.specs.declared.ask.Asked.{Asked}
 use Rattle.logger.specs.declared.held.OpenAsk.{OpenAsk}
 use Rattle.logger.specs.Ask as Ask
-use Rattle.polling.specs.Fate.{settled}
+use Rattle.polling.specs.Fate.{askSettled}
 use Rattle.polling.proofs.FateLaws.{settleCalls, settled-run}
 use Rattle.polling.specs.declared.fate.Settled.{Settled}
 use Rattle.polling.specs.Reached.{Reached}
@@ -39,7 +39,7 @@ onward {s} {t} {u} x y = record {
 }
 
 -- an ask leaves the log and its figures, and the ask that it answers
-pub asks : (b : Both) (o : OpenAsk) (address day slot : ℕ) (out after : List ℕ) (r : Asked) → outcome r after ≡ Ask.asked (viewOf (b .log)) o address day slot out
+pub asks : (b : LogAndRows) (o : OpenAsk) (address day slot : ℕ) (out after : List ℕ) (r : Asked) → outcome r after ≡ Ask.asked (viewOf (b .log)) o address day slot out
     → Reached (state b o) (state b (r .held))
 unfolding runOf step
 asks b o address day slot out after r e =
@@ -51,10 +51,10 @@ settle-bytes [] k = (tt, tt)
 settle-bytes (b ∷ y) k = (k, (tt, tt))
 
 -- what was heard is taken, and the ask lapses
-pub settles : (b : Both) (o : OpenAsk) (y : List ℕ) (after : Both) (r : Settled) → Bytes y → outcome r after ≡ settled b o y
+pub settles : (b : LogAndRows) (o : OpenAsk) (y : List ℕ) (after : LogAndRows) (r : Settled) → Bytes y → outcome r after ≡ askSettled b o y
     → Reached (state b o) (state after (r .held))
 settles b o y after r k e = record {
   calls = settleCalls y;
   bytes = settle-bytes y k;
-  leads = sym (settled-run b o y) ∙ ap (λ (x : Outcome Settled Both). state (x .left) (x .result .held)) (sym e);
+  leads = sym (settled-run b o y) ∙ ap (λ (x : Outcome Settled LogAndRows). state (x .left) (x .result .held)) (sym e);
 }

@@ -8,8 +8,8 @@ use lib.Dec.{eqb, leb, ltb}
 use lib.ListN.{length, take}
 use lib.Seq.{getD-take, length-take-le}
 use borrow.Author.Tests.{eqb-true, le-leb, lt-leb, ltb-true, ltb-false}
-use Rattle.words.specs.Place.{byteAt}
-use Rattle.frame.specs.Code.{refused}
+use Rattle.byte_numbers.specs.Place.{byteAt}
+use Rattle.parameters.specs.Code.{refused}
 use Rattle.frame.specs.Layout.{functionPlace, bareSize}
 use Rattle.frame.specs.Sealing.{crcFits}
 use Rattle.reader.specs.Form.{lengthFor, headOf, formOf}

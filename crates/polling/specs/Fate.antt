@@ -3,7 +3,7 @@
 use Prim.Native.Nat.{ℕ}
 use mathlib.Core.List.{List, [], _∷_}
 use Rattle.refusal.specs.Outcome.{Outcome, outcome}
-use Rattle.day_figures.specs.Both.{Both, both}
+use Rattle.day_rows.specs.LogAndRows.{LogAndRows, logAndRows}
 use Rattle.logger.specs.Lapse as Lapse
 use Rattle.logger.specs.declared.no_reply.LapseAnswer.{LapseAnswer}
 use Rattle.logger.specs.declared.no_reply.LapseAnswer.the-variants as lapse
@@ -27,7 +27,7 @@ fateOf OtherCounts = fate.Stopped (Take.numberOf OtherCounts)
 fateOf Unsound = fate.Stopped (Take.numberOf Unsound)
 
 -- what was heard for the open ask is taken as the logger takes a reply; nothing heard is silence
-unfoldable pub heard : Both → OpenAsk → List ℕ → Outcome Settled Both
+unfoldable pub heard : LogAndRows → OpenAsk → List ℕ → Outcome Settled LogAndRows
 heard b held [] = outcome (record { fate = fate.Silent; held = held }) b
 heard b held (x ∷ y) =
     let o = Take.taken b held (x ∷ y) in
@@ -40,9 +40,9 @@ fateLapsed lapse.NotInLog f = fate.Stopped (Lapse.numberOf lapse.NotInLog)
 fateLapsed lapse.Unsound f = fate.Stopped (Lapse.numberOf lapse.Unsound)
 
 -- and then the ask lapses, where the reply has not closed it
-unfoldable pub settled : Both → OpenAsk → List ℕ → Outcome Settled Both
+unfoldable pub askSettled : LogAndRows → OpenAsk → List ℕ → Outcome Settled LogAndRows
 unfolding heard
-settled b held y =
+askSettled b held y =
     let o = heard b held y in
     let l = Lapse.lapsed (o .left .log) (o .result .held) in
-    outcome (record { fate = fateLapsed (l .result .answer) (o .result .fate); held = l .result .held }) (both (l .left) (o .left .figures))
+    outcome (record { fate = fateLapsed (l .result .answer) (o .result .fate); held = l .result .held }) (logAndRows (l .left) (o .left .figures))

@@ -3,13 +3,13 @@
 use Prim.Native.Nat.{ℕ, zero, suc, _-_}
 use mathlib.Core.Bool.{Bool, true, false, cond}
 use Rattle.slots.specs.Day.{slotsOf}
-use Rattle.log.specs.Header.{ifSound}
-use Rattle.log.specs.Interval.{intervalOf, ifAt}
+use Rattle.log_header.specs.Header.{ifSound}
+use Rattle.log_header.specs.Interval.{intervalOf, ifAt}
 use Rattle.log.specs.View.{View}
-use Rattle.log.specs.declared.header.Header.{Header}
-use Rattle.log.specs.declared.cell.Cell.the-variants.{Gap, Empty, Measured}
-use Rattle.log.specs.declared.cell.CellAnswer.{CellAnswer}
-use Rattle.log.specs.declared.cell.CellAnswer.the-variants.{Good, Bad}
+use Rattle.log_header.specs.declared.header.Header.{Header}
+use Rattle.log_cell.specs.declared.cell.Cell.the-variants.{Gap, Empty, Measured}
+use Rattle.log_cell.specs.declared.cell.CellAnswer.{CellAnswer}
+use Rattle.log_cell.specs.declared.cell.CellAnswer.the-variants.{Good, Bad}
 use Rattle.polling.specs.declared.next.Wanted.{Wanted}
 use Rattle.polling.specs.declared.next.Wanted.the-variants.{Gaps, GapsAndEmpties}
 use Rattle.polling.specs.declared.next.Next.{Next}

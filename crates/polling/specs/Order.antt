@@ -2,7 +2,7 @@
 use Prim.Native.Nat.{ℕ, zero, suc, _+_, _-_}
 use mathlib.Core.Bool.{Bool, cond}
 use lib.Dec.{leb, ltb}
-use Rattle.log.specs.Header.{ifSound}
+use Rattle.log_header.specs.Header.{ifSound}
 use Rattle.log.specs.View.{View}
 use Rattle.polling.specs.Next.{asksFor, nextWanted}
 use Rattle.polling.specs.declared.next.Wanted.{Wanted}

@@ -5,18 +5,18 @@ use mathlib.Core.Bool.{Bool, true, false, cond}
 use mathlib.Core.List.{List}
 use lib.Dec.{eqb}
 use lib.ListN.{drop}
-use Rattle.words.specs.Place.{byteAt}
-use Rattle.frame.specs.Code.{read}
-use Rattle.frame.specs.declared.code.Reading.the-variants.{Stored}
+use Rattle.byte_numbers.specs.Place.{byteAt}
+use Rattle.parameters.specs.Code.{read}
+use Rattle.parameters.specs.declared.code.Reading.the-variants.{Stored}
 use Rattle.frame.specs.Layout.{resultPlace, dataPlace, bareSize}
 use Rattle.request.specs.Subject.{subjectOf, dataBytes, mostSlots}
 use Rattle.request.specs.declared.request.Request.{Request}
-use Rattle.figures.specs.Clock.{dateTimeOf}
-use Rattle.figures.specs.Telemetry.{telemetryOf}
+use Rattle.wire_values.specs.Clock.{dateTimeOf}
+use Rattle.wire_values.specs.Telemetry.{telemetryOf}
 use Rattle.reader.specs.Form.{formOf}
 use Rattle.reader.specs.declared.form.Form.{Form}
 use Rattle.reader.specs.declared.form.Form.the-variants.{WellFormed, Faulty}
-use Rattle.log.specs.declared.header.Header.{Header}
+use Rattle.log_header.specs.declared.header.Header.{Header}
 use Rattle.polling.specs.declared.question.Question.{Question}
 use Rattle.polling.specs.declared.question.Question.the-variants as question
 use Rattle.polling.specs.declared.question.Learned.{Learned}

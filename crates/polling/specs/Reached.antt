@@ -2,7 +2,7 @@
 -- whatever the line carried.
 use mathlib.Core.Path.{_≡_}
 use mathlib.Core.List.{List}
-use Rattle.day_figures.specs.Both.{Both}
+use Rattle.day_rows.specs.LogAndRows.{LogAndRows}
 use Rattle.logger.specs.Book.{Call, AllBytes}
 use Rattle.logger.specs.Run.{State, state, run}
 use Rattle.logger.specs.declared.held.OpenAsk.{OpenAsk}
@@ -15,6 +15,6 @@ pub record Reached (s t : State) : Type 0 where
   pub leads : run s calls .left ≡ t
 
 -- a poll may make one log with its figures of another: no ask is open before it
-pub record Polled (b c : Both) : Type 0 where
+pub record Polled (b c : LogAndRows) : Type 0 where
   pub held : OpenAsk
   pub reached : Reached (state b Closed) (state c held)

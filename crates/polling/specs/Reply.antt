@@ -6,7 +6,7 @@ use mathlib.Core.Bool.{Bool, true, cond}
 use mathlib.Core.List.{List}
 use lib.Dec.{eqb, leb, ltb}
 use lib.ListN.{length}
-use Rattle.words.specs.Place.{byteAt}
+use Rattle.byte_numbers.specs.Place.{byteAt}
 use Rattle.frame.specs.Layout.{functionPlace}
 use Rattle.reader.specs.Form.{lengthFor}
 

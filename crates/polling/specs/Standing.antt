@@ -8,7 +8,7 @@ use Rattle.calendar.specs.declared.date.Date.{Date}
 use Rattle.calendar.specs.declared.date.DateAnswer.{DateAnswer}
 use Rattle.calendar.specs.declared.date.DateAnswer.the-variants.{On, NotADate, OutOfRange}
 use Rattle.season_nights.specs.Night.{nightOf, isAutumn}
-use Rattle.log.specs.declared.header.Header.{Header}
+use Rattle.log_header.specs.declared.header.Header.{Header}
 use Rattle.polling.specs.Moment.{dayMinutes, daysTo}
 use Rattle.polling.specs.declared.standing.Standing.{Standing}
 use Rattle.polling.specs.declared.standing.Standing.the-variants.{Due, NotOver, TooOld}

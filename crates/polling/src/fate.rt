@@ -1,8 +1,8 @@
 // What becomes of an ask.
 ghost use mathlib.Core.Path.{_≡_};
 ghost use Rattle.refusal.specs.Outcome.{outcome};
-ghost use Rattle.day_figures.specs.Both.{both};
-ghost use Rattle.polling.specs.Fate.{heard, settled, fateOf, fateLapsed};
+ghost use Rattle.day_rows.specs.LogAndRows.{logAndRows};
+ghost use Rattle.polling.specs.Fate.{heard, askSettled, fateOf, fateLapsed};
 use logger::LapseAnswer;
 use logger::OpenAsk;
 use logger::TakeAnswer;
@@ -29,8 +29,8 @@ pub struct Settled {
 // Takes what was heard for the open ask into the log, and lets the ask lapse, which closes it where the reply did not: with nothing
 // heard, and after a reply that is not well formed. The interval then stays a gap, and the log counts the lapse.
 pub fn settle(log: &mut [u8], figures: &mut [u32], held: OpenAsk, reply: &[u8]) -> Settled
-    ensures { λ r. ⌜ outcome r (both (now (log .exit)) (now (figures .exit)))
-        ≡ settled (both (now (log .entry)) (now (figures .entry))) held (now (reply .entry)) ⌝ }
+    ensures { λ r. ⌜ outcome r (logAndRows (now (log .exit)) (now (figures .exit)))
+        ≡ askSettled (logAndRows (now (log .entry)) (now (figures .entry))) held (now (reply .entry)) ⌝ }
 {
     let heard = heard(log, figures, held, reply);
     let fate = heard.fate;
@@ -56,8 +56,8 @@ fn fate_lapsed(answer: LapseAnswer, fate: Fate) -> Fate
 }
 
 fn heard(log: &mut [u8], figures: &mut [u32], held: OpenAsk, reply: &[u8]) -> Settled
-    ensures { λ r. ⌜ outcome r (both (now (log .exit)) (now (figures .exit)))
-        ≡ heard (both (now (log .entry)) (now (figures .entry))) held (now (reply .entry)) ⌝ }
+    ensures { λ r. ⌜ outcome r (logAndRows (now (log .exit)) (now (figures .exit)))
+        ≡ heard (logAndRows (now (log .entry)) (now (figures .entry))) held (now (reply .entry)) ⌝ }
 {
     if reply.len() == 0 {
         return Settled {

@@ -3,13 +3,13 @@ ghost use mathlib.Core.Path.{_≡_};
 ghost use Rattle.polling.specs.Next.{nextWanted, nextGap, nextIn, asksFor, isWanted};
 ghost use Rattle.log.specs.Image.{cellAt};
 ghost use Rattle.log.specs.View.{viewOf};
-ghost use Rattle.log.specs.declared.cell.Cell.the-variants.{Empty};
-ghost use Rattle.log.specs.declared.cell.CellAnswer.the-variants.{Good};
-use log::Cell;
-use log::CellAnswer;
-use log::Header;
-use log::Interval;
-use log::Lent;
+ghost use Rattle.log_cell.specs.declared.cell.Cell.the-variants.{Empty};
+ghost use Rattle.log_cell.specs.declared.cell.CellAnswer.the-variants.{Good};
+use log_cell::Cell;
+use log_cell::CellAnswer;
+use log_header::Header;
+use log_header::Interval;
+use log_header::LogHeader;
 
 pub enum Next {
     // A slot of the day.
@@ -36,9 +36,9 @@ pub fn next_gap(log: &[u8], day: u8, slot: u8) -> Next
 pub fn next_wanted(log: &[u8], day: u8, slot: u8, wanted: Wanted) -> Next
     ensures { λ r. ⌜ r ≡ nextWanted wanted (viewOf (now (log .entry))) day slot ⌝ }
 {
-    match log::sound(log) {
-        Lent::Sound(h) => first_wanted(log, h, day, slot, wanted),
-        Lent::Unsound => Next::Nothing,
+    match log_header::sound(log) {
+        LogHeader::Sound(h) => first_wanted(log, h, day, slot, wanted),
+        LogHeader::Unsound => Next::Nothing,
     }
 }
 
@@ -60,7 +60,7 @@ fn first_wanted(log: &[u8], h: Header, day: u8, slot: u8, wanted: Wanted) -> Nex
 pub fn asks_for(log: &[u8], h: Header, day: u8, slot: u8, wanted: Wanted) -> bool
     ensures { λ r. ⌜ r ≡ asksFor wanted h (cellAt (now (log .entry))) day slot ⌝ }
 {
-    match log::interval_of(h, day, slot) {
+    match log_header::interval_of(h, day, slot) {
         Interval::At(i) => is_wanted(wanted, log::cell_at(log, i)),
         Interval::Outside => false,
     }

@@ -7,8 +7,8 @@ ghost use Rattle.log.specs.View.{viewOf};
 use crate::next;
 use crate::next::Next;
 use crate::next::Wanted;
-use log::Header;
-use log::Lent;
+use log_header::Header;
+use log_header::LogHeader;
 use slots::SLOTS_MOST;
 
 pub enum Order {
@@ -31,9 +31,9 @@ pub fn next_in_order(log: &[u8], day: u8, passed: u8, wanted: Wanted, order: Ord
 fn last_wanted(log: &[u8], day: u8, end: u8, wanted: Wanted) -> Next
     ensures { λ r. ⌜ r ≡ lastWanted wanted (viewOf (now (log .entry))) day end ⌝ }
 {
-    match log::sound(log) {
-        Lent::Sound(h) => last_in(log, h, day, end, wanted),
-        Lent::Unsound => Next::Nothing,
+    match log_header::sound(log) {
+        LogHeader::Sound(h) => last_in(log, h, day, end, wanted),
+        LogHeader::Unsound => Next::Nothing,
     }
 }
 

@@ -1,14 +1,14 @@
 // What a poll asks before the log's intervals: the meter's clock, the weight of its counts, and its interval.
 ghost use mathlib.Core.Path.{_≡_};
 ghost use Rattle.refusal.specs.Outcome.{outcome};
-ghost use Rattle.frame.specs.declared.code.Reading.the-variants.{Stored};
+ghost use Rattle.parameters.specs.declared.code.Reading.the-variants.{Stored};
 ghost use Rattle.request.specs.Request.{requested};
 ghost use Rattle.polling.specs.Question.{questionOf, fullSize, figureOf, refusalOf, learnedOf, fitsLog};
 use calendar::DateTime;
-use frame::code;
-use frame::code::Reading;
 use frame::layout;
-use log::Header;
+use log_header::Header;
+use parameters::code;
+use parameters::code::Reading;
 use reader::Fault;
 use reader::Form;
 use request::Request;
@@ -64,9 +64,9 @@ pub fn learned_from(question: Question, address: u8, reply: &[u8]) -> Learned
     let q = request_of(question, address);
     match reader::form_of(address, code::READ, q.parameter, full_bytes(q), reply) {
         Form::WellFormed => {
-            let result = words::byte_at(reply, layout::RESULT);
+            let result = byte_numbers::byte_at(reply, layout::RESULT);
             if result == code::OK {
-                return figure_of(question, words::tail(reply, layout::DATA));
+                return figure_of(question, byte_numbers::tail(reply, layout::DATA));
             }
             refusal_of(question, result)
         }
@@ -128,9 +128,9 @@ fn figure_of(question: Question, bytes: &[u8]) -> Learned
     ensures { λ r. ⌜ r ≡ figureOf question (now (bytes .entry)) ⌝ }
 {
     match question {
-        Question::Clock => Learned::Clock(figures::date_time_of(bytes)),
+        Question::Clock => Learned::Clock(wire_values::date_time_of(bytes)),
         Question::Weight => {
-            let telemetry = figures::telemetry_of(bytes);
+            let telemetry = wire_values::telemetry_of(bytes);
             Learned::Ke(telemetry.ke)
         }
         Question::Interval => Learned::Minutes(QUARTER),

@@ -1,8 +1,8 @@
 // How long the line is listened to after a request.
 ghost use mathlib.Core.Path.{_≡_};
 ghost use Rattle.polling.specs.Reply.{isWhole, isEnded, isOver, isEnough};
-use frame::code;
 use frame::layout;
+use parameters::code;
 
 // The silent reads before a reply's first byte that mean that none comes.
 pub const SILENT_MOST: u8 = 10;
@@ -11,7 +11,7 @@ pub const SILENT_MOST: u8 = 10;
 pub fn is_whole(full: usize, reply: &[u8]) -> bool
     ensures { λ r. ⌜ r ≡ isWhole full (now (reply .entry)) ⌝ }
 {
-    if code::REFUSED <= words::byte_at(reply, layout::FUNCTION) {
+    if code::REFUSED <= byte_numbers::byte_at(reply, layout::FUNCTION) {
         return layout::BARE_BYTES <= reply.len();
     }
     full <= reply.len()

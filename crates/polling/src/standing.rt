@@ -6,7 +6,7 @@ use crate::moment::DAY_MINUTES;
 use crate::moment::days_to;
 use calendar::Date;
 use calendar::DateAnswer;
-use log::Header;
+use log_header::Header;
 use season_nights::Night;
 
 pub enum Standing {

@@ -9,16 +9,16 @@ use lib.Dec.{ltb}
 use lib.ListN.{length, getD, set, length-set}
 use lib.Seq.{ext-getD, set-getD, getD-set-same, getD-set-other}
 use borrow.Author.Tests.{ltb-true, ltb-false}
-use Rattle.words.specs.Place.{byteAt}
-use Rattle.log.specs.Cell.{IsCell}
-use Rattle.log.specs.Header.{cellsOf}
+use Rattle.byte_numbers.specs.Place.{byteAt}
+use Rattle.log_cell.specs.Cell.{IsCell}
+use Rattle.log_header.specs.Header.{cellsOf}
 use Rattle.log.specs.Image.{OutsideCell, imageOf}
 use Rattle.log.specs.Pair.{pairOf}
 use Rattle.log.proofs.ImageLaws.{sound-image}
 use Rattle.log.proofs.ViewLaws.{Whole, applied-image, elsewhere}
-use Rattle.log.specs.declared.cell.Cell.{Cell}
-use Rattle.log.specs.declared.cell.Cell.the-variants.{Gap}
-use Rattle.log.specs.declared.header.Header.{Header}
+use Rattle.log_cell.specs.declared.cell.Cell.{Cell}
+use Rattle.log_cell.specs.declared.cell.Cell.the-variants.{Gap}
+use Rattle.log_header.specs.declared.header.Header.{Header}
 use Rattle.log.specs.declared.image.Change.the-variants.{Put}
 
 -- the first m cells are those of another list

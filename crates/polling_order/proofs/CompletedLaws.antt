@@ -6,12 +6,12 @@ use Prim.Native.Nat.{ℕ, _+_}
 use native.Mathlib.Omega.{arith}
 use lib.Dec.{eqb, ltb}
 use lib.ListN.{length}
-use Rattle.case_laws.proofs.Test.{either}
+use Rattle.test_laws.proofs.Test.{either}
 use Rattle.refusal.specs.Outcome.{Outcome}
 use Rattle.frame.specs.Layout.{readSize}
-use Rattle.log.specs.Interval.{intervalOf}
-use Rattle.log.proofs.IntervalLaws.{by-at}
-use Rattle.log.specs.declared.header.Header.{Header}
+use Rattle.log_header.specs.Interval.{intervalOf}
+use Rattle.log_header.proofs.IntervalLaws.{by-at}
+use Rattle.log_header.specs.declared.header.Header.{Header}
 use Rattle.reader.specs.declared.form.Form.{Form}
 use Rattle.reader.specs.declared.form.Form.the-variants.{WellFormed, Faulty}
 use Rattle.logger.specs.Book.{Call, ask, lapse, reply, Answer, Book, entry, placeOf, keptWith, lapsesWith, keepReply, faultAnswer, bookReply, bookAsk, bookLapse, bookStep, runOf, bookRun}

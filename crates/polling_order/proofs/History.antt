@@ -10,30 +10,30 @@ use lib.Dec.{ltb}
 use lib.ListN.{length, getD}
 use lib.Seq.{ext-getD}
 use borrow.Author.Tests.{ltb-true, ltb-false}
-use Rattle.words.specs.Place.{byteAt}
-use Rattle.log.specs.Header.{cellsOf}
+use Rattle.byte_numbers.specs.Place.{byteAt}
+use Rattle.log_header.specs.Header.{cellsOf}
 use Rattle.log.specs.Image.{OutsideCell, imageOf, AllCells}
 use Rattle.log.specs.Pair.{pairOf}
 use Rattle.log.specs.View.{View, viewOf}
-use Rattle.log.proofs.IntervalLaws.{in-log}
+use Rattle.log_header.proofs.IntervalLaws.{in-log}
 use Rattle.log.proofs.ViewLaws.{Whole, cell-in, none-in, viewBy, view-image}
-use Rattle.log.specs.declared.cell.Cell.{Cell}
-use Rattle.log.specs.declared.cell.Cell.the-variants.{Gap}
-use Rattle.log.specs.declared.cell.CellAnswer.the-variants.{Good, Bad}
-use Rattle.log.specs.declared.header.Header.{Header}
-use Rattle.log.specs.declared.header.Lent.the-variants.{Sound}
-use Rattle.day_figures.specs.Both.{Both, both}
-use Rattle.day_figures.specs.Figures.{rowNumbers}
-use Rattle.day_figures.specs.Rows.{rowAt}
-use Rattle.day_figures.proofs.RowsLaws.{figure-at, same-walk, day-in-log}
+use Rattle.log_cell.specs.declared.cell.Cell.{Cell}
+use Rattle.log_cell.specs.declared.cell.Cell.the-variants.{Gap}
+use Rattle.log_cell.specs.declared.cell.CellAnswer.the-variants.{Good, Bad}
+use Rattle.log_header.specs.declared.header.Header.{Header}
+use Rattle.log_header.specs.declared.header.LogHeader.the-variants.{Sound}
+use Rattle.day_rows.specs.LogAndRows.{LogAndRows, logAndRows}
+use Rattle.day_rows.specs.Figures.{rowNumbers}
+use Rattle.day_rows.specs.Rows.{rowAt}
+use Rattle.day_rows.proofs.RowsLaws.{figure-at, same-walk, day-in-log}
 use Rattle.logger.specs.Book.{Call, Book, afresh, cameFirst, startBook, bookStep, runOf, bookRun, workedOut, cutAt255, lapsesOut, AllBytes}
 use Rattle.logger.specs.Run.{State, step, run}
 use Rattle.logger.proofs.BookLaws.{length-workedOut, workedOut-at, afresh-is-cell}
 use Rattle.logger.proofs.StepLaws.{Sane, step-sane}
 use Rattle.logger.proofs.FigureLaws.{Faithful, step-faithful}
-use Rattle.demands.specs.Demand3.{Start, begin, ran, booked}
-use Rattle.demands.proofs.Claims as claims
-use Rattle.demands.proofs.History.{start-sane, start-faithful}
+use Rattle.claims.specs.Demand3.{Start, begin, ran, booked}
+use Rattle.claims.proofs.Claims as claims
+use Rattle.claims.proofs.History.{start-sane, start-faithful}
 use Rattle.polling_order.specs.Completed.{Completed, asksIn, repliesAt}
 use Rattle.polling_order.specs.Order.{Reordered, OneReply, OneReplyEach}
 use Rattle.polling_order.specs.Rounds.{Round, callsOf, AllComplete, asksOf}
@@ -50,7 +50,7 @@ unfolding runOf
 run-sane h b [] s k = s
 run-sane h b (c ∷ calls) s k = run-sane h (bookStep h b c .left) calls (step-sane h b c s (k .0)) (k .1)
 
-module _ {b : Both} (start : Start b) (calls : List Call) (k : AllBytes calls) where
+module _ {b : LogAndRows} (start : Start b) (calls : List Call) (k : AllBytes calls) where
   abbrev pub h : Header
   h = start .header
 
@@ -123,15 +123,15 @@ run-behind h s (c ∷ calls) d l f k =
 
 -- ---- two histories
 
-module _ (b : Both) (start : Start b) (these those : List Call) (k : AllBytes these) (l : AllBytes those)
+module _ (b : LogAndRows) (start : Start b) (these those : List Call) (k : AllBytes these) (l : AllBytes those)
     (p : Reordered (asksIn start these) (asksIn start those)) where
   abbrev head : Header
   head = start .header
 
-  abbrev one : Both
+  abbrev one : LogAndRows
   one = after b these
 
-  abbrev two : Both
+  abbrev two : LogAndRows
   two = after b those
 
   abbrev Free : ℕ → Type 0
@@ -230,7 +230,7 @@ module _ (b : Both) (start : Start b) (these those : List Call) (k : AllBytes th
 
   pub equal : OneReplyEach start (asksIn start these) → one ≡ two
   equal free =
-      ap₂ both
+      ap₂ logAndRows
       (claims.demand-3 .log b start these k
       ∙ ap₂ (λ (cs : List Cell) (ls : ℕ → ℕ). imageOf head cs ls) worked (fun-ext (λ i. ap cutAt255 (same-counts i)))
       ∙ sym (claims.demand-3 .log b start those l))
@@ -250,11 +250,11 @@ module _ (b : Both) (start : Start b) (these those : List Call) (k : AllBytes th
 -- ---- lists of completed asks
 
 -- a list's completed asks are those of its calls
-pub asks-are : (b : Both) (start : Start b) (rs : List Round) → AllComplete (start .header) rs → asksIn start (callsOf rs) ≡ asksOf (start .header) rs
+pub asks-are : (b : LogAndRows) (start : Start b) (rs : List Round) → AllComplete (start .header) rs → asksIn start (callsOf rs) ≡ asksOf (start .header) rs
 unfolding startBook
 asks-are b start rs m = completes-all (start .header) rs m _ _
 
-module _ (b : Both) (start : Start b) (these those : List Round) (c : AllComplete (start .header) these) (d : AllComplete (start .header) those)
+module _ (b : LogAndRows) (start : Start b) (these those : List Round) (c : AllComplete (start .header) these) (d : AllComplete (start .header) those)
     (p : Reordered (asksOf (start .header) these) (asksOf (start .header) those)) where
   reordered : Reordered (asksIn start (callsOf these)) (asksIn start (callsOf those))
   reordered = rw (asks-are b start these c, asks-are b start those d) p

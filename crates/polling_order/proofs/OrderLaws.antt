@@ -8,7 +8,7 @@ use mathlib.Core.Logic.{⊎-elim}
 use Prim.Native.Nat.{ℕ, _+_}
 use native.Mathlib.Omega.{arith}
 use lib.Dec.{eqb}
-use Rattle.log.specs.declared.cell.Cell.the-variants.{Measured}
+use Rattle.log_cell.specs.declared.cell.Cell.the-variants.{Measured}
 use Rattle.logger.specs.Book.{isZero, First, none, counts, firstOf, byFirst, afresh}
 use Rattle.logger.specs.Reply.{Row}
 use Rattle.polling_order.specs.Completed.{Ending, counted, refused, lapsed, Completed, rowsWith, rowsAt}

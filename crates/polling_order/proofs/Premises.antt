@@ -10,31 +10,31 @@ use native.Mathlib.Omega.{arith}
 use lib.Dec.{eqb}
 use lib.ListN.{length, getD}
 use borrow.Author.Tests.{eq-eqb, eqb-true}
-use Rattle.words.specs.Number.{Bytes, bytesOf}
-use Rattle.words.specs.Place.{byteAt}
-use Rattle.words.proofs.NumberLaws.{bytes-bytesOf}
+use Rattle.byte_numbers.specs.Number.{Bytes, bytesOf}
+use Rattle.byte_numbers.specs.Place.{byteAt}
+use Rattle.byte_numbers.proofs.NumberLaws.{bytes-bytesOf}
 use Rattle.crc16.specs.Crc.{crcOf}
-use Rattle.frame.specs.Code.{read, slice}
+use Rattle.parameters.specs.Code.{read, slice}
 use Rattle.frame.specs.Layout.{functionPlace, sliceReply}
 use Rattle.frame.specs.Sealing.{framed, crcFits}
 use Rattle.frame.proofs.SealingLaws.{crcFits-framed}
-use Rattle.log.specs.Interval.{intervalOf}
+use Rattle.log_header.specs.Interval.{intervalOf}
 use Rattle.log.specs.View.{View, viewOf}
-use Rattle.log.proofs.ByteLaws.{bytes-cons, bytes-append}
-use Rattle.log.proofs.IntervalLaws.{in-log, interval-below}
+use Rattle.byte_numbers.proofs.ByteLaws.{bytes-cons, bytes-append}
+use Rattle.log_header.proofs.IntervalLaws.{in-log, interval-below}
 use Rattle.log.proofs.ViewLaws.{cell-in}
-use Rattle.log.specs.declared.cell.Cell.{Cell}
-use Rattle.log.specs.declared.cell.Cell.the-variants.{Gap, Empty, Measured}
-use Rattle.log.specs.declared.cell.CellAnswer.the-variants.{Good}
-use Rattle.log.specs.declared.header.Header.{Header}
-use Rattle.log.specs.declared.interval.Interval.the-variants.{At}
-use Rattle.day_figures.specs.Both.{Both}
+use Rattle.log_cell.specs.declared.cell.Cell.{Cell}
+use Rattle.log_cell.specs.declared.cell.Cell.the-variants.{Gap, Empty, Measured}
+use Rattle.log_cell.specs.declared.cell.CellAnswer.the-variants.{Good}
+use Rattle.log_header.specs.declared.header.Header.{Header}
+use Rattle.log_header.specs.declared.interval.Interval.the-variants.{At}
+use Rattle.day_rows.specs.LogAndRows.{LogAndRows}
 use Rattle.reader.specs.Form.{formOf, lengthFor, functionFor, headOf}
 use Rattle.reader.specs.declared.form.Form.the-variants.{WellFormed}
 use Rattle.logger.specs.Book.{countsIn, isZero, firstOf, byFirst, afresh, placeOf, cameFirst, AllBytes}
 use Rattle.logger.specs.Reply.{sliceForm, Row}
-use Rattle.demands.specs.Demand3.{Start, ran}
-use Rattle.demands.proofs.History.{start-seen}
+use Rattle.claims.specs.Demand3.{Start, ran}
+use Rattle.claims.proofs.History.{start-seen}
 use Rattle.polling_order.specs.Completed.{Ending, counted, refused, lapsed, Completed, endingOf, asksIn, rowsWith, rowsAt, repliesAt}
 use Rattle.polling_order.specs.Order.{Reordered, OneReplyEach}
 use Rattle.polling_order.specs.Premises.{roundOf, replyWith, RowFits, OnceEach, NoneMeasured}
@@ -163,7 +163,7 @@ once-row i (d ∷ ds) q r o m n =
     not-both : (x : Row) → List·Memᴰ x (rowsOf i d) → (y : Row) → List·Memᴰ y (rowsAt i ds) → ⊥
     not-both x a y b = let t = asked-for i ds y b in o .0 (t .0) (t .1) (sym (t .2) ∙ row-for i d x a .0)
 
-pub once-each : (b : Both) (start : Start b) (asks : List Completed) → OnceEach asks → NoneMeasured start asks → OneReplyEach start asks
+pub once-each : (b : LogAndRows) (start : Start b) (asks : List Completed) → OnceEach asks → NoneMeasured start asks → OneReplyEach start asks
 once-each b start asks o none i l q r m n z w =
     ⊎-elim (λ (a : List·Memᴰ q came).
     ⊎-elim (λ (c : List·Memᴰ r came). one-came (getD (start .cells) i Gap) q r a c)
@@ -185,7 +185,7 @@ once-each b start asks o none i l q r m n z w =
 
 -- ---- newest first
 
-pub newest-first : (b : Both) (start : Start b) (rounds : List Round) → let h = start .header in AllComplete h rounds → OneReplyEach start (asksOf h rounds)
+pub newest-first : (b : LogAndRows) (start : Start b) (rounds : List Round) → let h = start .header in AllComplete h rounds → OneReplyEach start (asksOf h rounds)
     → AllComplete h (reverse rounds) × Reordered (asksOf h rounds) (asksOf h (reverse rounds))
     × (after b (callsOf rounds) ≡ after b (callsOf (reverse rounds)))
 newest-first b start rounds c one =
@@ -193,7 +193,7 @@ newest-first b start rounds c one =
     let order = turned (askOf (start .header)) rounds in
     (all, order, list-equal b start rounds (reverse rounds) c all order one)
 
-pub held : (b : Both) (start : Start b) (rounds : List Round) → AllComplete (start .header) rounds
+pub held : (b : LogAndRows) (start : Start b) (rounds : List Round) → AllComplete (start .header) rounds
     → AllBytes (callsOf rounds) × (asksIn start (callsOf rounds) ≡ asksOf (start .header) rounds)
 held b start rounds c = (calls-bytes (start .header) rounds c, asks-are b start rounds c)
 
@@ -212,7 +212,7 @@ same-row q r e =
     let d : q .r- ≡ r .r- = cc in
     λ t. record { e+ = a t; e- = b t; r+ = c t; r- = d t }
 
-module _ (b : Both) (start : Start b) (day slot i : ℕ) (at : intervalOf (start .header) day slot ≡ At i) (seen : viewOf (b .log) .cell i ≡ Good Gap) where
+module _ (b : LogAndRows) (start : Start b) (day slot i : ℕ) (at : intervalOf (start .header) day slot ≡ At i) (seen : viewOf (b .log) .cell i ≡ Good Gap) where
   -- what is seen as a gap is one of the start's
   gap : getD (start .cells) i Gap ≡ Gap
   gap =

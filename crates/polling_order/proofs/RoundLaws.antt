@@ -6,7 +6,7 @@ use lib.ListN.{length}
 use borrow.Author.Tests.{le-ltb}
 use Rattle.refusal.specs.Outcome.{Outcome}
 use Rattle.frame.specs.Layout.{readSize}
-use Rattle.log.specs.declared.header.Header.{Header}
+use Rattle.log_header.specs.declared.header.Header.{Header}
 use Rattle.reader.specs.declared.form.Form.{Form}
 use Rattle.reader.specs.declared.form.Form.the-variants.{WellFormed, Faulty}
 use Rattle.logger.specs.Book.{Call, ask, Answer, Book, entry, faultAnswer, placeOf, keepReply, bookReply, bookAsk, bookLapse, bookStep, AllBytes}

@@ -4,14 +4,14 @@ use mathlib.Core.List.{List, [], _∷_, _++_}
 use Prim.Native.Nat.{ℕ}
 use lib.Dec.{eqb}
 use lib.ListN.{getD}
-use Rattle.log.specs.declared.cell.Cell.the-variants.{Gap}
-use Rattle.log.specs.declared.header.Header.{Header}
-use Rattle.day_figures.specs.Both.{Both}
+use Rattle.log_cell.specs.declared.cell.Cell.the-variants.{Gap}
+use Rattle.log_header.specs.declared.header.Header.{Header}
+use Rattle.day_rows.specs.LogAndRows.{LogAndRows}
 use Rattle.logger.specs.Book.{Call, ask, lapse, reply, Book, countsIn, placeOf, cameFirst, startBook, bookStep}
 use Rattle.logger.specs.Held.{ifOpen}
 use Rattle.logger.specs.Reply.{sliceForm, ifFormed, resultOf, ifOk, Row}
 use Rattle.logger.specs.declared.held.OpenAsk.{OpenAsk}
-use Rattle.demands.specs.Demand3.{Start}
+use Rattle.claims.specs.Demand3.{Start}
 
 -- how an ask ended: by a well-formed reply, whose result was 0 and which had four counts, or was another; or by a lapse
 pub data Ending : Type 0 where
@@ -47,7 +47,7 @@ completed h b [] = []
 completed h b (c ∷ calls) = completedBy h (b .held) c ++ completed h (bookStep h b c .left) calls
 
 -- the completed asks of a history from a start of demand 3
-abbrev pub asksIn : {b : Both} → Start b → List Call → List Completed
+abbrev pub asksIn : {b : LogAndRows} → Start b → List Call → List Completed
 asksIn start calls = completed (start .header) (startBook (start .cells) (start .lapses)) calls
 
 -- ---- the replies of an interval
@@ -65,5 +65,5 @@ rowsAt i [] = []
 rowsAt i (d ∷ ds) = cond (eqb i (d .place)) (rowsWith (d .ending)) [] ++ rowsAt i ds
 
 -- "the same log, whose measured cells count among those replies": the start's cell as the reply that came first, and those of the completed asks
-abbrev pub repliesAt : {b : Both} → Start b → List Completed → ℕ → List Row
+abbrev pub repliesAt : {b : LogAndRows} → Start b → List Completed → ℕ → List Row
 repliesAt start ds i = cameFirst (getD (start .cells) i Gap) ++ rowsAt i ds

@@ -4,11 +4,11 @@ use mathlib.Core.Path.{_≡_}
 use mathlib.Core.Bool.{false}
 use mathlib.Core.List.{List, [], _∷_, _++_, List·Memᴰ}
 use Prim.Native.Nat.{ℕ, _<_}
-use Rattle.log.specs.Header.{cellsOf}
-use Rattle.day_figures.specs.Both.{Both}
+use Rattle.log_header.specs.Header.{cellsOf}
+use Rattle.day_rows.specs.LogAndRows.{LogAndRows}
 use Rattle.logger.specs.Book.{isZero}
 use Rattle.logger.specs.Reply.{Row}
-use Rattle.demands.specs.Demand3.{Start}
+use Rattle.claims.specs.Demand3.{Start}
 use Rattle.polling_order.specs.Completed.{Completed, repliesAt}
 
 -- "in another order": the two lists hold the same, each as often. The first of the one stands somewhere in the other, and without it they are so again
@@ -21,5 +21,5 @@ abbrev pub OneReply : List Row → Type 0
 OneReply rows = (q r : Row) → List·Memᴰ q rows → List·Memᴰ r rows → isZero q ≡ false → isZero r ≡ false → q ≡ r
 
 -- "no interval has two different nonzero replies among them"
-abbrev pub OneReplyEach : {b : Both} → Start b → List Completed → Type 0
+abbrev pub OneReplyEach : {b : LogAndRows} → Start b → List Completed → Type 0
 OneReplyEach start ds = (i : ℕ) → i < cellsOf (start .header) → OneReply (repliesAt start ds i)

@@ -4,16 +4,16 @@ use mathlib.Core.Bool.{true}
 use mathlib.Core.List.{List, [], _∷_, _++_, List·Memᴰ}
 use Prim.Native.Nat.{ℕ}
 use lib.ListN.{getD, replicate}
-use Rattle.words.specs.Number.{bytesOf}
-use Rattle.frame.specs.Code.{read, slice}
+use Rattle.byte_numbers.specs.Number.{bytesOf}
+use Rattle.parameters.specs.Code.{read, slice}
 use Rattle.frame.specs.Layout.{readSize}
 use Rattle.frame.specs.Sealing.{framed}
-use Rattle.log.specs.Cell.{CountsFit}
-use Rattle.log.specs.declared.cell.Cell.the-variants.{Gap}
-use Rattle.day_figures.specs.Both.{Both}
+use Rattle.log_cell.specs.Cell.{CountsFit}
+use Rattle.log_cell.specs.declared.cell.Cell.the-variants.{Gap}
+use Rattle.day_rows.specs.LogAndRows.{LogAndRows}
 use Rattle.logger.specs.Book.{isZero, cameFirst}
 use Rattle.logger.specs.Reply.{Row}
-use Rattle.demands.specs.Demand3.{Start}
+use Rattle.claims.specs.Demand3.{Start}
 use Rattle.polling_order.specs.Completed.{Completed}
 use Rattle.polling_order.specs.Rounds.{Closing, Round}
 
@@ -35,5 +35,5 @@ OnceEach [] = Unit
 OnceEach (d ∷ ds) = ((e : Completed) → List·Memᴰ e ds → e .place ≡ d .place → ⊥) × OnceEach ds
 
 -- none is for an interval whose cell counts as a nonzero reply at the start
-abbrev pub NoneMeasured : {b : Both} → Start b → List Completed → Type 0
+abbrev pub NoneMeasured : {b : LogAndRows} → Start b → List Completed → Type 0
 NoneMeasured start ds = (d : Completed) (r : Row) → List·Memᴰ d ds → List·Memᴰ r (cameFirst (getD (start .cells) (d .place) Gap)) → isZero r ≡ true

@@ -3,11 +3,11 @@ use mathlib.Core.Path.{_≡_}
 use mathlib.Core.List.{List, [], _∷_, map, List·Memᴰ}
 use Prim.Native.Nat.{ℕ, _≤_}
 use lib.ListN.{length}
-use Rattle.words.specs.Number.{Bytes}
+use Rattle.byte_numbers.specs.Number.{Bytes}
 use Rattle.frame.specs.Layout.{readSize}
-use Rattle.log.specs.Interval.{intervalOf}
-use Rattle.log.specs.declared.header.Header.{Header}
-use Rattle.log.specs.declared.interval.Interval.the-variants.{At}
+use Rattle.log_header.specs.Interval.{intervalOf}
+use Rattle.log_header.specs.declared.header.Header.{Header}
+use Rattle.log_header.specs.declared.interval.Interval.the-variants.{At}
 use Rattle.reader.specs.declared.form.Form.the-variants.{WellFormed}
 use Rattle.logger.specs.Book.{Call, ask, lapse, reply, placeOf}
 use Rattle.logger.specs.Reply.{sliceForm}

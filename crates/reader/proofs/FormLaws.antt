@@ -5,8 +5,8 @@ use mathlib.Core.List.{List}
 use Prim.Native.Nat.{ℕ, _≤_}
 use lib.Dec.{eqb}
 use lib.ListN.{length}
-use Rattle.case_laws.proofs.Test.{either}
-use Rattle.words.specs.Place.{byteAt}
+use Rattle.test_laws.proofs.Test.{either}
+use Rattle.byte_numbers.specs.Place.{byteAt}
 use Rattle.frame.specs.Sealing.{crcFits}
 use Rattle.frame.specs.Layout.{addressPlace, functionPlace, parameterPlace, resultPlace}
 use Rattle.reader.specs.Form.{lengthFor, functionFor, headOf, formOf, faultNumber}

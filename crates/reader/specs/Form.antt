@@ -6,9 +6,9 @@ use mathlib.Core.List.{List}
 use Prim.Native.Nat.{ℕ, _+_}
 use lib.Dec.{eqb, leb}
 use lib.ListN.{length}
-use Rattle.words.specs.Place.{byteAt}
+use Rattle.byte_numbers.specs.Place.{byteAt}
 use Rattle.frame.specs.Sealing.{crcFits}
-use Rattle.frame.specs.Code.{refused}
+use Rattle.parameters.specs.Code.{refused}
 use Rattle.frame.specs.Layout.{addressPlace, functionPlace, parameterPlace, resultPlace, bareSize}
 use Rattle.reader.specs.declared.form.Form.{Form}
 use Rattle.reader.specs.declared.form.Form.the-variants.{WellFormed, Faulty}

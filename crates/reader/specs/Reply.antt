@@ -5,28 +5,28 @@ use mathlib.Core.Bool.{cond}
 use mathlib.Core.List.{List}
 use Prim.Native.Nat.{ℕ, _+_}
 use lib.Dec.{eqb}
-use Rattle.words.specs.Place.{byteAt, numberAt}
-use Rattle.frame.specs.Code.{readingCode}
+use Rattle.byte_numbers.specs.Place.{byteAt, numberAt}
+use Rattle.parameters.specs.Code.{readingCode}
 use Rattle.frame.specs.Layout.{resultPlace, bareSize}
-use Rattle.frame.specs.declared.code.Parameter.{Parameter}
-use Rattle.frame.specs.declared.code.Parameter.the-variants as parameter
-use Rattle.frame.specs.declared.code.Reading.{Reading}
-use Rattle.frame.specs.declared.code.Reading.the-variants.{Stored, Displayed as AsDisplayed}
+use Rattle.parameters.specs.declared.code.Parameter.{Parameter}
+use Rattle.parameters.specs.declared.code.Parameter.the-variants as parameter
+use Rattle.parameters.specs.declared.code.Reading.{Reading}
+use Rattle.parameters.specs.declared.code.Reading.the-variants.{Stored, Displayed as AsDisplayed}
 use Rattle.request.specs.Subject.{subjectOf, askable, dataBytes, mostSlots}
 use Rattle.request.specs.declared.request.Request.{Request}
 use Rattle.request.specs.declared.subject.Subject.{Subject}
 use Rattle.request.specs.declared.subject.Subject.the-variants.{Figures, Nothing}
-use Rattle.figures.specs.Clock.{dateTimeOf}
-use Rattle.figures.specs.Displayed.{energiesOf}
-use Rattle.figures.specs.Mask.{maskOf}
-use Rattle.figures.specs.Power.{powerOf, powersOf}
-use Rattle.figures.specs.Telemetry.{telemetryOf}
-use Rattle.figures.specs.declared.displayed.EnergiesAnswer.{EnergiesAnswer}
-use Rattle.figures.specs.declared.displayed.EnergiesAnswer.the-variants as energies
-use Rattle.figures.specs.declared.power.Power.{Power}
-use Rattle.figures.specs.declared.power.Power.the-variants as power
-use Rattle.figures.specs.declared.power.PowersAnswer.{PowersAnswer}
-use Rattle.figures.specs.declared.power.PowersAnswer.the-variants as powers
+use Rattle.wire_values.specs.Clock.{dateTimeOf}
+use Rattle.wire_values.specs.Displayed.{energiesOf}
+use Rattle.wire_values.specs.Mask.{maskOf}
+use Rattle.wire_values.specs.Power.{powerOf, powersOf}
+use Rattle.wire_values.specs.Telemetry.{telemetryOf}
+use Rattle.wire_values.specs.declared.displayed.EnergiesAnswer.{EnergiesAnswer}
+use Rattle.wire_values.specs.declared.displayed.EnergiesAnswer.the-variants as energies
+use Rattle.wire_values.specs.declared.power.Power.{Power}
+use Rattle.wire_values.specs.declared.power.Power.the-variants as power
+use Rattle.wire_values.specs.declared.power.PowersAnswer.{PowersAnswer}
+use Rattle.wire_values.specs.declared.power.PowersAnswer.the-variants as powers
 use Rattle.reader.specs.Form.{formOf, faultNumber}
 use Rattle.reader.specs.Rows.{replyData}
 use Rattle.reader.specs.declared.form.Form.{Form}

@@ -1,6 +1,6 @@
 // Whether a reply is well formed, and what is wrong with it first.
-use frame::code;
 use frame::layout;
+use parameters::code;
 ghost use mathlib.Core.Path.{_≡_};
 ghost use Rattle.reader.specs.Form.{formOf, headOf, lengthFor, functionFor, faultNumber};
 
@@ -39,7 +39,7 @@ impl Fault {
 pub fn form_of(address: u8, function: u8, parameter: u8, full: usize, reply: &[u8]) -> Form
     ensures { λ r. ⌜ r ≡ formOf address function parameter full (now (reply .entry)) ⌝ }
 {
-    let length = length_for(words::byte_at(reply, layout::FUNCTION), full);
+    let length = length_for(byte_numbers::byte_at(reply, layout::FUNCTION), full);
     if reply.len() != length {
         return Form::Faulty(Fault::Length(reply.len()));
     }
@@ -54,10 +54,10 @@ pub fn form_of(address: u8, function: u8, parameter: u8, full: usize, reply: &[u
 fn head_of(address: u8, function: u8, parameter: u8, reply: &[u8]) -> Form
     ensures { λ r. ⌜ r ≡ headOf address function parameter (now (reply .entry)) ⌝ }
 {
-    let sender = words::byte_at(reply, layout::ADDRESS);
-    let done = words::byte_at(reply, layout::FUNCTION);
-    let asked = words::byte_at(reply, layout::PARAMETER);
-    let wanted = function_for(function, words::byte_at(reply, layout::RESULT));
+    let sender = byte_numbers::byte_at(reply, layout::ADDRESS);
+    let done = byte_numbers::byte_at(reply, layout::FUNCTION);
+    let asked = byte_numbers::byte_at(reply, layout::PARAMETER);
+    let wanted = function_for(function, byte_numbers::byte_at(reply, layout::RESULT));
     if sender != address {
         return Form::Faulty(Fault::Address);
     }

@@ -4,19 +4,19 @@ use crate::form::Form;
 use crate::form::form_of;
 use calendar::DateTime;
 use energy::Counts;
-use figures::DisplayMask;
-use figures::Energies;
-use figures::EnergiesAnswer;
-use figures::Power;
-use figures::Powers;
-use figures::PowersAnswer;
-use figures::Telemetry;
-use frame::code;
-use frame::code::Parameter;
-use frame::code::Reading;
 use frame::layout;
+use parameters::code;
+use parameters::code::Parameter;
+use parameters::code::Reading;
 use request::Request;
 use request::Subject;
+use wire_values::DisplayMask;
+use wire_values::Energies;
+use wire_values::EnergiesAnswer;
+use wire_values::Power;
+use wire_values::Powers;
+use wire_values::PowersAnswer;
+use wire_values::Telemetry;
 ghost use mathlib.Core.Path.{_≡_};
 ghost use Rattle.reader.specs.Reply.{countsOf, powersFigure, powerFigure, phaseFigures, energiesFigure};
 ghost use Rattle.reader.specs.Reply.{readFigures, readAs, figuresOf, repliedOf, decodedOf, numberOf};
@@ -98,11 +98,11 @@ pub fn decode(q: Request, reply: &[u8]) -> Decoded
 fn replied(subject: Subject, reply: &[u8]) -> Decoded
     ensures { λ r. ⌜ r ≡ repliedOf subject (now (reply .entry)) ⌝ }
 {
-    let result = words::byte_at(reply, layout::RESULT);
+    let result = byte_numbers::byte_at(reply, layout::RESULT);
     if result != code::OK {
         return Decoded::MeterRefused(result);
     }
-    figures_of(subject, words::tail(reply, layout::DATA))
+    figures_of(subject, byte_numbers::tail(reply, layout::DATA))
 }
 
 fn figures_of(subject: Subject, bytes: &[u8]) -> Decoded
@@ -120,7 +120,7 @@ fn read_as(reading: Reading, p: Parameter, detail: u8, bytes: &[u8]) -> Decoded
 {
     match reading {
         Reading::Stored => read_figures(p, detail, bytes),
-        Reading::Displayed => energies_figure(figures::energies_of(bytes)),
+        Reading::Displayed => energies_figure(wire_values::energies_of(bytes)),
     }
 }
 
@@ -139,12 +139,12 @@ fn read_figures(p: Parameter, detail: u8, bytes: &[u8]) -> Decoded
     match p {
         Parameter::ActivePower => phase_figures(detail, bytes),
         Parameter::ReactivePower => phase_figures(detail, bytes),
-        Parameter::Address => Decoded::Address(words::byte_at(bytes, 0)),
-        Parameter::Telemetry => Decoded::Telemetry(figures::telemetry_of(bytes)),
-        Parameter::SummerDate => Decoded::DateTime(figures::date_time_of(bytes)),
-        Parameter::WinterDate => Decoded::DateTime(figures::date_time_of(bytes)),
-        Parameter::Clock => Decoded::DateTime(figures::date_time_of(bytes)),
-        Parameter::DisplayMask => Decoded::DisplayMask(figures::display_mask(bytes)),
+        Parameter::Address => Decoded::Address(byte_numbers::byte_at(bytes, 0)),
+        Parameter::Telemetry => Decoded::Telemetry(wire_values::telemetry_of(bytes)),
+        Parameter::SummerDate => Decoded::DateTime(wire_values::date_time_of(bytes)),
+        Parameter::WinterDate => Decoded::DateTime(wire_values::date_time_of(bytes)),
+        Parameter::Clock => Decoded::DateTime(wire_values::date_time_of(bytes)),
+        Parameter::DisplayMask => Decoded::DisplayMask(wire_values::display_mask(bytes)),
         Parameter::Slice => Decoded::Slice(counts_of(bytes)),
         Parameter::SixSlices => Decoded::SixSlices,
         Parameter::Password => Decoded::OutOfRange,
@@ -157,9 +157,9 @@ fn phase_figures(detail: u8, bytes: &[u8]) -> Decoded
     ensures { λ r. ⌜ r ≡ phaseFigures detail (now (bytes .entry)) ⌝ }
 {
     if detail == 0 {
-        return powers_figure(figures::powers_of(bytes));
+        return powers_figure(wire_values::powers_of(bytes));
     }
-    power_figure(figures::power_of(bytes, 0))
+    power_figure(wire_values::power_of(bytes, 0))
 }
 
 fn powers_figure(p: PowersAnswer) -> Decoded
@@ -184,9 +184,9 @@ fn counts_of(bytes: &[u8]) -> Slice
     ensures { λ r. ⌜ r ≡ countsOf (now (bytes .entry)) ⌝ }
 {
     Slice {
-        e_plus: Counts(words::u16_at(bytes, 0) as u32),
-        e_minus: Counts(words::u16_at(bytes, 2) as u32),
-        r_plus: Counts(words::u16_at(bytes, 4) as u32),
-        r_minus: Counts(words::u16_at(bytes, 6) as u32),
+        e_plus: Counts(byte_numbers::u16_at(bytes, 0) as u32),
+        e_minus: Counts(byte_numbers::u16_at(bytes, 2) as u32),
+        r_plus: Counts(byte_numbers::u16_at(bytes, 4) as u32),
+        r_minus: Counts(byte_numbers::u16_at(bytes, 6) as u32),
     }
 }

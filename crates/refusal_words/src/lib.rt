@@ -91,6 +91,6 @@ fn put_mercury_words(number: u8, out: &mut [u8]) -> usize
 fn put(out: &mut [u8], text: &[u8]) -> usize
     ensures { λ r. ⌜ outcome r (now (out .exit)) ≡ atFront (now (text .entry)) (now (out .entry)) ⌝ }
 {
-    words::put_bytes(out, 0, text);
+    byte_numbers::put_bytes(out, 0, text);
     text.len()
 }

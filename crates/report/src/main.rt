@@ -3,15 +3,15 @@
 // gets a strip a day on standard error too.
 ghost use mathlib.Core.Path.{_≡_};
 ghost use lib.ListN.{take};
-use dayreport::LINE_MOST;
-use dayreport::STRIP_MOST;
-use dayreport::TextAnswer;
+use day_report::LINE_MOST;
+use day_report::STRIP_MOST;
+use day_report::TextAnswer;
 use libc::STDERR_FILENO;
 use libc::STDIN_FILENO;
 use libc::STDOUT_FILENO;
 
 // One byte more than the longest file has, so that a longer one shows.
-const FILE_ROOM: usize = logfile::FILE_MOST + 1;
+const FILE_ROOM: usize = log_file::FILE_MOST + 1;
 
 // The program's own name.
 const ITS_WORDS: usize = 1;

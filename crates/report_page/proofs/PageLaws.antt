@@ -8,35 +8,35 @@ use native.Mathlib.Omega.{arith}
 use lib.Dec.{leb, eqb}
 use lib.ListN.{length, replicate, length-append, length-replicate}
 use borrow.Author.Tests.{le-leb, ne-eqb}
-use Rattle.case_laws.proofs.Test.{either}
+use Rattle.test_laws.proofs.Test.{either}
 use Rattle.refusal.specs.Outcome.{Outcome, outcome, check}
 use Rattle.text.specs.Ascii.{ascii}
 use Rattle.text.specs.Decimal.{decimal}
 use Rattle.text.proofs.DecimalLaws.{decimal-most-u32}
-use Rattle.words.specs.Number.{Bytes}
-use Rattle.words.specs.Place.{written}
-use Rattle.words.proofs.PlaceLaws.{length-written, written-append}
+use Rattle.byte_numbers.specs.Number.{Bytes}
+use Rattle.byte_numbers.specs.Place.{written}
+use Rattle.byte_numbers.proofs.PlaceLaws.{length-written, written-append}
 use Rattle.frame.specs.Sealing.{crcFits}
-use Rattle.log.specs.Header.{headerSize, daysMost, imageMost, lengthOf, isHeader, markRight, versionAt, ifRight}
-use Rattle.log.proofs.HeaderLaws.{image-most}
-use Rattle.log.specs.declared.header.Header.{Header}
-use Rattle.log.specs.declared.header.HeaderAnswer.{HeaderAnswer}
-use Rattle.log.specs.declared.header.HeaderAnswer.the-variants.{Right, Wrong}
-use Rattle.day_figures.specs.Rows.{figuresOf, allFigures}
-use Rattle.day_figures.specs.Both.{Both, both, enough}
-use Rattle.day_figures.proofs.RowsLaws.{figuresMost, figures-at-most, Small, small-nil, small-written, small-figures}
-use Rattle.logfile.specs.Row.{rowAt, lapsesIn}
-use Rattle.logfile.specs.File.{isVersion, fileHeader, fileLengthAs, cellsRight}
-use Rattle.logfile.specs.Read.{readNumber, markSize, readCells, readFields, readFile}
-use Rattle.logfile.proofs.FileLaws.{file-header-right}
-use Rattle.logfile.proofs.RowLaws.{read-is-cell}
-use Rattle.logfile.specs.declared.read.ReadAnswer.{ReadAnswer}
-use Rattle.logfile.specs.declared.read.ReadAnswer.the-variants.{Done, WrongMark, WrongVersion, WrongHeader, WrongLength, WrongCrc, WrongCell, TooShort}
-use Rattle.dayreport.specs.Text.{lineFeed, headingText, lineMost}
-use Rattle.dayreport.proofs.TextLaws.{Never, text-fits}
+use Rattle.log_header.specs.Header.{headerSize, daysMost, imageMost, lengthOf, isHeader, markRight, versionAt, ifRight}
+use Rattle.log_header.proofs.HeaderLaws.{image-most}
+use Rattle.log_header.specs.declared.header.Header.{Header}
+use Rattle.log_header.specs.declared.header.HeaderAnswer.{HeaderAnswer}
+use Rattle.log_header.specs.declared.header.HeaderAnswer.the-variants.{Right, Wrong}
+use Rattle.day_rows.specs.Rows.{figuresOf, allFigures}
+use Rattle.day_rows.specs.LogAndRows.{LogAndRows, logAndRows, enough}
+use Rattle.day_rows.proofs.RowsLaws.{figuresMost, figures-at-most, Small, small-nil, small-written, small-figures}
+use Rattle.log_file.specs.Row.{rowAt, lapsesIn}
+use Rattle.log_file.specs.File.{isVersion, fileHeader, fileLengthAs, cellsRight}
+use Rattle.log_file.specs.Read.{readNumber, markSize, readCells, readFields, readFile}
+use Rattle.log_file.proofs.FileLaws.{file-header-right}
+use Rattle.log_file.proofs.RowLaws.{read-is-cell}
+use Rattle.log_file.specs.declared.read.ReadAnswer.{ReadAnswer}
+use Rattle.log_file.specs.declared.read.ReadAnswer.the-variants.{Done, WrongMark, WrongVersion, WrongHeader, WrongLength, WrongCrc, WrongCell, TooShort}
+use Rattle.day_report.specs.Text.{lineFeed, headingText, lineMost}
+use Rattle.day_report.proofs.TextLaws.{Never, text-fits}
 use Rattle.log.specs.View.{viewOf}
-use Rattle.dayreport.proofs.DayLaws.{line-past, line-room}
-use Rattle.dayreport.proofs.StripLaws.{stripMost, strip-past, strip-room}
+use Rattle.day_report.proofs.DayLaws.{line-past, line-room}
+use Rattle.day_report.proofs.StripLaws.{stripMost, strip-past, strip-room}
 use Rattle.report_page.specs.Page.{refusedText, refusedLine, reportLine, imageIn, readLine, room, figuresRoom, pageLine, stripLine}
 
 pub length-refused : (n : ℕ) → length (refusedText n) ≡ 9 + length (decimal n)
@@ -53,16 +53,16 @@ written-refused s n =
 -- ---- what a file gives
 
 -- what holds of every refusal but 1, and of what a file with a right header gives by its cells, holds of what it gives
-module _ (P : Outcome ReadAnswer Both → Type 0) (f out figs : List ℕ) (other : (a : ReadAnswer) → 1 < readNumber a → P (outcome a (both out figs)))
+module _ (P : Outcome ReadAnswer LogAndRows → Type 0) (f out figs : List ℕ) (other : (a : ReadAnswer) → 1 < readNumber a → P (outcome a (logAndRows out figs)))
     (cells : (h : Header) → isHeader h ≡ true → P (readCells f h out figs)) where
   by-fields : P (readFields f out figs)
   unfolding readFields
   by-fields = either P (leb headerSize (length f)) (go (fileHeader f) refl) (other WrongHeader (omega arith))
     where
       go : (a : HeaderAnswer) → fileHeader f ≡ a
-          → P (ifRight a (outcome WrongHeader (both out figs)) (λ h.
-          check (eqb (length f) (fileLengthAs (versionAt f) h)) (outcome WrongLength (both out figs)) (
-          check (crcFits f) (outcome WrongCrc (both out figs)) (
+          → P (ifRight a (outcome WrongHeader (logAndRows out figs)) (λ h.
+          check (eqb (length f) (fileLengthAs (versionAt f) h)) (outcome WrongLength (logAndRows out figs)) (
+          check (crcFits f) (outcome WrongCrc (logAndRows out figs)) (
           readCells f h out figs))))
       go Wrong p = other WrongHeader (omega arith)
       go (Right h) p =
@@ -88,7 +88,7 @@ figures-size = length-replicate {A = ℕ} figuresMost 0
 -- ---- no file is refused for want of room
 
 -- the answer is not 1
-abbrev Room : Outcome ReadAnswer Both → Type 0
+abbrev Room : Outcome ReadAnswer LogAndRows → Type 0
 Room o = readNumber (o .result) ≡ 1 → ⊥
 
 cells-room : (f : List ℕ) (h : Header) (out figs : List ℕ) → lengthOf h ≤ length out → figuresOf h ≤ length figs → Room (readCells f h out figs)
@@ -104,7 +104,7 @@ never-short f =
 
 -- ---- as many figures as the longest log has, each of 32 bits
 
-abbrev Kept : Outcome ReadAnswer Both → Type 0
+abbrev Kept : Outcome ReadAnswer LogAndRows → Type 0
 Kept o = (length (o .left .figures) ≡ figuresMost) × Small (o .left .figures)
 
 small-zeros : (n : ℕ) → Small (replicate n 0)

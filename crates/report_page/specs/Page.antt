@@ -8,17 +8,17 @@ use lib.ListN.{take, replicate}
 use Rattle.refusal.specs.Outcome.{Outcome, outcome}
 use Rattle.text.specs.Ascii.{ascii}
 use Rattle.text.specs.Decimal.{decimal}
-use Rattle.dayreport.specs.declared.answer.TextAnswer.{TextAnswer}
-use Rattle.dayreport.specs.declared.answer.TextAnswer.the-variants.{NotInLog}
-use Rattle.dayreport.specs.Text.{lineFeed, headingText, putText}
-use Rattle.dayreport.specs.Day.{dayText}
-use Rattle.dayreport.specs.Strip.{stripText}
-use Rattle.log.specs.Header.{imageMost, daysMost, soundOf}
+use Rattle.day_report.specs.declared.answer.TextAnswer.{TextAnswer}
+use Rattle.day_report.specs.declared.answer.TextAnswer.the-variants.{NotInLog}
+use Rattle.day_report.specs.Text.{lineFeed, headingText, putText}
+use Rattle.day_report.specs.Day.{dayText}
+use Rattle.day_report.specs.Strip.{stripText}
+use Rattle.log_header.specs.Header.{imageMost, daysMost, soundOf}
 use Rattle.log.specs.View.{viewOf}
-use Rattle.day_figures.specs.Figures.{rowNumbers}
-use Rattle.day_figures.specs.Both.{Both}
-use Rattle.logfile.specs.Read.{readNumber, ifRead, readFile}
-use Rattle.logfile.specs.declared.read.ReadAnswer.{ReadAnswer}
+use Rattle.day_rows.specs.Figures.{rowNumbers}
+use Rattle.day_rows.specs.LogAndRows.{LogAndRows}
+use Rattle.log_file.specs.Read.{readNumber, ifRead, readFile}
+use Rattle.log_file.specs.declared.read.ReadAnswer.{ReadAnswer}
 
 -- "as `refused 31`"
 unfoldable pub refusedText : ℕ → List ℕ
@@ -45,7 +45,7 @@ unfoldable pub imageIn : ReadAnswer → List ℕ → List ℕ
 imageIn read given = take (ifRead read 0 (λ n. n)) given
 
 -- the report of the image where the file was read, else the refusal
-unfoldable pub readLine : ReadAnswer → Both → ℕ → List ℕ → Outcome TextAnswer (List ℕ)
+unfoldable pub readLine : ReadAnswer → LogAndRows → ℕ → List ℕ → Outcome TextAnswer (List ℕ)
 readLine read given i out =
     cond (eqb (readNumber read) 0) (reportLine (imageIn read (given .log)) (given .figures) i out) (refusedLine (readNumber read) i out)
 

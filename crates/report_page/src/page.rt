@@ -2,10 +2,10 @@
 ghost use mathlib.Core.Path.{_≡_};
 ghost use lib.ListN.{take};
 ghost use Rattle.refusal.specs.Outcome.{outcome};
-ghost use Rattle.day_figures.specs.Both.{both};
+ghost use Rattle.day_rows.specs.LogAndRows.{logAndRows};
 ghost use Rattle.report_page.specs.Page.{refusedLine, reportLine, readLine, pageLine, stripLine};
-use dayreport::TextAnswer;
-use logfile::ReadAnswer;
+use day_report::TextAnswer;
+use log_file::ReadAnswer;
 
 // The most days that a log has.
 pub const DAYS_MOST: u8 = 62;
@@ -17,9 +17,9 @@ pub const LINES_MOST: u8 = DAYS_MOST + 1;
 pub fn put_page_line(file: &[u8], i: u8, out: &mut [u8]) -> TextAnswer
     ensures { λ r. ⌜ outcome r (now (out .exit)) ≡ pageLine (now (file .entry)) i (now (out .entry)) ⌝ }
 {
-    let mut room = [0u8; log::IMAGE_MOST];
-    let mut figures = [0u32; day_figures::FIGURES_MOST];
-    let answer = logfile::read_file(file, &mut room, &mut figures);
+    let mut room = [0u8; log_header::IMAGE_MOST];
+    let mut figures = [0u32; day_rows::FIGURES_MOST];
+    let answer = log_file::read_file(file, &mut room, &mut figures);
     put_read_line(answer, &room, &figures, i, out)
 }
 
@@ -27,10 +27,10 @@ pub fn put_page_line(file: &[u8], i: u8, out: &mut [u8]) -> TextAnswer
 pub fn put_strip_line(file: &[u8], day: u8, out: &mut [u8]) -> TextAnswer
     ensures { λ r. ⌜ outcome r (now (out .exit)) ≡ stripLine (now (file .entry)) day (now (out .entry)) ⌝ }
 {
-    let mut room = [0u8; log::IMAGE_MOST];
-    let mut figures = [0u32; day_figures::FIGURES_MOST];
-    let answer = logfile::read_file(file, &mut room, &mut figures);
-    dayreport::put_strip(front(&room, answer.length_or(0)), day, out)
+    let mut room = [0u8; log_header::IMAGE_MOST];
+    let mut figures = [0u32; day_rows::FIGURES_MOST];
+    let answer = log_file::read_file(file, &mut room, &mut figures);
+    day_report::put_strip(front(&room, answer.length_or(0)), day, out)
 }
 
 // The image that was read stands at the front of the room that it was given, and its figures at the front of theirs.
@@ -41,7 +41,7 @@ fn put_read_line(
     i: u8,
     out: &mut [u8],
 ) -> TextAnswer
-    ensures { λ r. ⌜ outcome r (now (out .exit)) ≡ readLine answer (both (now (room .entry)) (now (figures .entry))) i (now (out .entry)) ⌝ }
+    ensures { λ r. ⌜ outcome r (now (out .exit)) ≡ readLine answer (logAndRows (now (room .entry)) (now (figures .entry))) i (now (out .entry)) ⌝ }
 {
     let number = answer.number();
     if number == refusal::DONE {
@@ -55,9 +55,9 @@ fn put_report_line(image: &[u8], figures: &[u32], i: u8, out: &mut [u8]) -> Text
     ensures { λ r. ⌜ outcome r (now (out .exit)) ≡ reportLine (now (image .entry)) (now (figures .entry)) i (now (out .entry)) ⌝ }
 {
     if i == 0 {
-        return dayreport::put_heading(out);
+        return day_report::put_heading(out);
     }
-    dayreport::put_day(image, figures, i - 1, out)
+    day_report::put_day(image, figures, i - 1, out)
 }
 
 fn put_refused_line(number: u8, i: u8, out: &mut [u8]) -> TextAnswer

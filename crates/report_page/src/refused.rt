@@ -1,9 +1,9 @@
 // The line of a refusal.
 ghost use mathlib.Core.Path.{_≡_};
 ghost use Rattle.refusal.specs.Outcome.{outcome};
-ghost use Rattle.dayreport.specs.Text.{putText};
+ghost use Rattle.day_report.specs.Text.{putText};
 ghost use Rattle.report_page.specs.Page.{refusedText};
-use dayreport::TextAnswer;
+use day_report::TextAnswer;
 
 // The bytes of `refused `.
 const WORD_BYTES: usize = 8;
@@ -17,8 +17,8 @@ pub fn put_refused(number: u8, out: &mut [u8]) -> TextAnswer
     if out.len() <= end {
         return TextAnswer::TooShort;
     }
-    words::put_bytes(out, 0, b"refused ");
+    byte_numbers::put_bytes(out, 0, b"refused ");
     text::put_decimal(out, WORD_BYTES, number as u64);
-    words::put_byte(out, end, LINE_FEED);
+    byte_numbers::put_byte(out, end, LINE_FEED);
     TextAnswer::Done(end + 1)
 }

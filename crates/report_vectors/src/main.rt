@@ -6,9 +6,9 @@
 // two documents, and not by this code.
 ghost use mathlib.Core.Path.{_≡_};
 ghost use lib.ListN.{take};
-use dayreport::LINE_MOST;
-use dayreport::STRIP_MOST;
-use dayreport::TextAnswer;
+use day_report::LINE_MOST;
+use day_report::STRIP_MOST;
+use day_report::TextAnswer;
 use libc::STDOUT_FILENO;
 
 // Where the file's version stands, the rows of the day's first slot and of that at 02:00, and the CRC. Rows have nine bytes before version 3.
@@ -16,7 +16,7 @@ const VERSION: usize = 3;
 
 const EARLY_ROW: usize = 9;
 
-const SLOT_0: usize = log::HEADER_BYTES;
+const SLOT_0: usize = log_header::HEADER_BYTES;
 
 const SLOT_4: usize = SLOT_0 + 4 * EARLY_ROW;
 
@@ -67,13 +67,13 @@ fn third_version() {
 // The file of version 3 with this header, measured in the first row, with 7 lapses, empty in the next, and 255 lapses at a place.
 fn show_last(header: &[u8], lapses: usize) {
     let mut file = [0u8; LAST_FILE];
-    words::put_bytes(&mut file, 0, header);
-    words::put_bytes(
+    byte_numbers::put_bytes(&mut file, 0, header);
+    byte_numbers::put_bytes(
         &mut file,
         SLOT_0,
         b"\x02\x0C\x00\x00\x00\x03\x00\x00\x00\x07\x01",
     );
-    words::put_bytes(&mut file, lapses, b"\xFF");
+    byte_numbers::put_bytes(&mut file, lapses, b"\xFF");
     frame::seal(&mut file, LAST_CRC);
     lines(&file);
     strip(&file);
@@ -82,15 +82,15 @@ fn show_last(header: &[u8], lapses: usize) {
 // The file with this header, measured in the row at a place and empty in the next.
 fn file(header: &[u8], row: usize) -> [u8; FILE] {
     let mut file = [0u8; FILE];
-    words::put_bytes(&mut file, 0, header);
-    words::put_bytes(&mut file, row, b"\x02\x0C\x00\x00\x00\x03\x00\x00\x00\x01");
+    byte_numbers::put_bytes(&mut file, 0, header);
+    byte_numbers::put_bytes(&mut file, row, b"\x02\x0C\x00\x00\x00\x03\x00\x00\x00\x01");
     frame::seal(&mut file, CRC);
     file
 }
 
 // The file with other bytes at a place.
 fn with(mut file: [u8; FILE], at: usize, bytes: &[u8]) -> [u8; FILE] {
-    words::put_bytes(&mut file, at, bytes);
+    byte_numbers::put_bytes(&mut file, at, bytes);
     file
 }
 

@@ -5,14 +5,14 @@ use Prim.Native.Nat.{ℕ, _-_, _≤_}
 use native.Mathlib.Omega.{arith}
 use lib.Dec.{leb, ltb, lit≤}
 use borrow.Author.Tests.{lt-ltb, ltb-true}
-use Rattle.case_laws.proofs.Test.{both}
+use Rattle.test_laws.proofs.Test.{both}
 use Rattle.slots.specs.Key.{isLegal}
 use Rattle.slots.specs.declared.key.Key.{Key}
-use Rattle.frame.specs.Table.{rowOf, opensTo, parameterOf}
-use Rattle.frame.proofs.TableLaws.{reply-small}
-use Rattle.frame.specs.declared.code.Parameter.{Parameter}
-use Rattle.frame.specs.declared.table.Fields.{Fields}
-use Rattle.frame.specs.declared.table.Fields.the-variants.{Unused, Phase, Slot, SixSlots}
+use Rattle.parameters.specs.Table.{parameterRow, opensTo, parameterOf}
+use Rattle.parameters.proofs.TableLaws.{reply-small}
+use Rattle.parameters.specs.declared.code.Parameter.{Parameter}
+use Rattle.parameters.specs.declared.table.Fields.{Fields}
+use Rattle.parameters.specs.declared.table.Fields.the-variants.{Unused, Phase, Slot, SixSlots}
 use Rattle.request.specs.Subject.{keyOf, fieldsFit, subjectFor, subjectOf, mostSlots, askable, dataBytes}
 use Rattle.request.specs.declared.request.Request.{Request}
 use Rattle.request.specs.declared.subject.Subject.{Subject}
@@ -21,15 +21,15 @@ use Rattle.request.specs.declared.subject.Subject.the-variants.{Figures,
 -- ---- what a request that asks for something asks for
 
 pub record Asked (p : Parameter) (q : Request) (slots : ℕ) : Type 0 where
-  pub open-to : opensTo (q .reading) (rowOf p) ≡ true
-  pub fits : fieldsFit ((rowOf p) .fields) q slots ≡ true
+  pub open-to : opensTo (q .reading) (parameterRow p) ≡ true
+  pub fits : fieldsFit ((parameterRow p) .fields) q slots ≡ true
   pub subject : subjectFor p q slots ≡ Figures (q .reading) p (q .detail)
 
 pub asked : (p : Parameter) (q : Request) (slots : ℕ) → askable (subjectFor p q slots) ≡ true → Asked p q slots
 unfolding subjectFor
-asked p q slots = go (opensTo (q .reading) (rowOf p)) refl (fieldsFit ((rowOf p) .fields) q slots) refl
+asked p q slots = go (opensTo (q .reading) (parameterRow p)) refl (fieldsFit ((parameterRow p) .fields) q slots) refl
   where
-    go : (a : Bool) → opensTo (q .reading) (rowOf p) ≡ a → (b : Bool) → fieldsFit ((rowOf p) .fields) q slots ≡ b
+    go : (a : Bool) → opensTo (q .reading) (parameterRow p) ≡ a → (b : Bool) → fieldsFit ((parameterRow p) .fields) q slots ≡ b
         → askable (subjectFor p q slots) ≡ true → Asked p q slots
     go true e true g h = record { open-to = e; fits = g; subject = rw (e, g) }
     go true e false g h = absurd (false≢true (rw (e, g) at h))
@@ -55,7 +55,7 @@ pub subject-wider : (q : Request) (slots : ℕ) → slots ≤ mostSlots → aska
 unfolding subjectOf subjectFor
 subject-wider q slots h e =
     let a = asked (parameterOf (q .parameter)) q slots e in
-    rw (a .open-to, a .fits, fields-wider ((rowOf (parameterOf (q .parameter))) .fields) q slots mostSlots h (a .fits))
+    rw (a .open-to, a .fits, fields-wider ((parameterRow (parameterOf (q .parameter))) .fields) q slots mostSlots h (a .fits))
 
 -- ---- data bytes
 

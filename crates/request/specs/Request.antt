@@ -5,10 +5,10 @@ use mathlib.Core.List.{List, [], _∷_}
 use Prim.Native.Nat.{ℕ}
 use lib.Dec.{ltb}
 use lib.ListN.{length}
-use Rattle.words.specs.Place.{written}
+use Rattle.byte_numbers.specs.Place.{written}
 use Rattle.refusal.specs.Outcome.{Outcome, outcome}
 use Rattle.frame.specs.Sealing.{framed}
-use Rattle.frame.specs.Code.{readingCode}
+use Rattle.parameters.specs.Code.{readingCode}
 use Rattle.frame.specs.Layout.{readSize}
 use Rattle.request.specs.Subject.{subjectOf, askable, mostSlots}
 use Rattle.request.specs.declared.request.Request.{Request}

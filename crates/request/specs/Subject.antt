@@ -5,10 +5,10 @@ use Prim.Native.Nat.{ℕ, _-_}
 use lib.Dec.{eqb, leb}
 use Rattle.slots.specs.Key.{isLegal}
 use Rattle.slots.specs.declared.key.Key.{Key}
-use Rattle.frame.specs.Table.{rowOf, opensTo, parameterOf, replyBytes}
-use Rattle.frame.specs.declared.code.Parameter.{Parameter}
-use Rattle.frame.specs.declared.table.Fields.{Fields}
-use Rattle.frame.specs.declared.table.Fields.the-variants.{Unused, Phase, Slot, SixSlots}
+use Rattle.parameters.specs.Table.{parameterRow, opensTo, parameterOf, replyBytes}
+use Rattle.parameters.specs.declared.code.Parameter.{Parameter}
+use Rattle.parameters.specs.declared.table.Fields.{Fields}
+use Rattle.parameters.specs.declared.table.Fields.the-variants.{Unused, Phase, Slot, SixSlots}
 use Rattle.request.specs.declared.request.Request.{Request}
 use Rattle.request.specs.declared.subject.Subject.{Subject}
 use Rattle.request.specs.declared.subject.Subject.the-variants.{Figures, Nothing}
@@ -39,7 +39,7 @@ fieldsFit SixSlots q slots = isLegal (keyOf q) (slots - 5)
 -- by the parameter that is read: figures as they are stored, with function 3, or as they are displayed, with 4 (document 02, request 3)
 unfoldable pub subjectFor : Parameter → Request → ℕ → Subject
 subjectFor p q slots =
-    cond (opensTo (q .reading) (rowOf p) && fieldsFit ((rowOf p) .fields) q slots) (Figures (q .reading) p (q .detail)) Nothing
+    cond (opensTo (q .reading) (parameterRow p) && fieldsFit ((parameterRow p) .fields) q slots) (Figures (q .reading) p (q .detail)) Nothing
 
 -- what a request asks of a meter whose day has so many slots; nothing, where it would not answer with 0
 unfoldable pub subjectOf : Request → ℕ → Subject

@@ -2,10 +2,10 @@
 use crate::subject::MOST_SLOTS;
 use crate::subject::is_askable;
 use crate::subject::subject_of;
-use frame::code;
-use frame::code::Reading;
 use frame::layout::CRC_BYTES;
 use frame::layout::READ_BYTES;
+use parameters::code;
+use parameters::code::Reading;
 ghost use mathlib.Core.Path.{_≡_};
 ghost use Rattle.refusal.specs.Outcome.{outcome};
 ghost use Rattle.request.specs.Request.{requested, numberOf};
@@ -59,7 +59,7 @@ pub fn put_request(q: Request, out: &mut [u8]) -> RequestAnswer
             q.tariff,
             q.detail,
         ];
-        words::put_bytes(out, 0, &body);
+        byte_numbers::put_bytes(out, 0, &body);
         frame::seal(out, BODY_BYTES);
         RequestAnswer::Done
     } else {

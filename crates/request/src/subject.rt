@@ -1,9 +1,9 @@
 // What a request asks for.
 use crate::request::Request;
-use frame::code::Parameter;
-use frame::code::Reading;
-use frame::table;
-use frame::table::Fields;
+use parameters::code::Parameter;
+use parameters::code::Reading;
+use parameters::table;
+use parameters::table::Fields;
 use slots::Key;
 ghost use mathlib.Core.Path.{_≡_};
 ghost use Prim.Native.Nat.{_-_};
@@ -28,7 +28,7 @@ pub fn subject_of(q: Request, slots: u8) -> Subject
     ensures { λ r. ⌜ r ≡ subjectOf q slots ⌝ }
 {
     let p = table::parameter_of(q.parameter);
-    let row = table::row_of(p);
+    let row = table::parameter_row(p);
     let fields = row.fields;
     let reading = q.reading;
     if table::opens_to(reading, row) {

@@ -6,7 +6,7 @@ use mathlib.Core.Path.{_≡_, refl, sym, ap, _∙_}
 use mathlib.Core.Bool.{Bool, true, false, cond, _&&_, false≢true, and-false}
 use lib.Dec.{ltb, leb, eqb}
 use borrow.Author.Tests.{ltb-true, ltb-false, leb-true, eqb-true, lt-ltb, le-leb, eq-eqb}
-use Rattle.case_laws.proofs.Test.{both}
+use Rattle.test_laws.proofs.Test.{both}
 use Rattle.calendar.specs.Date.{lengthOf, isDate, monthNumber, dayNumber}
 use Rattle.calendar.specs.Sunday.{lastSunday, lastSundayOf}
 use Rattle.calendar.proofs.CountLaws.{ends-before}

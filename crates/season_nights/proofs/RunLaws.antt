@@ -8,7 +8,7 @@ use mathlib.Core.Logic.{_⊎_, inl, inr}
 use lib.Dec.{ltb, leb, eqb}
 use lib.Arith.{digits-lt}
 use borrow.Author.Tests.{ltb-true, ltb-false, leb-true, leb-false, eqb-true, eqb-false, lt-ltb, le-ltb, le-leb, lt-leb}
-use Rattle.case_laws.proofs.Test.{chosen}
+use Rattle.test_laws.proofs.Test.{chosen}
 use Rattle.calendar.specs.Date.{lengthOf, daysInMonth, daysBefore, centuryDays, isDate, monthNumber, dayNumber, dateOf, dateOn, daysLater}
 use Rattle.calendar.specs.Sunday.{lastSunday, lastSundayOf}
 use Rattle.calendar.proofs.CountLaws.{starts-mono, ends-before}

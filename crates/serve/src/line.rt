@@ -24,7 +24,7 @@ pub fn serve(fd: i32, count: u64, device: &[u8], store: &mut [u8], first: Record
 {
     let mut served = Served {
         meter: first,
-        seen: machine_clock::seconds(),
+        seen: file_io::seconds(),
         read: 0,
         answered: 0,
         open: true,
@@ -53,8 +53,8 @@ fn turn(fd: i32, device: &[u8], store: &mut [u8], s: Served) -> Served
         return Served { open: false, ..s };
     }
     let n = io::count(got, &frame);
-    let now = machine_clock::seconds();
-    let later = console_setup::seconds_later(s.meter, console_setup::seconds_between(s.seen, now));
+    let now = file_io::seconds();
+    let later = console_meter::seconds_later(s.meter, console_meter::seconds_between(s.seen, now));
     answer(
         fd,
         store,

@@ -34,7 +34,7 @@ pub enum Step {
 }
 
 pub fn made_by(path: &[u8], store: &mut [u8]) -> Ready {
-    let RecordAnswer::Done(first) = console_setup::first() else {
+    let RecordAnswer::Done(first) = console_meter::first() else {
         return Ready::Stopped;
     };
     let fd = os::open_read(path);

@@ -8,7 +8,7 @@ use native.Mathlib.Numerals.{add-one, add-two}
 use native.Mathlib.Omega.{arith}
 use borrow.Author.Tests.{le-leb, lt-leb}
 use lib.Dec.{leb}
-use Rattle.words.specs.Place.{written}
+use Rattle.byte_numbers.specs.Place.{written}
 use Rattle.text.specs.Decimal.{between}
 use Rattle.text.specs.declared.hex.HexAnswer.the-variants.{Value, NotHex}
 use Rattle.text.specs.Hex.{hexDigit, hexText, hexValue}

@@ -2,7 +2,7 @@
 use crate::decimal::put_two;
 use calendar::Date;
 ghost use mathlib.Core.Path.{_≡_};
-ghost use Rattle.words.specs.Place.{written};
+ghost use Rattle.byte_numbers.specs.Place.{written};
 ghost use Rattle.text.specs.DateText.{dateText};
 
 // A date counts its years from here.
@@ -17,9 +17,9 @@ pub fn put_date(out: &mut [u8], at: usize, d: Date)
         let year = FIRST_YEAR + d.year as u16;
         put_two(out, at, (year / 100) as u8);
         put_two(out, at + 2, (year % 100) as u8);
-        words::put_byte(out, at + 4, HYPHEN);
+        byte_numbers::put_byte(out, at + 4, HYPHEN);
         put_two(out, at + 5, d.month);
-        words::put_byte(out, at + 7, HYPHEN);
+        byte_numbers::put_byte(out, at + 7, HYPHEN);
         put_two(out, at + 8, d.day);
     }
 }

@@ -1,7 +1,7 @@
 // Numbers in decimal digits.
 ghost use mathlib.Core.Path.{_≡_};
 ghost use lib.ListN.{length};
-ghost use Rattle.words.specs.Place.{written};
+ghost use Rattle.byte_numbers.specs.Place.{written};
 ghost use Rattle.text.specs.Decimal.{decimal, padded};
 
 const TEN: u64 = 10;
@@ -26,12 +26,12 @@ pub fn put_decimal(out: &mut [u8], at: usize, n: u64) -> usize
         return decimal_length(n);
     }
     if n < TEN {
-        words::put_byte(out, at, ZERO + n as u8);
+        byte_numbers::put_byte(out, at, ZERO + n as u8);
         return 1;
     }
     // The last digit goes behind those of the tenth.
     let before = put_decimal(out, at, n / TEN);
-    words::put_byte(out, at + before, ZERO + (n % TEN) as u8);
+    byte_numbers::put_byte(out, at + before, ZERO + (n % TEN) as u8);
     before + 1
 }
 
@@ -40,7 +40,7 @@ pub fn put_two(out: &mut [u8], at: usize, n: u8)
     ensures { λ _. ⌜ now (out .exit) ≡ written (now (out .entry)) at (padded 2 n) ⌝ }
 {
     if at < out.len() {
-        words::put_byte(out, at, ZERO + n / 10 % 10);
-        words::put_byte(out, at + 1, ZERO + n % 10);
+        byte_numbers::put_byte(out, at, ZERO + n / 10 % 10);
+        byte_numbers::put_byte(out, at + 1, ZERO + n % 10);
     }
 }

@@ -1,7 +1,7 @@
 // Bytes in hexadecimal digits.
 ghost use mathlib.Core.Path.{_≡_};
 ghost use Prim.Native.Nat.{_<_};
-ghost use Rattle.words.specs.Place.{written};
+ghost use Rattle.byte_numbers.specs.Place.{written};
 ghost use Rattle.text.specs.Hex.{hexDigit, hexText, hexValue};
 
 pub enum HexAnswer {
@@ -39,8 +39,8 @@ pub fn put_hex(out: &mut [u8], at: usize, bytes: &[u8])
             return;
         }
         let byte = bytes[i];
-        words::put_byte(out, place, hex_digit(byte / 16));
-        words::put_byte(out, place + 1, hex_digit(byte % 16));
+        byte_numbers::put_byte(out, place, hex_digit(byte / 16));
+        byte_numbers::put_byte(out, place + 1, hex_digit(byte % 16));
         place += 2;
         i += 1;
     }

@@ -40,15 +40,15 @@ loop-again c =
     let more : i < length bytes = omega arith in
     rw (c .byte-more .ensures, add-one) (rw (drop-cons bytes i 0) at (loop .inv))
 
-settled-requires : tie.Need-settled-requires Inv-loop μ-loop
-settled-requires c κs = tt
+register-of-requires : tie.Need-register-of-requires Inv-loop μ-loop
+register-of-requires c κs = tt
 
 returns : tie.Need-returns Inv-loop μ-loop
 unfolding crcFrom
 returns c =
     let bytes = c .before .before .before .before .args .bytes .now in
     let past : length bytes ≤ c .before .before .loop .i = omega arith in
-    c .settled .ensures ∙ (rw (drop-of-length-le bytes past) at (c .before .before .loop .inv))
+    c .register-of .ensures ∙ (rw (drop-of-length-le bytes past) at (c .before .before .loop .inv))
 
 pub by-bytes-spec : {M : Type 1} → statement M
 by-bytes-spec =
@@ -62,5 +62,5 @@ by-bytes-spec =
     add-i
     loop-less
     loop-again
-    settled-requires
+    register-of-requires
     returns)

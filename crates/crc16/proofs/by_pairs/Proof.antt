@@ -2,8 +2,8 @@
 use Rattle.crc16.specs.Word.{register, pairRegister}
 use Rattle.crc16.proofs.WordLaws.{crcFrom-bytesOf, crcFrom-number}
 use Rattle.crc16.specs.Crc.{start, crcOf, crcFrom, times, bitStep}
-use Rattle.words.specs.Place.{numberAt}
-use Rattle.words.specs.Number.{bytesOf}
+use Rattle.byte_numbers.specs.Place.{numberAt}
+use Rattle.byte_numbers.specs.Number.{bytesOf}
 use borrow.Author.Needs.{needs}
 use lib.ListN.{length, drop}
 use native.Mathlib.Nat.{zero-add}

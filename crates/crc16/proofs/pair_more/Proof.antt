@@ -3,7 +3,7 @@ use Rattle.crc16.proofs.Word.{more-pair}
 use Rattle.crc16.specs.Word.{register, pairRegister}
 use Rattle.crc16.proofs.WordLaws.{crcFrom-bytesOf}
 use Rattle.crc16.specs.Crc.{crcFrom}
-use Rattle.words.specs.Number.{bytesOf}
+use Rattle.byte_numbers.specs.Number.{bytesOf}
 use lib.Bits.{bitXor}
 use Prim.Native.Nat.{ℕ}
 use mathlib.Core.Path.{sym, ap, _∙_}

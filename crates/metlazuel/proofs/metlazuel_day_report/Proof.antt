@@ -1,11 +1,11 @@
 -- `metlazuel_day_report` meets its contract: row and answer are what `day_report` ensures, and `number` ensures the answer's number.
 use Rattle.metlazuel.specs.Calls.{numbered}
-use Rattle.dayreport.specs.Report.{reportNumber}
+use Rattle.day_report.specs.Report.{reportNumber}
 use mathlib.Core.Path.{ap}
 use Prim.Native.Nat.{ℕ}
 use borrow.Author.Needs.{needs}
 use Rattle.refusal.specs.Outcome.{Outcome}
-use Rattle.dayreport.specs.declared.report.ReportAnswer.{ReportAnswer}
+use Rattle.day_report.specs.declared.report.ReportAnswer.{ReportAnswer}
 use mathlib.Core.List.{List}
 use Rattle.metlazuel.proofs.metlazuel_day_report.Statement.{statement}
 use Rattle.metlazuel.proofs.metlazuel_day_report.Tie as tie

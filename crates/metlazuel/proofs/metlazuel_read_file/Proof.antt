@@ -1,12 +1,12 @@
 -- `metlazuel_read_file` meets its contract: what is told is what `read_file` ensures, with its number and the length that `length_or` ensures.
 use Rattle.metlazuel.specs.Calls.{sized}
 use Rattle.metlazuel.specs.LogCalls.{lengthAfter}
-use Rattle.logfile.specs.Read.{readNumber}
+use Rattle.log_file.specs.Read.{readNumber}
 use mathlib.Core.Path.{ap}
 use borrow.Author.Needs.{needs}
 use Rattle.refusal.specs.Outcome.{Outcome}
-use Rattle.logfile.specs.declared.read.ReadAnswer.{ReadAnswer}
-use Rattle.day_figures.specs.Both.{Both}
+use Rattle.log_file.specs.declared.read.ReadAnswer.{ReadAnswer}
+use Rattle.day_rows.specs.LogAndRows.{LogAndRows}
 use Rattle.metlazuel.proofs.metlazuel_read_file.Statement.{statement}
 use Rattle.metlazuel.proofs.metlazuel_read_file.Tie as tie
 
@@ -33,7 +33,7 @@ returns c =
     simp (
       c .number .ensures,
       c .before .length-or .ensures,
-    ) (ap (λ (o : Outcome ReadAnswer Both). sized readNumber lengthAfter o (args .length .now)) (read .read-file .ensures))
+    ) (ap (λ (o : Outcome ReadAnswer LogAndRows). sized readNumber lengthAfter o (args .length .now)) (read .read-file .ensures))
 
 pub metlazuel-read-file-spec : {M : Type 1} → statement M
 metlazuel-read-file-spec =

@@ -1,6 +1,6 @@
 -- `put_at` meets its contract: one number is stored within the row, and none past its end (`written-past`).
-use Rattle.words.proofs.PlaceLaws.{written-past}
-use Rattle.words.specs.Place.{written}
+use Rattle.byte_numbers.proofs.PlaceLaws.{written-past}
+use Rattle.byte_numbers.specs.Place.{written}
 use mathlib.Core.Path.{sym}
 use borrow.Author.Needs.{needs}
 use Rattle.c_mercury.proofs.decoding.put_at.Statement.{statement}

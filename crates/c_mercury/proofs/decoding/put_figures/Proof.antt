@@ -1,6 +1,6 @@
 -- `put_figures` meets its contract: each arm writes its clause of `figureRow`; a refusal writes nothing.
 use Rattle.c_mercury.specs.Calls.{figureRow}
-use Rattle.words.specs.Place.{written}
+use Rattle.byte_numbers.specs.Place.{written}
 use borrow.Author.Needs.{needs}
 use Rattle.c_mercury.proofs.decoding.put_figures.Statement.{statement}
 use Rattle.c_mercury.proofs.decoding.put_figures.Tie as tie

@@ -1,5 +1,5 @@
 -- `put_four` meets its contract: four stores in a row are their numbers written one behind the other (`onward`).
-use Rattle.words.proofs.PlaceLaws.{onward}
+use Rattle.byte_numbers.proofs.PlaceLaws.{onward}
 use Prim.Native.Nat.{_+_}
 use mathlib.Core.List.{[], _∷_}
 use mathlib.Core.Path.{refl}

@@ -1,5 +1,5 @@
 -- `put_frequency` meets its contract: two runs of four numbers are the eight of `frequencyRow` (`onward`).
-use Rattle.words.proofs.PlaceLaws.{onward}
+use Rattle.byte_numbers.proofs.PlaceLaws.{onward}
 use mathlib.Core.Path.{refl}
 use borrow.Author.Needs.{needs}
 use Rattle.c_mercury.proofs.decoding.put_frequency.Statement.{statement}

@@ -1,5 +1,5 @@
 -- `put_load` meets its contract: three stores in a row are the numbers of `loadRow`.
-use Rattle.words.specs.Place.{written}
+use Rattle.byte_numbers.specs.Place.{written}
 use borrow.Author.Needs.{needs}
 use Rattle.c_mercury.proofs.decoding.put_load.Statement.{statement}
 use Rattle.c_mercury.proofs.decoding.put_load.Tie as tie

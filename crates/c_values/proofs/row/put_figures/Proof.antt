@@ -1,6 +1,6 @@
 -- `put_figures` meets its contract: each arm puts the row that `figureRow` gives for that reply, and a refused reply has an empty row, which writes nothing.
 use mathlib.Core.Path.{sym}
-use Rattle.words.specs.Place.{written}
+use Rattle.byte_numbers.specs.Place.{written}
 use Rattle.c_values.specs.Row.{figureRow}
 use borrow.Author.Needs.{needs}
 use Rattle.c_values.proofs.row.put_figures.Statement.{statement}

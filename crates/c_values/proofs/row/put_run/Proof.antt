@@ -7,8 +7,8 @@ use native.Mathlib.Numerals.{add-one}
 use native.Mathlib.Omega.{arith}
 use lib.ListN.{length, getD, drop, length-set, drop-of-length-le}
 use lib.Seq.{drop-cons}
-use Rattle.words.specs.Place.{written}
-use Rattle.words.proofs.PlaceLaws.{written-past}
+use Rattle.byte_numbers.specs.Place.{written}
+use Rattle.byte_numbers.proofs.PlaceLaws.{written-past}
 use Rattle.c_values.proofs.row.put_run.Statement.{statement}
 use Rattle.c_values.proofs.row.put_run.Tie as tie
 

@@ -1,6 +1,6 @@
 -- `put_six` meets its contract: each four counts are written where the four before them end, so by `onward` the six writes are one write of `sixRow`.
 use mathlib.Core.Path.{refl}
-use Rattle.words.proofs.PlaceLaws.{onward}
+use Rattle.byte_numbers.proofs.PlaceLaws.{onward}
 use Rattle.c_values.specs.Row.{sixRow, countsRow}
 use borrow.Author.Needs.{needs}
 use Rattle.c_values.proofs.row.put_six.Statement.{statement}

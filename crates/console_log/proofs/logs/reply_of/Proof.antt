@@ -1,6 +1,6 @@
 -- `reply_of` meets its contract: the image was tested to have `length` bytes, so `take_reply` is lent that part, and what stands behind it stays.
 use Rattle.console_log.specs.Log.{replyOf, replyTaken}
-use Rattle.day_figures.specs.Both.{both}
+use Rattle.day_rows.specs.LogAndRows.{logAndRows}
 use borrow.Author.Tests.{lt-ltb, le-ltb}
 use lib.Seq.{length-take-le}
 use mathlib.Core.Path.{sym, ap}
@@ -39,7 +39,7 @@ returns-2 c =
     let at-if1 = c .before .before .before .before .before .before .before .before .if1 in
     let at-args = c .before .before .before .before .before .before .before .before .before .before .before .before .args in
     let at-take-reply = c .before .before .before .before .before .take-reply in
-    rw (le-ltb _ _ (at-if1 .left)) (ap (replyTaken (both (at-args .image .now) (at-args .figures .now)) (at-args .kept)) (at-take-reply .ensures))
+    rw (le-ltb _ _ (at-if1 .left)) (ap (replyTaken (logAndRows (at-args .image .now) (at-args .figures .now)) (at-args .kept)) (at-take-reply .ensures))
 
 pub reply-of-spec : {M : Type 1} → statement M
 reply-of-spec =

@@ -1,4 +1,4 @@
--- `set` meets its contract: the answer and the store are those of `console_setup`'s line.
+-- `set` meets its contract: the answer and the store are those of the line that sets the meter.
 use mathlib.Core.Path.{ap}
 use Rattle.console_meter.specs.Lines.{setOf}
 use borrow.Author.Needs.{needs}

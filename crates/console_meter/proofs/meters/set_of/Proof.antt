@@ -1,5 +1,5 @@
--- `set_of` meets its contract: each answer of `set` is a clause of `settled`.
-use Rattle.console_meter.specs.Lines.{settled}
+-- `set_of` meets its contract: each answer of `set` is a clause of `setAnswered`.
+use Rattle.console_meter.specs.Lines.{setAnswered}
 use borrow.Author.Needs.{needs}
 use Rattle.console_meter.proofs.meters.set_of.Statement.{statement}
 use Rattle.console_meter.proofs.meters.set_of.Tie as tie
@@ -20,13 +20,13 @@ unread-requires : tie.Need-unread-requires
 unread-requires c κs = search needs
 
 returns : tie.Need-returns
-unfolding settled
+unfolding setAnswered
 returns c =
     let at-answer = c .before .before .before .answer in
     rw (at-answer .given .1, c .before .number .ensures, c .record-after .ensures)
 
 returns-2 : tie.Need-returns-2
-unfolding settled
+unfolding setAnswered
 returns-2 c = rw (c .before .enum-told .given .1, c .unread .ensures)
 
 pub set-of-spec : {M : Type 1} → statement M

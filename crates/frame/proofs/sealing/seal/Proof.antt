@@ -3,9 +3,9 @@ use mathlib.Core.Path.{sym, ap, _∙_}
 use Prim.Native.Nat.{ℕ}
 use native.Mathlib.Omega.{arith}
 use lib.Seq.{length-take-le}
-use Rattle.words.specs.Number.{bytesOf}
-use Rattle.words.specs.Place.{written}
-use Rattle.words.proofs.PlaceLaws.{written-past}
+use Rattle.byte_numbers.specs.Number.{bytesOf}
+use Rattle.byte_numbers.specs.Place.{written}
+use Rattle.byte_numbers.proofs.PlaceLaws.{written-past}
 use Rattle.frame.specs.Sealing.{sealed}
 use borrow.Author.Needs.{needs}
 use Rattle.frame.proofs.sealing.seal.Statement.{statement}

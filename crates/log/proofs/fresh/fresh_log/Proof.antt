@@ -1,8 +1,8 @@
 -- `fresh_log` meets its contract: `is_header` and the room are the cases of `freshOf`; a header and zeros behind it are the image (`fresh-written`).
 use Rattle.log.specs.Fresh.{freshOf}
-use Rattle.log.proofs.HeaderLaws.{header-in}
+use Rattle.log_header.proofs.HeaderLaws.{header-in}
 use Rattle.log.proofs.FreshLaws.{fresh-written}
-use Rattle.words.proofs.PlaceLaws.{length-written}
+use Rattle.byte_numbers.proofs.PlaceLaws.{length-written}
 use Rattle.refusal.specs.Outcome.{outcome}
 use borrow.Author.Tests.{le-leb, lt-leb}
 use mathlib.Core.Path.{sym, ap}

@@ -3,8 +3,8 @@ use lib.ListN.{length, replicate, length-set}
 use Prim.Native.Nat.{ℕ, _-_, _≤_}
 use mathlib.Core.Path.{_≡_, refl, sym, ap, _∙_}
 use native.Mathlib.Omega.{arith}
-use Rattle.words.specs.Place.{written}
-use Rattle.log.specs.Header.{headerSize}
+use Rattle.byte_numbers.specs.Place.{written}
+use Rattle.log_header.specs.Header.{headerSize}
 use Rattle.log.proofs.FreshLaws.{zero-put}
 use Rattle.log.proofs.fresh.write_gaps.Statement.{statement}
 use Rattle.log.proofs.fresh.write_gaps.Tie as tie

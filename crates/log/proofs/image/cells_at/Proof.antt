@@ -1,6 +1,6 @@
 -- `cells_at` meets its contract: days and minutes are `headerAt`'s, and the product of two bytes fits.
 use Rattle.log.specs.Image.{cellsAt}
-use Rattle.log.specs.Header.{cellsOf, headerAt}
+use Rattle.log_header.specs.Header.{cellsOf, headerAt}
 use Prim.Native.Nat.{_≤_}
 use native.Mathlib.Nat.{mul-le-mul}
 use native.Mathlib.Omega.{arith}

@@ -2,7 +2,7 @@
 use native.Mathlib.Omega.{arith}
 use mathlib.Core.Path.{sym}
 use Prim.Native.Nat.{_+_}
-use Rattle.log.proofs.ByteLaws.{two}
+use Rattle.byte_numbers.proofs.ByteLaws.{two}
 use borrow.Author.Needs.{needs}
 use Rattle.log.proofs.image.count_in.Statement.{statement}
 use Rattle.log.proofs.image.count_in.Tie as tie

@@ -1,6 +1,6 @@
 -- `put_lapses_among` meets its contract: past the last cell nothing, else the byte written at the place, which with the room of all cells is there.
 use borrow.Author.Tests.{lt-ltb, le-ltb}
-use Rattle.words.specs.Place.{written}
+use Rattle.byte_numbers.specs.Place.{written}
 use Rattle.log.specs.Image.{putLapsesAmong}
 use borrow.Author.Needs.{needs}
 use Rattle.log.proofs.image.put_lapses_among.Statement.{statement}

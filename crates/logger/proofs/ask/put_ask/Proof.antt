@@ -1,8 +1,8 @@
 -- Each way out tells what the checks before it found; an interval of a sound log gives what the frame needs.
 use mathlib.Core.Path.{sym, _∙_}
 use borrow.Author.Tests.{lt-ltb, le-ltb}
-use Rattle.log.proofs.IntervalLaws.{in-log}
-use Rattle.log.proofs.HeaderLaws.{sound-log}
+use Rattle.log_header.proofs.IntervalLaws.{in-log}
+use Rattle.log_header.proofs.HeaderLaws.{sound-log}
 use Rattle.logger.specs.Ask.{asked}
 use borrow.Author.Needs.{needs}
 use Rattle.logger.proofs.ask.put_ask.Statement.{statement}

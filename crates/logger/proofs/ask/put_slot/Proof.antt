@@ -5,8 +5,8 @@ use Rattle.request.specs.declared.request.RequestAnswer.{RequestAnswer}
 use mathlib.Core.List.{List}
 use Rattle.logger.specs.Ask.{dateOfDay, sliceRequest}
 use Rattle.request.specs.Request.{requested}
-use Rattle.log.specs.declared.interval.DayAnswer.the-variants.{On, Outside}
-use Rattle.log.proofs.IntervalLaws.{day-on}
+use Rattle.log_header.specs.declared.interval.DayAnswer.the-variants.{On, Outside}
+use Rattle.log_header.proofs.IntervalLaws.{day-on}
 use Rattle.calendar.specs.declared.date.Date.{Date}
 use native.Mathlib.Omega.{arith}
 use Prim.Native.Nat.{ℕ}

@@ -1,6 +1,6 @@
 -- `frequency_of` meets its contract: the number of two bytes, below 10,000 and so of 16 bits, and the seven bytes behind it.
 use Rattle.mercury.specs.Data.{frequencyOf}
-use Rattle.packed.proofs.PackedLaws.{decimal-at-small}
+use Rattle.packed_decimal.proofs.PackedLaws.{decimal-at-small}
 use native.Mathlib.Omega.{arith}
 use mathlib.Core.Path.{sym, _∙_}
 use borrow.Author.Needs.{needs}

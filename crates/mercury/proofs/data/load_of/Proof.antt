@@ -1,6 +1,6 @@
 -- `load_of` meets its contract: each answer is that of the first number that is none, or of all three; those of two bytes have 16 bits.
 use Rattle.mercury.specs.Data.{loadOf}
-use Rattle.packed.proofs.PackedLaws.{decimal-at-small}
+use Rattle.packed_decimal.proofs.PackedLaws.{decimal-at-small}
 use native.Mathlib.Omega.{arith}
 use mathlib.Core.Path.{sym, _∙_}
 use borrow.Author.Needs.{needs}

@@ -1,7 +1,7 @@
 -- `put_frequency` meets its contract: two bytes of digits and behind them the seven bytes are `frequencyBytes`.
 use Rattle.mercury.specs.Data.{frequencyBytes}
-use Rattle.packed.proofs.PackedLaws.{length-packedOf}
-use Rattle.words.proofs.PlaceLaws.{written-append}
+use Rattle.packed_decimal.proofs.PackedLaws.{length-packedOf}
+use Rattle.byte_numbers.proofs.PlaceLaws.{written-append}
 use borrow.Author.Needs.{needs}
 use Rattle.mercury.proofs.data.put_frequency.Statement.{statement}
 use Rattle.mercury.proofs.data.put_frequency.Tie as tie

@@ -1,6 +1,6 @@
 -- `address_in` meets its contract: the sum of the four bytes is `number` of them, the last first.
 use Rattle.mercury.specs.Layout.{addressIn}
-use Rattle.words.specs.Number.{number}
+use Rattle.byte_numbers.specs.Number.{number}
 use native.Mathlib.Omega.{arith}
 use borrow.Author.Needs.{needs}
 use Rattle.mercury.proofs.head.address_in.Statement.{statement}

@@ -1,6 +1,6 @@
 -- `put_head` meets its contract: the quotients by 256 are the bytes that `bytesOf` has, the last of them first.
 use Rattle.mercury.specs.Layout.{headOf, addressBytes}
-use Rattle.words.specs.Number.{bytesOf}
+use Rattle.byte_numbers.specs.Number.{bytesOf}
 use borrow.Author.Needs.{needs}
 use Rattle.mercury.proofs.head.put_head.Statement.{statement}
 use Rattle.mercury.proofs.head.put_head.Tie as tie

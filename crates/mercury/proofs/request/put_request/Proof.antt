@@ -10,7 +10,7 @@ use Rattle.mercury.specs.Layout.{headOf}
 use Rattle.mercury.specs.Command.{isKnown}
 use Rattle.frame.proofs.SealingLaws.{sealed-written}
 use Rattle.frame.specs.Sealing.{sealed}
-use Rattle.words.specs.Place.{written}
+use Rattle.byte_numbers.specs.Place.{written}
 use Rattle.refusal.specs.Outcome.{outcome}
 use Rattle.mercury.specs.declared.request.RequestAnswer.the-variants.{Done}
 use borrow.Author.Needs.{needs}

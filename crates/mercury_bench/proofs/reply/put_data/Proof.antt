@@ -1,6 +1,6 @@
 -- `put_data` meets its contract: each command's arm writes its clause of `dataOf`.
 use Rattle.mercury_bench.specs.Reply.{dataOf}
-use Rattle.words.specs.Place.{written}
+use Rattle.byte_numbers.specs.Place.{written}
 use borrow.Author.Needs.{needs}
 use Rattle.mercury_bench.proofs.reply.put_data.Statement.{statement}
 use Rattle.mercury_bench.proofs.reply.put_data.Tie as tie

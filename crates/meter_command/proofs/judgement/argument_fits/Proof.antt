@@ -5,8 +5,8 @@ use borrow.Author.Needs.{needs}
 use Rattle.meter_command.proofs.judgement.argument_fits.Statement.{statement}
 use Rattle.meter_command.proofs.judgement.argument_fits.Tie as tie
 
-row-of-requires : tie.Need-row-of-requires
-row-of-requires c κs = search needs
+parameter-row-requires : tie.Need-parameter-row-requires
+parameter-row-requires c κs = search needs
 
 byte-at-requires : tie.Need-byte-at-requires
 byte-at-requires c κs = search needs
@@ -24,19 +24,19 @@ returns : tie.Need-returns
 unfolding argumentFits
 returns c = let at = c .before .before .before in
     c .data-fits .ensures
-    ∙ rw (c .before .tail .ensures, sym (at .before .byte-at .ensures), sym (at .before .before .row-of .ensures), sym (at .detail-fits .ensures) ∙ c .before .before .if1 .taken)
+    ∙ rw (c .before .tail .ensures, sym (at .before .byte-at .ensures), sym (at .before .before .parameter-row .ensures), sym (at .detail-fits .ensures) ∙ c .before .before .if1 .taken)
 
 returns-2 : tie.Need-returns-2
 unfolding argumentFits
 returns-2 c =
-    let row-of = c .before .before .before .row-of in
-    rw (sym (c .before .before .byte-at .ensures), sym (row-of .ensures), sym (c .before .detail-fits .ensures) ∙ c .if1 .left)
+    let parameter-row = c .before .before .before .parameter-row in
+    rw (sym (c .before .before .byte-at .ensures), sym (parameter-row .ensures), sym (c .before .detail-fits .ensures) ∙ c .if1 .left)
 
 pub argument-fits-spec : {M : Type 1} → statement M
 argument-fits-spec =
     tie.close
     (tie.spec
-    row-of-requires
+    parameter-row-requires
     byte-at-requires
     detail-fits-requires
     tail-requires

@@ -1,7 +1,7 @@
 -- Each check is the definition's, by the table's row; a change is short, so its length does not wrap.
 use mir.Facts.{fits-le, fits-lit}
 use Rattle.meter_command.specs.Judgement.{changeVerdict}
-use Rattle.frame.proofs.TableLaws.{change-small}
+use Rattle.parameters.proofs.TableLaws.{change-small}
 use native.Mathlib.Nat.{le-refl, add-le-add}
 use mathlib.Core.Path.{_∙_}
 use borrow.Author.Needs.{needs}
@@ -11,14 +11,14 @@ use Rattle.meter_command.proofs.judgement.change_verdict.Tie as tie
 parameter-in-requires : tie.Need-parameter-in-requires
 parameter-in-requires c κs = search needs
 
-row-of-requires : tie.Need-row-of-requires
-row-of-requires c κs = search needs
+parameter-row-requires : tie.Need-parameter-row-requires
+parameter-row-requires c κs = search needs
 
 add-checked : tie.Need-add-checked
 add-checked c =
     let parameter-in = c .before .before .before .before .parameter-in in
-    let row-of = c .before .before .before .row-of in
-    fits-le (add-le-add {d = 8} (le-refl 6) (rw (row-of .ensures) (change-small (parameter-in .result)))) (fits-lit tt)
+    let parameter-row = c .before .before .before .parameter-row in
+    fits-le (add-le-add {d = 8} (le-refl 6) (rw (parameter-row .ensures) (change-small (parameter-in .result)))) (fits-lit tt)
 
 by-own-requires : tie.Need-by-own-requires
 by-own-requires c κs = search needs
@@ -38,14 +38,14 @@ returns c =
     let own = c .before .before .before in
     let at = own .before .before .before .before in
     c .checked .ensures
-    ∙ rw (own .by-own .ensures, c .before .before .allows .ensures, c .before .argument-fits .ensures, at .row-of .ensures, at .before .parameter-in .ensures)
+    ∙ rw (own .by-own .ensures, c .before .before .allows .ensures, c .before .argument-fits .ensures, at .parameter-row .ensures, at .before .parameter-in .ensures)
 
 pub change-verdict-spec : {M : Type 1} → statement M
 change-verdict-spec =
     tie.close
     (tie.spec
     parameter-in-requires
-    row-of-requires
+    parameter-row-requires
     add-checked
     by-own-requires
     allows-requires

@@ -8,8 +8,8 @@ use Rattle.meter_command.proofs.judgement.read_verdict.Tie as tie
 parameter-in-requires : tie.Need-parameter-in-requires
 parameter-in-requires c κs = search needs
 
-row-of-requires : tie.Need-row-of-requires
-row-of-requires c κs = search needs
+parameter-row-requires : tie.Need-parameter-row-requires
+parameter-row-requires c κs = search needs
 
 slots-of-requires : tie.Need-slots-of-requires
 slots-of-requires c κs = search needs
@@ -38,7 +38,7 @@ returns c =
     c .checked .ensures
     ∙ rw (
       opened .opens-to .ensures,
-      row .row-of .ensures,
+      row .parameter-row .ensures,
       row .before .parameter-in .ensures,
       c .before .is-askable .ensures,
       at .subject-of .ensures,
@@ -51,7 +51,7 @@ read-verdict-spec =
     tie.close
     (tie.spec
     parameter-in-requires
-    row-of-requires
+    parameter-row-requires
     slots-of-requires
     request-in-requires
     subject-of-requires

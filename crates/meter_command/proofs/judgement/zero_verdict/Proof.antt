@@ -8,8 +8,8 @@ use Rattle.meter_command.proofs.judgement.zero_verdict.Tie as tie
 parameter-in-requires : tie.Need-parameter-in-requires
 parameter-in-requires c κs = search needs
 
-row-of-requires : tie.Need-row-of-requires
-row-of-requires c κs = search needs
+parameter-row-requires : tie.Need-parameter-row-requires
+parameter-row-requires c κs = search needs
 
 by-own-requires : tie.Need-by-own-requires
 by-own-requires c κs = search needs
@@ -29,14 +29,14 @@ returns c =
     let own = c .before .before .before in
     let at = own .before .before .before in
     c .checked .ensures
-    ∙ rw (own .by-own .ensures, at .row-of .ensures, at .before .parameter-in .ensures, c .before .before .is-main .ensures, c .before .byte-at .ensures)
+    ∙ rw (own .by-own .ensures, at .parameter-row .ensures, at .before .parameter-in .ensures, c .before .before .is-main .ensures, c .before .byte-at .ensures)
 
 pub zero-verdict-spec : {M : Type 1} → statement M
 zero-verdict-spec =
     tie.close
     (tie.spec
     parameter-in-requires
-    row-of-requires
+    parameter-row-requires
     by-own-requires
     is-main-requires
     byte-at-requires

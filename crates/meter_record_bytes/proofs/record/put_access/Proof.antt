@@ -1,7 +1,7 @@
 -- `put_access` meets its contract: the head of three bytes and the two passwords, put one behind the other, are `accessBytes`.
 use Rattle.meter_record_bytes.specs.Record.{accessBytes}
-use Rattle.words.proofs.NumberLaws.{length-bytesOf}
-use Rattle.words.proofs.PlaceLaws.{written-append}
+use Rattle.byte_numbers.proofs.NumberLaws.{length-bytesOf}
+use Rattle.byte_numbers.proofs.PlaceLaws.{written-append}
 use borrow.Author.Needs.{needs}
 use Rattle.meter_record_bytes.proofs.record.put_access.Statement.{statement}
 use Rattle.meter_record_bytes.proofs.record.put_access.Tie as tie

@@ -1,8 +1,8 @@
 -- `put_bench` meets its contract: both powers, the interval, the next place and both ratios, put one behind the other, are `benchBytes` (`onward`).
 use mathlib.Core.Path.{refl}
-use Rattle.figures.specs.Power.{powerBytes}
-use Rattle.words.specs.Number.{bytesOf}
-use Rattle.words.proofs.PlaceLaws.{onward}
+use Rattle.wire_values.specs.Power.{powerBytes}
+use Rattle.byte_numbers.specs.Number.{bytesOf}
+use Rattle.byte_numbers.proofs.PlaceLaws.{onward}
 use Rattle.meter_record_bytes.specs.Record.{benchBytes}
 use borrow.Author.Needs.{needs}
 use Rattle.meter_record_bytes.proofs.record.put_bench.Statement.{statement}

@@ -1,7 +1,7 @@
 -- `put_record` meets its contract: access takes 19 bytes and settings 35, so the three parts stand one behind the other as `recordBytes`.
 use Rattle.meter_record_bytes.proofs.RecordLaws.{length-access, length-setting}
 use Rattle.meter_record_bytes.specs.Record.{recordBytes}
-use Rattle.words.proofs.PlaceLaws.{written-append}
+use Rattle.byte_numbers.proofs.PlaceLaws.{written-append}
 use borrow.Author.Needs.{needs}
 use Rattle.meter_record_bytes.proofs.record.put_record.Statement.{statement}
 use Rattle.meter_record_bytes.proofs.record.put_record.Tie as tie

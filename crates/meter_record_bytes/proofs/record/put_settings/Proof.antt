@@ -1,9 +1,9 @@
 -- `put_settings` meets its contract: time, telemetry and mask, put one behind the other, are `settingBytes` (`written-append`).
 use Rattle.meter_record_bytes.specs.Record.{settingBytes}
 use Rattle.meter_record_bytes.proofs.TimeLaws.{length-timeBytes}
-use Rattle.figures.specs.Telemetry.{telemetryBytes}
-use Rattle.words.specs.Number.{bytesOf}
-use Rattle.words.proofs.PlaceLaws.{written-append}
+use Rattle.wire_values.specs.Telemetry.{telemetryBytes}
+use Rattle.byte_numbers.specs.Number.{bytesOf}
+use Rattle.byte_numbers.proofs.PlaceLaws.{written-append}
 use borrow.Author.Needs.{needs}
 use Rattle.meter_record_bytes.proofs.record.put_settings.Statement.{statement}
 use Rattle.meter_record_bytes.proofs.record.put_settings.Tie as tie

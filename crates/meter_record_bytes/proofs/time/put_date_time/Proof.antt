@@ -1,6 +1,6 @@
 -- `put_date_time` meets its contract: what is written to the front of the part from `at` on is written at `at` in the whole (`part-put`).
 use mathlib.Core.Path.{sym}
-use Rattle.words.proofs.PlaceLaws.{written-past}
+use Rattle.byte_numbers.proofs.PlaceLaws.{written-past}
 use Rattle.meter_record_bytes.proofs.Part.{part-put}
 use borrow.Author.Needs.{needs}
 use Rattle.meter_record_bytes.proofs.time.put_date_time.Statement.{statement}

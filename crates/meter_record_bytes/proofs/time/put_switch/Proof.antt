@@ -3,9 +3,9 @@ use mathlib.Core.Path.{refl, sym, ap, _∙_}
 use mathlib.Core.List.{[], _∷_}
 use Prim.Native.Nat.{ℕ}
 use Rattle.meter_record_bytes.specs.Time.{switchBytes, choiceByte, dateOrZeros}
-use Rattle.figures.specs.Clock.{dateTimeBytes}
-use Rattle.words.specs.Place.{written}
-use Rattle.words.proofs.PlaceLaws.{onward, written-past}
+use Rattle.wire_values.specs.Clock.{dateTimeBytes}
+use Rattle.byte_numbers.specs.Place.{written}
+use Rattle.byte_numbers.proofs.PlaceLaws.{onward, written-past}
 use borrow.Author.Needs.{needs}
 use Rattle.meter_record_bytes.proofs.time.put_switch.Statement.{statement}
 use Rattle.meter_record_bytes.proofs.time.put_switch.Tie as tie

@@ -3,8 +3,8 @@ use mathlib.Core.Path.{refl, sym}
 use mathlib.Core.List.{[], _∷_}
 use native.Mathlib.Omega.{arith}
 use Rattle.meter_record_bytes.specs.Time.{timeBytes, switchBytes, seasonByte}
-use Rattle.figures.specs.Clock.{dateTimeBytes}
-use Rattle.words.proofs.PlaceLaws.{onward, written-past}
+use Rattle.wire_values.specs.Clock.{dateTimeBytes}
+use Rattle.byte_numbers.proofs.PlaceLaws.{onward, written-past}
 use borrow.Author.Needs.{needs}
 use Rattle.meter_record_bytes.proofs.time.put_time.Statement.{statement}
 use Rattle.meter_record_bytes.proofs.time.put_time.Tie as tie

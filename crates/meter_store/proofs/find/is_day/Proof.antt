@@ -1,7 +1,7 @@
 -- `is_day` meets its contract: two numbers of two bytes are the same exactly where both bytes are (`two-bytes`), since all four are below 256.
 use Rattle.meter_store.specs.Store.{isDay}
 use Rattle.meter_store.proofs.FourLaws.{two-bytes}
-use Rattle.words.specs.Place.{byteAt}
+use Rattle.byte_numbers.specs.Place.{byteAt}
 use native.Mathlib.Omega.{arith}
 use Prim.Native.Nat.{_+_}
 use borrow.Author.Needs.{needs}

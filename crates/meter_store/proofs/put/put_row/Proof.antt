@@ -1,7 +1,7 @@
 -- `put_row` meets its contract: four numbers of two bytes, put one behind the other, are `rowBytes` (`onward`); past the end nothing is written.
-use Rattle.words.proofs.PlaceLaws.{onward, written-past}
+use Rattle.byte_numbers.proofs.PlaceLaws.{onward, written-past}
 use Rattle.meter_store.specs.Store.{rowBytes}
-use Rattle.words.specs.Number.{bytesOf}
+use Rattle.byte_numbers.specs.Number.{bytesOf}
 use native.Mathlib.Omega.{arith}
 use mathlib.Core.Path.{refl, sym}
 use borrow.Author.Needs.{needs}

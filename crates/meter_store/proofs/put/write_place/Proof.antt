@@ -1,5 +1,5 @@
 -- `write_place` meets its contract: month, day, number and the row, put one behind the other, are the place's eleven bytes (`onward`).
-use Rattle.words.proofs.PlaceLaws.{onward}
+use Rattle.byte_numbers.proofs.PlaceLaws.{onward}
 use Rattle.meter_store.specs.Store.{placeBytesOf}
 use mathlib.Core.Path.{refl}
 use borrow.Author.Needs.{needs}

@@ -4,7 +4,7 @@ use lib.Ieee.{binary32, ofBits}
 use lib.Ieee.Bits.{nanBits-above}
 use lib.Arith.{le→nltb}
 use native.Mathlib.Nat.{le-of-lt}
-use Rattle.figures.proofs.PowerLaws.{finite-bits}
+use Rattle.wire_values.proofs.PowerLaws.{finite-bits}
 use Rattle.metlazuel.specs.Bits.{floatFrom}
 use Rattle.metlazuel.proofs.bench_meter.float_from.Statement.{statement}
 use Rattle.metlazuel.proofs.bench_meter.float_from.Tie as tie

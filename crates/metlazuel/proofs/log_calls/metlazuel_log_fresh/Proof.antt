@@ -6,7 +6,7 @@ use mathlib.Core.Path.{ap}
 use borrow.Author.Needs.{needs}
 use Rattle.refusal.specs.Outcome.{Outcome}
 use Rattle.log.specs.declared.fresh.FreshAnswer.{FreshAnswer}
-use Rattle.day_figures.specs.Both.{Both}
+use Rattle.day_rows.specs.LogAndRows.{LogAndRows}
 use Rattle.metlazuel.proofs.log_calls.metlazuel_log_fresh.Statement.{statement}
 use Rattle.metlazuel.proofs.log_calls.metlazuel_log_fresh.Tie as tie
 
@@ -32,7 +32,7 @@ returns c =
     simp (
       c .number .ensures,
       c .before .image-length .ensures,
-    ) (ap (λ (o : Outcome FreshAnswer Both). sized freshNumber imageLength o (start .args .length .now)) (at-fresh-log .fresh-log .ensures))
+    ) (ap (λ (o : Outcome FreshAnswer LogAndRows). sized freshNumber imageLength o (start .args .length .now)) (at-fresh-log .fresh-log .ensures))
 
 pub metlazuel-log-fresh-spec : {M : Type 1} → statement M
 metlazuel-log-fresh-spec =

@@ -1,5 +1,5 @@
 -- The bytes are an ask or none, and each case of `takeForC` is what the callees leave.
-use Rattle.day_figures.specs.Both.{Both}
+use Rattle.day_rows.specs.LogAndRows.{LogAndRows}
 use Rattle.logger.specs.declared.take.Taken.{Taken}
 use Rattle.refusal.specs.Outcome.{Outcome}
 use mathlib.Core.Path.{sym, ap, _∙_}
@@ -68,7 +68,7 @@ returns-2 c =
       put-left .ensures,
       closed .closes .ensures,
       closed .before .before .number .ensures,
-    ) (ap (λ (o : Outcome Taken Both). takenForC o (start .reply .now) (start .result .now) (start .length .now) (start .ask .now)) (taken .take-reply .ensures))
+    ) (ap (λ (o : Outcome Taken LogAndRows). takenForC o (start .reply .now) (start .result .now) (start .length .now) (start .ask .now)) (taken .take-reply .ensures))
 
 pub metlazuel-take-spec : {M : Type 1} → statement M
 metlazuel-take-spec =

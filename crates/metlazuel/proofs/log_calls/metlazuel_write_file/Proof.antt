@@ -1,11 +1,11 @@
 -- `metlazuel_write_file` meets its contract: what is told is what `write_file` ensures, with its number and the length that `file_length` ensures.
 use Rattle.metlazuel.specs.Calls.{sized}
 use Rattle.metlazuel.specs.LogCalls.{fileLength}
-use Rattle.logfile.specs.Write.{writeNumber}
+use Rattle.log_file.specs.Write.{writeNumber}
 use mathlib.Core.Path.{ap}
 use borrow.Author.Needs.{needs}
 use Rattle.refusal.specs.Outcome.{Outcome}
-use Rattle.logfile.specs.declared.write.WriteAnswer.{WriteAnswer}
+use Rattle.log_file.specs.declared.write.WriteAnswer.{WriteAnswer}
 use mathlib.Core.List.{List}
 use Prim.Native.Nat.{ℕ}
 use Rattle.metlazuel.proofs.log_calls.metlazuel_write_file.Statement.{statement}

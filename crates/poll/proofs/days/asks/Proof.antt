@@ -2,7 +2,7 @@
 use Rattle.polling.proofs.ReachedLaws.{stays, onward}
 use Rattle.polling.specs.Reached.{Reached}
 use Rattle.logger.specs.Run.{state}
-use Rattle.day_figures.specs.Both.{both}
+use Rattle.day_rows.specs.LogAndRows.{logAndRows}
 use Rattle.polling.proofs.OrderLaws.{order-bounds}
 use Rattle.log.specs.View.{viewOf}
 use Rattle.slots.proofs.DayLaws.{slotsMost}
@@ -17,7 +17,7 @@ use Rattle.poll.proofs.days.asks.Tie as tie
 abbrev Inv-loop : tie.InvT-loop
 Inv-loop wire plan device path image₀ figures₀ day wanted order course₀ passed₀ image figures course passed =
     (length image ≡ length image₀) × (length figures ≡ length figures₀)
-    × Reached (state (both image₀ figures₀) (course₀ .held)) (state (both image figures) (course .held))
+    × Reached (state (logAndRows image₀ figures₀) (course₀ .held)) (state (logAndRows image figures) (course .held))
 
 abbrev μ-loop : tie.MeasureT-loop
 μ-loop wire plan device path image₀ figures₀ day wanted order course₀ passed₀ image figures course passed = slotsMost - passed

@@ -1,10 +1,10 @@
--- What `settled` promises, with the ask that it leaves: `holding` puts it into the course.
+-- What `ask_settled` promises, with the ask that it leaves: `holding` puts it into the course.
 use borrow.Author.Needs.{needs}
 use Rattle.poll.proofs.days.heard.Statement.{statement}
 use Rattle.poll.proofs.days.heard.Tie as tie
 
-settled-requires : tie.Need-settled-requires
-settled-requires c κs = search needs
+ask-settled-requires : tie.Need-ask-settled-requires
+ask-settled-requires c κs = search needs
 
 counted-requires : tie.Need-counted-requires
 counted-requires c κs = search needs
@@ -23,14 +23,14 @@ same-length-2 c = search needs
 
 returns : tie.Need-returns
 returns c =
-    let at-settled = c .before .before .before .before .before .before .before .settled in
+    let at-settled = c .before .before .before .before .before .before .before .ask-settled in
     rw (c .holding .ensures) (at-settled .ensures .1)
 
 pub heard-spec : {M : Type 1} → statement M
 heard-spec =
     tie.close
     (tie.spec
-    settled-requires
+    ask-settled-requires
     counted-requires
     followed-requires
     holding-requires

@@ -1,5 +1,5 @@
 -- An ask leaves the log and the ask that it answers; one that was made leads on to the exchange.
-use Rattle.day_figures.specs.Both.{both}
+use Rattle.day_rows.specs.LogAndRows.{logAndRows}
 use Rattle.polling.proofs.ReachedLaws.{asks, onward}
 use borrow.Author.Needs.{needs}
 use Rattle.poll.proofs.days.one_ask.Statement.{statement}
@@ -50,7 +50,7 @@ returns c =
     let at-put-ask = c .before .before .before .before .before .before .before .before .before .before .before .put-ask in
     let at-exchanged = c .before .before .before .before .exchanged in
     onward
-    (asks (both (at-args .image .now) (at-args .figures .now)) _ _ _ _ _ _ (at-put-ask .result) (at-put-ask .ensures)) (at-exchanged .ensures)
+    (asks (logAndRows (at-args .image .now) (at-args .figures .now)) _ _ _ _ _ _ (at-put-ask .result) (at-put-ask .ensures)) (at-exchanged .ensures)
 
 same-length-3 : tie.Need-same-length-3
 same-length-3 c = search needs
@@ -60,7 +60,7 @@ returns-2 c =
     let at-args = c .before .before .before .before .before .before .before .before .before .before .before .before .before .before .before .before .before .args in
     let at-put-ask = c .before .before .before .before .before .before .before .put-ask in
     rw (c .holding .ensures)
-    (asks (both (at-args .image .now) (at-args .figures .now)) _ _ _ _ _ _ (at-put-ask .result) (at-put-ask .ensures))
+    (asks (logAndRows (at-args .image .now) (at-args .figures .now)) _ _ _ _ _ _ (at-put-ask .result) (at-put-ask .ensures))
 
 pub one-ask-spec : {M : Type 1} → statement M
 one-ask-spec =

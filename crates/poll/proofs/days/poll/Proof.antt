@@ -2,7 +2,7 @@
 use Rattle.polling.proofs.ReachedLaws.{stays, onward}
 use Rattle.polling.specs.Reached.{Reached}
 use Rattle.logger.specs.Run.{state}
-use Rattle.day_figures.specs.Both.{both}
+use Rattle.day_rows.specs.LogAndRows.{logAndRows}
 use Rattle.logger.specs.declared.held.OpenAsk.the-variants.{Closed}
 use lib.ListN.{length}
 use mathlib.Core.Path.{_≡_, refl, _∙_}
@@ -15,7 +15,7 @@ use Rattle.poll.proofs.days.poll.Tie as tie
 abbrev Inv-loop : tie.InvT-loop
 Inv-loop wire plan device path image₀ figures₀ from end order course₀ turn₀ image figures course turn =
     (length image ≡ length image₀) × (length figures ≡ length figures₀)
-    × Reached (state (both image₀ figures₀) Closed) (state (both image figures) (course .held))
+    × Reached (state (logAndRows image₀ figures₀) Closed) (state (logAndRows image figures) (course .held))
 
 abbrev μ-loop : tie.MeasureT-loop
 μ-loop wire plan device path image₀ figures₀ from end order course₀ turn₀ image figures course turn = end - turn

@@ -22,8 +22,8 @@ is-settled-requires c κs = search needs
 returns : tie.Need-returns Inv-loop μ-loop
 returns c = search needs
 
-settled-requires : tie.Need-settled-requires Inv-loop μ-loop
-settled-requires c κs = search needs
+silent-again-requires : tie.Need-silent-again-requires Inv-loop μ-loop
+silent-again-requires c κs = search needs
 
 returns-2 : tie.Need-returns-2 Inv-loop μ-loop
 returns-2 c = search needs
@@ -50,7 +50,7 @@ asked-spec =
     asked-once-requires
     is-settled-requires
     returns
-    settled-requires
+    silent-again-requires
     returns-2
     sub-turns
     loop-less

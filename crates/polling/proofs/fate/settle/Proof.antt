@@ -1,4 +1,4 @@
--- What was heard, and then the lapse: the two halves of `settled` (`settled-by`).
+-- What was heard, and then the lapse: the two halves of `askSettled` (`settled-by`).
 use Rattle.polling.proofs.FateLaws.{settled-by}
 use borrow.Author.Needs.{needs}
 use Rattle.polling.proofs.fate.settle.Statement.{statement}

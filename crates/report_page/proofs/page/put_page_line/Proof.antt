@@ -1,8 +1,8 @@
 -- `put_page_line` meets its contract: the answer, the image and its figures are those of `readFile` into room for the longest.
 use mathlib.Core.Path.{ap, _∙_}
-use Rattle.logfile.specs.declared.read.ReadAnswer.{ReadAnswer}
+use Rattle.log_file.specs.declared.read.ReadAnswer.{ReadAnswer}
 use Rattle.refusal.specs.Outcome.{Outcome}
-use Rattle.day_figures.specs.Both.{Both}
+use Rattle.day_rows.specs.LogAndRows.{LogAndRows}
 use Rattle.report_page.specs.Page.{pageLine, room, figuresRoom, readLine}
 use borrow.Author.Needs.{needs}
 use Rattle.report_page.proofs.page.put_page_line.Statement.{statement}
@@ -35,7 +35,7 @@ returns c =
     let read-file = c .before .before .before .before .before .before .before .before .read-file in
     let args = c .before .before .before .before .before .before .before .before .before .before .before .before .before .args in
     c .before .before .put-read-line .ensures
-    ∙ ap (λ (o : Outcome ReadAnswer Both). readLine (o .result) (o .left) (args .i) (args .out .now)) (read-file .ensures)
+    ∙ ap (λ (o : Outcome ReadAnswer LogAndRows). readLine (o .result) (o .left) (args .i) (args .out .now)) (read-file .ensures)
 
 pub put-page-line-spec : {M : Type 1} → statement M
 put-page-line-spec =

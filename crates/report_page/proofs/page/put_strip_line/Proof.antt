@@ -1,10 +1,10 @@
 -- `put_strip_line` meets its contract: the strip is that of the image that `readFile` gave, at the front of the room for it.
 use Rattle.report_page.specs.Page.{imageIn, room, figuresRoom, stripLine}
 use Rattle.log.specs.View.{viewOf}
-use Rattle.logfile.specs.declared.read.ReadAnswer.{ReadAnswer}
-use Rattle.dayreport.specs.Strip.{stripText}
+use Rattle.log_file.specs.declared.read.ReadAnswer.{ReadAnswer}
+use Rattle.day_report.specs.Strip.{stripText}
 use Rattle.refusal.specs.Outcome.{Outcome}
-use Rattle.day_figures.specs.Both.{Both}
+use Rattle.day_rows.specs.LogAndRows.{LogAndRows}
 use lib.ListN.{take}
 use mathlib.Core.Path.{ap, _∙_}
 use mathlib.Core.List.{List}
@@ -47,7 +47,7 @@ returns c =
     c .before .before .put-strip .ensures
     ∙ ap (λ (x : List ℕ). stripText (viewOf x) (at-args .day) (at-args .out .now))
     (at-front .ensures ∙ ap (λ (n : ℕ). take n (at-read-file .last .1 .0)) (at-length-or .ensures))
-    ∙ ap (λ (o : Outcome ReadAnswer Both). stripText (viewOf (imageIn (o .result) (o .left .log))) (at-args .day) (at-args .out .now)) (at-read-file .ensures)
+    ∙ ap (λ (o : Outcome ReadAnswer LogAndRows). stripText (viewOf (imageIn (o .result) (o .left .log))) (at-args .day) (at-args .out .now)) (at-read-file .ensures)
 
 pub put-strip-line-spec : {M : Type 1} → statement M
 put-strip-line-spec =

@@ -5,15 +5,15 @@ use Prim.Native.Nat.{ℕ, _+_, _<_, _≤_}
 use mathlib.Core.List.{List, [], _∷_}
 use mathlib.Core.Path.{_≡_, ap, ap₂, _∙_}
 use borrow.Author.Tests.{le-leb, lt-leb}
-use Rattle.words.specs.Place.{written}
+use Rattle.byte_numbers.specs.Place.{written}
 use Rattle.text.specs.Decimal.{decimal}
 use Rattle.text.specs.Ascii.{ascii}
 use Rattle.text.proofs.DecimalLaws.{decimal-most-u32}
 use Rattle.report_page.proofs.PageLaws.{length-refused, written-refused}
 use Rattle.report_page.specs.Page.{refusedText}
 use Rattle.refusal.specs.Outcome.{outcome}
-use Rattle.dayreport.specs.declared.answer.TextAnswer.the-variants.{Done}
-use Rattle.dayreport.specs.Text.{putText, lineFeed}
+use Rattle.day_report.specs.declared.answer.TextAnswer.the-variants.{Done}
+use Rattle.day_report.specs.Text.{putText, lineFeed}
 use borrow.Author.Needs.{needs}
 use Rattle.report_page.proofs.refused.put_refused.Statement.{statement}
 use Rattle.report_page.proofs.refused.put_refused.Tie as tie

@@ -1,6 +1,6 @@
 -- `put_request` meets its contract: length and `is_askable` are `requested`'s cases; a body in front, then sealed, is a frame (`sealed-written`).
 use Rattle.request.specs.declared.request.RequestAnswer.the-variants.{Done}
-use Rattle.words.specs.Place.{written}
+use Rattle.byte_numbers.specs.Place.{written}
 use Rattle.refusal.specs.Outcome.{outcome}
 use Rattle.request.specs.Request.{requested, requestFrame}
 use Rattle.request.specs.Subject.{askable}

@@ -8,8 +8,8 @@ use Rattle.request.proofs.subject.subject_of.Tie as tie
 parameter-of-requires : tie.Need-parameter-of-requires
 parameter-of-requires c κs = search needs
 
-row-of-requires : tie.Need-row-of-requires
-row-of-requires c κs = search needs
+parameter-row-requires : tie.Need-parameter-row-requires
+parameter-row-requires c κs = search needs
 
 opens-to-requires : tie.Need-opens-to-requires
 opens-to-requires c κs = search needs
@@ -24,7 +24,7 @@ returns c =
     let row = opened .before in
     simp (
       sym (row .before .parameter-of .ensures),
-      sym (row .row-of .ensures),
+      sym (row .parameter-row .ensures),
       sym (opened .opens-to .ensures) ∙ c .before .before .if1 .taken,
       sym (c .before .fields-fit .ensures) ∙ c .if2 .taken,
     )
@@ -36,7 +36,7 @@ returns-2 c =
     let row = opened .before in
     simp (
       sym (row .before .parameter-of .ensures),
-      sym (row .row-of .ensures),
+      sym (row .parameter-row .ensures),
       sym (opened .opens-to .ensures) ∙ c .before .before .if1 .taken,
       sym (c .before .fields-fit .ensures) ∙ c .if2 .left,
     )
@@ -45,14 +45,14 @@ returns-3 : tie.Need-returns-3
 unfolding subjectOf subjectFor
 returns-3 c =
     let row = c .before .before in
-    simp (sym (row .before .parameter-of .ensures), sym (row .row-of .ensures), sym (c .before .opens-to .ensures) ∙ c .if1 .left)
+    simp (sym (row .before .parameter-of .ensures), sym (row .parameter-row .ensures), sym (c .before .opens-to .ensures) ∙ c .if1 .left)
 
 pub subject-of-spec : {M : Type 1} → statement M
 subject-of-spec =
     tie.close
     (tie.spec
     parameter-of-requires
-    row-of-requires
+    parameter-row-requires
     opens-to-requires
     fields-fit-requires
     returns

@@ -3,8 +3,8 @@ use mathlib.Core.Path.{sym, ap, ap₂, _∙_}
 use mathlib.Core.List.{List, [], _∷_}
 use Prim.Native.Nat.{ℕ, _+_, _/_, _%_, _<_, _≤_}
 use native.Mathlib.Omega.{arith}
-use Rattle.words.specs.Place.{written}
-use Rattle.words.proofs.PlaceLaws.{written-past, written-append}
+use Rattle.byte_numbers.specs.Place.{written}
+use Rattle.byte_numbers.proofs.PlaceLaws.{written-past, written-append}
 use Rattle.text.specs.Decimal.{digit, decimal}
 use Rattle.text.proofs.DecimalLaws.{decimal-one, decimal-more, length-decimal-one, length-decimal-more, decimal-most-u64}
 use borrow.Fn.Kinds.{In}
@@ -13,7 +13,7 @@ use Rattle.text.proofs.decimal.put_decimal.Reads as put-decimal
 use Rattle.text.proofs.decimal.put_decimal.Kinds as put-decimal-kinds
 use Rattle.text.proofs.decimal.+put_decimal.Lts-put_decimal as put-decimal-lts
 use Rattle.text.proofs.decimal.decimal_length.Reads as decimal-length-reads
-use Rattle.words.proofs.put_byte.Reads as put-byte-reads
+use Rattle.byte_numbers.proofs.put_byte.Reads as put-byte-reads
 use Rattle.text.proofs.decimal.+put_decimal.{statement}
 use Rattle.text.proofs.decimal.+put_decimal.Tie.{close}
 

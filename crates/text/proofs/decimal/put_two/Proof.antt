@@ -3,8 +3,8 @@ use mathlib.Core.List.{List, [], _∷_}
 use mathlib.Core.Path.{sym, ap, _∙_}
 use Prim.Native.Nat.{ℕ, _+_, _%_}
 use native.Mathlib.Omega.{arith}
-use Rattle.words.specs.Place.{written}
-use Rattle.words.proofs.PlaceLaws.{written-cons, written-past}
+use Rattle.byte_numbers.specs.Place.{written}
+use Rattle.byte_numbers.proofs.PlaceLaws.{written-cons, written-past}
 use Rattle.text.specs.Decimal.{digit, padded}
 use Rattle.text.proofs.decimal.put_two.Statement.{statement}
 use Rattle.text.proofs.decimal.put_two.Tie as tie

@@ -6,8 +6,8 @@ use native.Mathlib.Omega.{arith}
 use native.Mathlib.Numerals.{add-one}
 use lib.Seq.{drop-cons}
 use lib.ListN.{length, getD, drop, drop-of-length-le}
-use Rattle.words.specs.Place.{written}
-use Rattle.words.proofs.PlaceLaws.{written-past}
+use Rattle.byte_numbers.specs.Place.{written}
+use Rattle.byte_numbers.proofs.PlaceLaws.{written-past}
 use Rattle.text.specs.Hex.{hexText}
 use Rattle.text.proofs.HexLaws.{written-hex}
 use Rattle.text.proofs.hex.put_hex.Statement.{statement}

@@ -1,0 +1,4 @@
+pub mod NumberLaws
+pub mod PlaceLaws
+pub mod Part
+pub mod ByteLaws

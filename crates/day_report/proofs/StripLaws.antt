@@ -1,0 +1,138 @@
+-- What follows from the definition of a day's strip: its length, the turns of the walk over the day's slots, its parts written one behind the
+-- other; what it says of an image; where there is none; and that there is always room for it. Assumes nothing.
+use Prim.Native.Nat.{ℕ, zero, suc, _+_, _*_, _-_, _<_, _≤_}
+use native.Mathlib.Nat.{zero-add}
+use native.Mathlib.Omega.{arith}
+use mathlib.Core.Path.{_≡_, refl, sym, ap, _∙_}
+use mathlib.Core.Bool.{Bool, true}
+use mathlib.Core.List.{List, [], _∷_, _++_}
+use lib.ListN.{length, length-append}
+use Rattle.refusal.specs.Outcome.{outcome}
+use Rattle.byte_numbers.specs.Place.{written}
+use Rattle.byte_numbers.proofs.PlaceLaws.{written-append}
+use Rattle.test_laws.proofs.Test.{either}
+use Rattle.calendar.specs.Date.{dayNumber, dateOf}
+use Rattle.calendar.specs.declared.date.Date.{Date}
+use Rattle.text.specs.DateText.{dateText}
+use Rattle.text.proofs.DateTextLaws.{length-dateText}
+use Rattle.slots.specs.Day.{slotsOf}
+use Rattle.slots.proofs.DayLaws.{slotsMost, slots-at-most}
+use Rattle.log_header.specs.Header.{daysMost, cellsOf, isHeader, soundOf}
+use Rattle.log.specs.Image.{imageOf, allGood, AllCells}
+use Rattle.log.specs.View.{View, viewOf}
+use Rattle.log_header.specs.Interval.{dayDate, existsAt}
+use Rattle.log_header.proofs.HeaderLaws.{by-sound}
+use Rattle.log_header.proofs.IntervalLaws.{day-on}
+use Rattle.log_header.specs.declared.interval.DayAnswer.{DayAnswer}
+use Rattle.log_header.specs.declared.interval.DayAnswer.the-variants as day
+use Rattle.log_header.specs.declared.header.Header.{Header}
+use Rattle.log_cell.specs.declared.cell.Cell.{Cell}
+use Rattle.log_cell.specs.declared.cell.CellAnswer.{CellAnswer}
+use Rattle.day_rows.specs.Figures.{dayCells}
+use Rattle.day_report.specs.Text.{space, lineFeed, dateSize, putText}
+use Rattle.day_report.specs.Strip.{mark, marksAt, marksFrom, dayMarks, stripOf, stripDated, stripOn, stripText}
+use Rattle.day_report.specs.declared.answer.TextAnswer.the-variants.{Unsound}
+use Rattle.log.proofs.ViewLaws.{cellIn, view-image}
+use Rattle.day_report.proofs.TextLaws.{Never, text-fits}
+use Rattle.day_report.proofs.DayLaws.{day-past}
+use Rattle.day_report.proofs.ReportLaws.{all-good, day-seen}
+
+-- ---- how long a strip is
+
+pub length-strip : (d : Date) (marks : List ℕ) → length (stripOf d marks) ≡ marksAt + length marks + 1
+unfolding stripOf
+length-strip d marks = simp (length-append, length-dateText) (omega arith)
+
+length-marks : (there : ℕ → Bool) (cell : ℕ → CellAnswer) (i n : ℕ) → length (marksFrom there cell i n) ≡ n
+unfolding marksFrom
+length-marks there cell i zero = refl
+length-marks there cell i (suc n) = ap suc (length-marks there cell (suc i) n)
+
+-- a mark a slot
+pub length-day-marks : (cell : ℕ → CellAnswer) (h : Header) (d : ℕ) → length (dayMarks cell h d) ≡ slotsOf (h .minutes)
+unfolding dayMarks
+length-day-marks cell h d = length-marks (existsAt h) cell (d * slotsOf (h .minutes)) (slotsOf (h .minutes))
+
+-- no strip is longer
+abbrev pub stripMost : ℕ
+stripMost = marksAt + slotsMost + 1
+
+-- ---- the walk over the slots
+
+-- a day's marks are those of its slots, as many as were found for the interval
+pub day-marks : (cell : ℕ → CellAnswer) (h : Header) (d n : ℕ) → n ≡ slotsOf (h .minutes) → marksFrom (existsAt h) cell (d * n) n ≡ dayMarks cell h d
+unfolding dayMarks
+day-marks cell h d n e = ap (λ (k : ℕ). marksFrom (existsAt h) cell (d * k) k) e
+
+module _ (there : ℕ → Bool) (cell : ℕ → CellAnswer) (first i n : ℕ) (l : i < n) where
+  abbrev after : List ℕ
+  after = marksFrom there cell (first + (i + 1)) (n - (i + 1))
+
+  marks-next : marksFrom there cell (first + i) (n - i) ≡ mark (there (first + i)) (cell (first + i)) ∷ after
+  unfolding marksFrom
+  marks-next =
+      let e : n - i ≡ suc (n - (i + 1)) = omega arith in
+      let f : suc (first + i) ≡ first + (i + 1) = omega arith in
+      rw (e, ← f)
+
+  -- the slot's own mark, and behind it those that are left
+  pub marks-on : (m : ℕ) (line : List ℕ) → m ≡ mark (there (first + i)) (cell (first + i))
+      → written (written line (marksAt + i) (m ∷ [])) (marksAt + (i + 1)) after ≡ written line (marksAt + i) (marksFrom there cell (first + i) (n - i))
+  marks-on m line p =
+      let e : marksAt + (i + 1) ≡ marksAt + i + 1 = omega arith in
+      ap (λ (k : ℕ). written (written line (marksAt + i) (m ∷ [])) k after) e
+      ∙ sym (written-append line (marksAt + i) (m ∷ []) after)
+      ∙ ap (written line (marksAt + i)) (ap (λ (k : ℕ). k ∷ after) p ∙ sym marks-next)
+
+pub marks-end : (there : ℕ → Bool) (cell : ℕ → CellAnswer) (i n : ℕ) → n ≡ 0 → marksFrom there cell i n ≡ []
+unfolding marksFrom
+marks-end there cell i n e = rw e refl
+
+-- ---- a strip's parts, written one behind the other
+
+pub written-strip : (s : List ℕ) (d : Date) (marks : List ℕ) (n : ℕ) → length marks ≡ n
+    → written (written (written (written s 0 (dateText d)) dateSize (space ∷ [])) marksAt marks) (marksAt + n) (lineFeed ∷ [])
+    ≡ written s 0 (stripOf d marks)
+unfolding stripOf
+written-strip s d marks n e =
+    let dated = written s 0 (dateText d) in
+    let spaced = written dated dateSize (space ∷ []) in
+    let rest = marks ++ (lineFeed ∷ []) in
+    ap (λ (k : ℕ). written (written spaced marksAt marks) (marksAt + k) (lineFeed ∷ [])) (sym e)
+    ∙ sym (written-append spaced marksAt marks (lineFeed ∷ []))
+    ∙ sym (written-append dated dateSize (space ∷ []) rest)
+    ∙ ap (λ (k : ℕ). written dated k (space ∷ rest)) (sym (zero-add (length (dateText d)) ∙ length-dateText d))
+    ∙ sym (written-append s 0 (dateText d) (space ∷ rest))
+
+-- ---- the strip of an image
+
+-- the strip of a day has the day's date, and a mark for each of that day's slots
+pub strip-image : (h : Header) (cs : List Cell) (lapses : ℕ → ℕ) (d : ℕ) (out : List ℕ) → isHeader h ≡ true → length cs ≡ cellsOf h → AllCells cs → d < h .days
+    → stripText (viewOf (imageOf h cs lapses)) d out ≡ putText (stripOf (dateOf (dayNumber (h .start) + d)) (dayMarks (cellIn cs) h d)) out
+unfolding stripText stripOn stripDated
+strip-image h cs lapses d out e l k day =
+    ap (λ (v : View). stripText v d out) (view-image h cs lapses e l k) ∙ simp (day-on h d e day, day-seen h cs d l day, all-good)
+
+-- ---- where there is no strip, and that there is always room
+
+-- past the most days that a log has there is none
+pub strip-past : (s : List ℕ) (d : ℕ) (out : List ℕ) → daysMost ≤ d → Never 0 (stripText (viewOf s) d out)
+unfolding stripText stripOn
+strip-past s d out l =
+    by-sound (Never 0) (soundOf s)
+    (λ p e. omega (arith, e)) (λ h p. rw (day-past s h d p l) (λ e. omega (arith, e)))
+
+on-room : (a : DayAnswer) (read : List CellAnswer) (marks out : List ℕ) → length marks ≤ slotsMost → stripMost ≤ length out
+    → Never 1 (stripOn a read marks out)
+unfolding stripOn stripDated
+on-room day.Outside read marks out n l = λ e. omega (arith, e)
+on-room (day.On date) read marks out n l =
+    either (Never 1) (allGood read) (text-fits (stripOf date marks) out (omega (arith, length-strip date marks))) (λ e. omega (arith, e))
+
+-- the room of the longest strip is enough for each
+pub strip-room : (v : View) (d : ℕ) (out : List ℕ) → stripMost ≤ length out → Never 1 (stripText v d out)
+unfolding stripText
+strip-room v d out l =
+    by-sound (Never 1) (v .lent)
+    (λ p e. omega (arith, e))
+    (λ h p. on-room (dayDate h d) (dayCells (v .cell) h d) (dayMarks (v .cell) h d) out (omega (arith, length-day-marks (v .cell) h d, slots-at-most (h .minutes))) l)

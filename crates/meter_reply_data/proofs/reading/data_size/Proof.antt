@@ -1,0 +1,40 @@
+-- `data_size` meets its contract: only a read has data, and then the size is that of its parameter and detail, as in `dataSize`.
+use Rattle.meter_reply_data.specs.Reading.{dataSize}
+use mathlib.Core.Path.{sym, _∙_}
+use borrow.Author.Needs.{needs}
+use Rattle.meter_reply_data.proofs.reading.data_size.Statement.{statement}
+use Rattle.meter_reply_data.proofs.reading.data_size.Tie as tie
+
+is-read-requires : tie.Need-is-read-requires
+is-read-requires c κs = search needs
+
+request-in-requires : tie.Need-request-in-requires
+request-in-requires c κs = search needs
+
+parameter-in-requires : tie.Need-parameter-in-requires
+parameter-in-requires c κs = search needs
+
+reply-bytes-requires : tie.Need-reply-bytes-requires
+reply-bytes-requires c κs = search needs
+
+returns : tie.Need-returns
+unfolding dataSize
+returns c =
+    let is-read = c .before .before .before .before .is-read in
+    let if1 = c .before .before .before .if1 in
+    simp (sym (is-read .ensures) ∙ if1 .taken) (c .reply-bytes .ensures ∙ rw (c .before .parameter-in .ensures, c .before .before .request-in .ensures))
+
+returns-2 : tie.Need-returns-2
+unfolding dataSize
+returns-2 c = simp (sym (c .before .is-read .ensures) ∙ c .if1 .left)
+
+pub data-size-spec : {M : Type 1} → statement M
+data-size-spec =
+    tie.close
+    (tie.spec
+    is-read-requires
+    request-in-requires
+    parameter-in-requires
+    reply-bytes-requires
+    returns
+    returns-2)
