@@ -34,6 +34,7 @@ use Rattle.c_values.specs.Ask.{askOf}
 use Rattle.c_values.specs.declared.ask.AskRead.the-variants.{Read}
 use Rattle.claims.specs.Demand3.{Start}
 use Rattle.claims.proofs.Claims as claims
+use Rattle.claims.proofs.History as history
 use Rattle.metlazuel.specs.LogCalls.{headerFrom, imageLength, lengthAfter}
 use Rattle.c_claims.specs.Demand3.{Lent}
 use Rattle.c_claims.specs.Beginnings.{freshForC, readForC, lentAfter, BeginsAs, BeginsFrom}
@@ -140,4 +141,4 @@ pub file-had : (b : LogAndRows) (start : Start b) (log figs : List ℕ) (word : 
     length (b .log) ≤ length log → figuresOf h ≤ length figs → (o .result ≡ 0) × (take (o .left .0) (o .left .1 .log) ≡ b .log)
 unfolding lengthAfter
 file-had b start log figs word room many =
-    rw (claims.demand-3 .file-had b log figs start room many) (refl, take-at (b .log) (drop (length (b .log)) log) (length (b .log)) refl)
+    rw (history.today-had b log figs start room many) (refl, take-at (b .log) (drop (length (b .log)) log) (length (b .log)) refl)

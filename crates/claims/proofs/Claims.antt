@@ -201,7 +201,6 @@ seasons = record {
   adds-up = seasons-in.adds-up;
   none-doubled = seasons-in.none-doubled;
   first-version = seasons-in.first-version;
-  first-version-had = seasons-in.first-version-had;
   other-byte = seasons-in.other-byte;
   first-byte = seasons-in.first-byte;
   misplaced-read = seasons-in.misplaced-read;
@@ -215,7 +214,6 @@ lapses = record {
   stays = lapses-in.stays;
   no-lapse = lapses-in.no-lapse;
   early = lapses-in.early;
-  early-had = lapses-in.early-had;
   other-length = lapses-in.other-length;
 }
 

@@ -177,7 +177,7 @@ module _ (b : LogAndRows) (start : Start b) (cs : List Cell) (count : length cs 
   pub file-read : (out figs : List ℕ) → let n = length (b .log) in n ≤ length out → figuresOf h ≤ length figs
       → readFile (fileIn h cs (viewOf (b .log) .lapses)) out figs
       ≡ outcome (read.Done n) (logAndRows (b .log ++ drop n out) (allFigures h (viewOf (b .log) .cell) ++ drop (figuresOf h) figs))
-  file-read out figs l m = ap (λ (f : List ℕ). readFile f out figs) (sym same-file) ∙ history.file-had b out figs start l m
+  file-read out figs l m = ap (λ (f : List ℕ). readFile f out figs) (sym same-file) ∙ history.today-had b out figs start l m
 
 -- ---- in a day's report
 

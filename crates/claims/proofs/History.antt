@@ -1,12 +1,12 @@
 -- Demand 3: a list of calls by its steps, the start, and what a call leaves alone.
 use mathlib.Core.Path.{_≡_, refl, sym, ap, ap₂, subst, _∙_}
-use mathlib.Core.Bool.{Bool, true, false, cond, not, false≢true}
+use mathlib.Core.Bool.{Bool, true, false, cond, not, _||_, false≢true}
 use mathlib.Core.List.{List, [], _∷_, _++_}
 use Prim.Native.Nat.{ℕ, _+_, _<_, _≤_}
 use native.Mathlib.Nat.{zero-add}
 use native.Mathlib.Omega.{arith}
-use borrow.Author.Tests.{ltb-true, ltb-false}
-use lib.Dec.{ltb}
+use borrow.Author.Tests.{ltb-true, ltb-false, le-leb, leb-false, eq-eqb}
+use lib.Dec.{ltb, leb, eqb}
 use lib.ListN.{length, take, drop, getD, List·getD-eq-default}
 use lib.Seq.{ext-getD}
 use Rattle.refusal.specs.Outcome.{Outcome, outcome}
@@ -49,6 +49,7 @@ use Rattle.logger.proofs.StepLaws.{stateOf, Sane, step-agrees, step-sane}
 use Rattle.logger.proofs.FigureLaws.{Faithful, step-faithful}
 use Rattle.logger.specs.declared.held.OpenAsk.{OpenAsk}
 use Rattle.log_file.specs.File.{isVersion, seasonsFit, fileBytes, fileBytesAs}
+use Rattle.log_file.specs.Row.{hasLapses}
 use Rattle.log_file.specs.Read.{readFile}
 use Rattle.log_file.specs.declared.read.ReadAnswer.{ReadAnswer}
 use Rattle.log_file.specs.declared.read.ReadAnswer.the-variants as read
@@ -283,11 +284,36 @@ version-had v b out figs start known seasons none l m =
     logs.file-had v h (start .cells) (start .lapses) known seasons none (start-is start) (b .log) out figs (start .image) l m
     ∙ ap (λ (w : View). outcome (read.Done n) (logAndRows (b .log ++ drop n out) (allFigures h (w .cell) ++ drop (figuresOf h) figs))) (sym (start-seen start))
 
-pub file-had : (b : LogAndRows) (out figs : List ℕ) (start : Start b) → let h = start .header in let n = length (b .log) in
+-- the versions by their numbers: 1 to 3 are known, 1 has no seasons, 1 and 2 have no lapses
+known-by : (v : ℕ) → 1 ≤ v → v ≤ 3 → isVersion v ≡ true
+unfolding isVersion
+known-by v from to = simp (le-leb 1 v from, le-leb v 3 to)
+
+seasons-by : (v : ℕ) (h : Header) → 1 ≤ v → (v ≡ 1 → h .seasons ≡ 0) → seasonsFit v h ≡ true
+unfolding seasonsFit
+seasons-by v h from none = go (leb 2 v) refl
+  where
+    go : (b : Bool) → leb 2 v ≡ b → (b || eqb (h .seasons) 0) ≡ true
+    go true e = refl
+    go false e = eq-eqb _ _ (none (omega (arith, leb-false 2 v e, from)))
+
+lapses-by : (v : ℕ) (lapses : ℕ → ℕ) → (v < 3 → (i : ℕ) → lapses i ≡ 0) → NoneBefore v lapses
+unfolding hasLapses
+lapses-by v lapses none e = none (leb-false 3 v e)
+
+pub file-had : (v : ℕ) (b : LogAndRows) (out figs : List ℕ) (start : Start b) → let h = start .header in let n = length (b .log) in
+    1 ≤ v → v ≤ 3 → (v ≡ 1 → h .seasons ≡ 0) → (v < 3 → (i : ℕ) → start .lapses i ≡ 0) → n ≤ length out → figuresOf h ≤ length figs
+    → readFile (fileBytesAs v h (start .cells) (start .lapses)) out figs
+    ≡ outcome (read.Done n) (logAndRows (b .log ++ drop n out) (allFigures h (viewOf (b .log) .cell) ++ drop (figuresOf h) figs))
+file-had v b out figs start from to seasons none l m =
+    version-had v b out figs start (known-by v from to) (seasons-by v (start .header) from seasons) (lapses-by v (start .lapses) none) l m
+
+-- the file that is written today is of the last of them
+pub today-had : (b : LogAndRows) (out figs : List ℕ) (start : Start b) → let h = start .header in let n = length (b .log) in
     n ≤ length out → figuresOf h ≤ length figs
     → readFile (fileBytes h (start .cells) (start .lapses)) out figs
     ≡ outcome (read.Done n) (logAndRows (b .log ++ drop n out) (allFigures h (viewOf (b .log) .cell) ++ drop (figuresOf h) figs))
-file-had b out figs start l m = version-had version b out figs start known-today (seasons-today (start .header)) (lapses-today (start .lapses)) l m
+today-had b out figs start l m = version-had version b out figs start known-today (seasons-today (start .header)) (lapses-today (start .lapses)) l m
 
 -- a start is faithful
 pub start-faithful : {b : LogAndRows} (start : Start b) → Faithful (start .header) (begin b)

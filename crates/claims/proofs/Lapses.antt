@@ -1,10 +1,10 @@
 -- Document 02, CR 7: what a lapse and a reply do to a cell's count of lapses, and the files of the versions before.
 use mathlib.Core.Path.{_≡_, refl, ap, _∙_}
 use mathlib.Core.Bool.{Bool, true, false, cond}
-use mathlib.Core.List.{List, _++_}
-use Prim.Native.Nat.{ℕ, _+_, _*_, _≤_, _<_}
+use mathlib.Core.List.{List}
+use Prim.Native.Nat.{ℕ, _+_, _*_, _<_}
 use lib.Dec.{leb, ltb}
-use lib.ListN.{length, take, drop}
+use lib.ListN.{length, take}
 use borrow.Author.Tests.{eq-eqb, lt-ltb, lt-leb, le-leb, ltb-true, ltb-false}
 use Rattle.refusal.specs.Outcome.{outcome}
 use Rattle.byte_numbers.specs.Number.{Bytes}
@@ -17,8 +17,7 @@ use Rattle.log_header.specs.declared.header.Header.{Header}
 use Rattle.log_header.specs.declared.header.HeaderAnswer.the-variants.{Right}
 use Rattle.log_header.specs.declared.header.LogHeader.the-variants.{Sound}
 use Rattle.day_rows.specs.LogAndRows.{LogAndRows, logAndRows}
-use Rattle.day_rows.specs.Rows.{figuresOf, allFigures}
-use Rattle.log_file.specs.File.{isVersion, seasonsFit, fileHeader, fileBytesAs, fileLengthAs}
+use Rattle.log_file.specs.File.{fileHeader, fileLengthAs}
 use Rattle.log_file.specs.Row.{hasLapses, rowSizeOf, rowStart}
 use Rattle.log_file.specs.Read.{readFile}
 use Rattle.log_file.specs.declared.read.ReadAnswer.{ReadAnswer}
@@ -34,9 +33,7 @@ use Rattle.logger.specs.declared.no_reply.LapseDecision.{LapseDecision}
 use Rattle.log.specs.declared.image.Change.the-variants as change
 use Rattle.logger.specs.declared.held.OpenAsk.{OpenAsk}
 use Rattle.logger.specs.declared.held.OpenAsk.the-variants.{Closed}
-use Rattle.claims.specs.Demand3.{Start}
 use Rattle.claims.specs.Seasons.{Begun}
-use Rattle.claims.proofs.History.{version-had}
 use Rattle.claims.proofs.Seasons.{wrong-length}
 
 -- what a lapse comes to where its ask is for a good cell of the log
@@ -93,12 +90,6 @@ early f out figs n bytes e p i =
     none : (b : Bool) (n : ℕ) → n ≡ 0 → cond b n 0 ≡ 0
     none true n p = p
     none false n p = refl
-
-pub early-had : (v : ℕ) (b : LogAndRows) (out figs : List ℕ) (start : Start b) → let h = start .header in let n = length (b .log) in
-    isVersion v ≡ true → seasonsFit v h ≡ true → ((i : ℕ) → start .lapses i ≡ 0) → n ≤ length out → figuresOf h ≤ length figs
-    → readFile (fileBytesAs v h (start .cells) (start .lapses)) out figs
-    ≡ outcome (read.Done n) (logAndRows (b .log ++ drop n out) (allFigures h (viewOf (b .log) .cell) ++ drop (figuresOf h) figs))
-early-had v b out figs start known seasons none l m = version-had v b out figs start known seasons (λ n. none) l m
 
 -- ---- a length by the version
 

@@ -1,11 +1,11 @@
 -- Document 02, CR 5: what becomes of slots that do not exist, by the laws of the crates below, and the files of version 1.
 use mathlib.Core.Path.{_≡_, refl, sym, ap, _∙_}
 use mathlib.Core.Bool.{Bool, true, false, cond, _&&_}
-use mathlib.Core.List.{List, _++_}
+use mathlib.Core.List.{List}
 use Prim.Native.Nat.{ℕ, _+_, _-_, _≤_, _<_}
 use native.Mathlib.Omega.{arith}
 use lib.Dec.{eqb, leb}
-use lib.ListN.{length, take, drop, getD}
+use lib.ListN.{length, take, getD}
 use borrow.Author.Tests.{eq-eqb, ne-eqb, lt-ltb, le-leb, leb-true}
 use Rattle.test_laws.proofs.Test.{both}
 use Rattle.refusal.specs.Outcome.{outcome}
@@ -30,10 +30,10 @@ use Rattle.log_header.specs.declared.header.Header.{Header}
 use Rattle.log_header.specs.declared.header.HeaderAnswer.the-variants.{Right, Wrong}
 use Rattle.log_header.specs.declared.header.LogHeader.the-variants.{Sound}
 use Rattle.day_rows.specs.LogAndRows.{LogAndRows, logAndRows}
-use Rattle.day_rows.specs.Rows.{figuresOf, walked, allFigures}
+use Rattle.day_rows.specs.Rows.{walked}
 use Rattle.day_rows.proofs.FiguresLaws.{slotsThere}
 use Rattle.day_rows.proofs.RowsLaws.{days-good, walked-adds-up, walked-none-doubled}
-use Rattle.log_file.specs.File.{isVersion, seasonsFit, fileHeader, fileBytesAs, fileLengthAs, fileLength, cellsRight}
+use Rattle.log_file.specs.File.{seasonsFit, fileHeader, fileLengthAs, fileLength, cellsRight}
 use Rattle.log_file.specs.Read.{readCells, readFields, readFile}
 use Rattle.log_file.specs.Row.{rowAt, lapsesIn}
 use Rattle.log_file.specs.Write.{writtenFile}
@@ -45,7 +45,7 @@ use Rattle.logger.specs.Book.{Call, AllBytes}
 use Rattle.logger.proofs.SeasonLaws.{run-kept}
 use Rattle.claims.specs.Demand3.{Start, begin, ran}
 use Rattle.claims.specs.Seasons.{Begun, Whole, Misplaced}
-use Rattle.claims.proofs.History.{start-seen, version-had}
+use Rattle.claims.proofs.History.{start-seen}
 use Rattle.claims.proofs.Second.{missed}
 
 pub stay-gaps : (b : LogAndRows) (start : Start b) (calls : List Call) → AllBytes calls → (i : ℕ) → i < cellsOf (start .header)
@@ -81,13 +81,6 @@ first-version f out figs n h bytes e p q =
     let same : Sound (a .header) ≡ Sound h = sym (ap soundOf front ∙ sound-image (a .lapses) (a .header) (a .cells) (a .whole .right) (a .whole .count)) ∙ q in
     let header : a .header ≡ h = cc in
     sym (ap (λ (x : Header). x .seasons) header) ∙ file.first-read f out figs (b .log) (b .figures) n a e
-
-pub first-version-had : (b : LogAndRows) (out figs : List ℕ) (start : Start b) → let h = start .header in let n = length (b .log) in
-    h .seasons ≡ 0 → ((i : ℕ) → start .lapses i ≡ 0) → n ≤ length out → figuresOf h ≤ length figs
-    → readFile (fileBytesAs 1 h (start .cells) (start .lapses)) out figs
-    ≡ outcome (read.Done n) (logAndRows (b .log ++ drop n out) (allFigures h (viewOf (b .log) .cell) ++ drop (figuresOf h) figs))
-unfolding isVersion seasonsFit
-first-version-had b out figs start e none l m = version-had 1 b out figs start refl (eq-eqb _ _ e) (λ n. none) l m
 
 -- ---- files that are refused
 

@@ -28,7 +28,7 @@ use Rattle.log.specs.View.{viewOf}
 use Rattle.day_rows.specs.LogAndRows.{LogAndRows, logAndRows}
 use Rattle.day_rows.specs.Fresh.{freshWith}
 use Rattle.day_rows.specs.Rows.{figuresOf, Right, allFigures, allGaps}
-use Rattle.log_file.specs.File.{fileBytes}
+use Rattle.log_file.specs.File.{fileBytesAs}
 use Rattle.log_file.specs.Read.{readFile}
 use Rattle.log_file.specs.declared.read.ReadAnswer.the-variants as read
 use Rattle.logger.specs.Book.{Call, Answer, Book, startBook, bookRun, workedOut, lapsesOut, CallBytes, AllBytes}
@@ -93,9 +93,10 @@ pub record Demand3 : Type 0 where
   pub fresh-had : (h : Header) (out figs : List ℕ) → isHeader h ≡ true → lengthOf h ≤ length out → figuresOf h ≤ length figs
       → freshWith h out figs
       ≡ outcome (made.Done (lengthOf h)) (logAndRows (freshImage h ++ drop (lengthOf h) out) (allFigures h allGaps ++ drop (figuresOf h) figs))
-  pub file-had : (b : LogAndRows) (out figs : List ℕ) (start : Start b) → let h = start .header in let n = length (b .log) in
-      n ≤ length out → figuresOf h ≤ length figs
-      → readFile (fileBytes h (start .cells) (start .lapses)) out figs
+  -- (of each version that can hold it: "version 1 is read as 0", "Versions 1 and 2 are read with zero lapses", document 02, CR 5 and CR 7)
+  pub file-had : (v : ℕ) (b : LogAndRows) (out figs : List ℕ) (start : Start b) → let h = start .header in let n = length (b .log) in
+      1 ≤ v → v ≤ 3 → (v ≡ 1 → h .seasons ≡ 0) → (v < 3 → (i : ℕ) → start .lapses i ≡ 0) → n ≤ length out → figuresOf h ≤ length figs
+      → readFile (fileBytesAs v h (start .cells) (start .lapses)) out figs
       ≡ outcome (read.Done n) (logAndRows (b .log ++ drop n out) (allFigures h (viewOf (b .log) .cell) ++ drop (figuresOf h) figs))
   -- "After every such list the log is byte for byte the one worked out afresh from that history."
   pub log : (b : LogAndRows) (start : Start b) (calls : List Call) → AllBytes calls → ran b calls .left .log ≡ logAfresh start calls

@@ -3,9 +3,9 @@
 -- leaves all that it was lent, demand 1's; here stands what becomes of these slots. Proofs: `seasons`, proofs/Claims.antt.
 use mathlib.Core.Path.{_≡_}
 use mathlib.Core.Bool.{true, false, cond}
-use mathlib.Core.List.{List, _++_}
+use mathlib.Core.List.{List}
 use Prim.Native.Nat.{ℕ, _+_, _-_, _≤_, _<_}
-use lib.ListN.{length, take, drop, getD}
+use lib.ListN.{length, take, getD}
 use Rattle.refusal.specs.Outcome.{outcome}
 use Rattle.byte_numbers.specs.Number.{Bytes}
 use Rattle.byte_numbers.specs.Place.{byteAt}
@@ -25,8 +25,8 @@ use Rattle.log_header.specs.declared.header.Header.{Header}
 use Rattle.log_header.specs.declared.header.HeaderAnswer.the-variants.{Right}
 use Rattle.log_header.specs.declared.header.LogHeader.the-variants.{Sound}
 use Rattle.day_rows.specs.LogAndRows.{LogAndRows, logAndRows}
-use Rattle.day_rows.specs.Rows.{figuresOf, walked, allFigures}
-use Rattle.log_file.specs.File.{isVersion, fileHeader, fileBytesAs, fileLengthAs, fileLength}
+use Rattle.day_rows.specs.Rows.{figuresOf, walked}
+use Rattle.log_file.specs.File.{isVersion, fileHeader, fileLengthAs, fileLength}
 use Rattle.log_file.specs.Row.{rowAt, lapsesIn}
 use Rattle.log_file.specs.Write.{writtenFile}
 use Rattle.log_file.specs.declared.write.WriteAnswer.the-variants as wrote
@@ -84,14 +84,9 @@ pub record Seasons : Type 0 where
       → let row = walked h cell d in
       getD row 0 0 + getD row 1 0 + getD row 2 0 ≡ slotsOf (h .minutes) - cond (isSpring (nightOn h d)) (hourOf (h .minutes)) 0
   pub none-doubled : (h : Header) (cell : ℕ → CellAnswer) (d : ℕ) → isAutumn (nightOn h d) ≡ false → getD (walked h cell d) 7 0 ≡ 0
-  -- "version 1 is read as 0": what a file of version 1 gives does not follow the seasons, and every start's that does not, and has no lapses, is
-  -- read
+  -- "version 1 is read as 0": what a file of version 1 gives does not follow the seasons; that every start's that does not is read is demand 3's `file-had`
   pub first-version : (f out figs : List ℕ) (n : ℕ) (h : Header) → Bytes f → versionAt f ≡ 1 → let o = readFile f out figs in o .result ≡ read.Done n
       → soundOf (take n (o .left .log)) ≡ Sound h → h .seasons ≡ 0
-  pub first-version-had : (b : LogAndRows) (out figs : List ℕ) (start : Start b) → let h = start .header in let n = length (b .log) in
-      h .seasons ≡ 0 → ((i : ℕ) → start .lapses i ≡ 0) → n ≤ length out → figuresOf h ≤ length figs
-      → readFile (fileBytesAs 1 h (start .cells) (start .lapses)) out figs
-      ≡ outcome (read.Done n) (logAndRows (b .log ++ drop n out) (allFigures h (viewOf (b .log) .cell) ++ drop (figuresOf h) figs))
   -- "32 for another header byte (version 1: any but 0)"
   pub other-byte : (f out figs : List ℕ) → Begun f → 1 < byteAt f 12 → readFile f out figs ≡ outcome read.WrongHeader (logAndRows out figs)
   pub first-byte : (f out figs : List ℕ) → Begun f → versionAt f ≡ 1 → (byteAt f 12 ≡ 0 → ⊥) → readFile f out figs ≡ outcome read.WrongHeader (logAndRows out figs)
