@@ -129,7 +129,8 @@ static void differ(const char *what)
 
 static void same_read_in(const uint8_t *f, size_t n, size_t room, size_t numbers)
 {
-    size_t ours = 7, c = 7;
+    metlazuel_size ours = 7;
+    size_t c = 7;
     memset(ours_out, 0xEE, sizeof ours_out);
     memset(c_out, 0xEE, sizeof c_out);
     memset(ours_figures, 0xEE, sizeof ours_figures);
@@ -212,7 +213,8 @@ static void same_answer(const uint8_t *f, size_t n, size_t room)
 {
     uint8_t a[65], b[65], record[sizeof kept];
     struct meter m;
-    size_t ours = 7, c = 7;
+    metlazuel_size ours = 7;
+    size_t c = 7;
     memset(a, 0xEE, sizeof a);
     memset(b, 0xEE, sizeof b);
     memcpy(record, kept, sizeof kept);
@@ -305,7 +307,8 @@ static void compare_bench(void)
 
 static void same_write(size_t n, size_t room)
 {
-    size_t ours = 7, c = 7;
+    metlazuel_size ours = 7;
+    size_t c = 7;
     memset(ours_out, 0xEE, sizeof ours_out);
     memset(c_out, 0xEE, sizeof c_out);
     uint8_t a = metlazuel_write_file(image, n, ours_out, room, &ours), b = c_write_file(c_crc_fold, image, n, c_out, room, &c);
@@ -319,7 +322,8 @@ static void same_write(size_t n, size_t room)
 static void same_take_in(size_t n, size_t numbers, const uint8_t *open, size_t size, const uint8_t *reply, size_t bytes)
 {
     uint8_t a[5], b[5], ours = 7, c = 7;
-    size_t ours_length = 99, c_length = 99;
+    metlazuel_size ours_length = 99;
+    size_t c_length = 99;
     memcpy(a, open, sizeof a);
     memcpy(b, open, sizeof b);
     memcpy(ours_out, image, sizeof image);
@@ -380,7 +384,8 @@ static void compare_figures(void)
 // A fresh log, of this header and in this room.
 static void same_fresh(const uint8_t *head, size_t room, size_t numbers)
 {
-    size_t ours = 7, c = 7;
+    metlazuel_size ours = 7;
+    size_t c = 7;
     uint16_t ke = (uint16_t)(head[10] | head[11] << 8);
     memset(ours_out, 0xEE, sizeof ours_out);
     memset(c_out, 0xEE, sizeof c_out);
@@ -426,7 +431,8 @@ static void compare_fresh(void)
 static void compare_filled(unsigned year, unsigned month, unsigned minutes)
 {
     unsigned slots = minutes == 15 ? 96 : 48, days = 31;
-    size_t n = 0, cells = days * slots;
+    metlazuel_size n = 0;
+    size_t cells = days * slots;
     memset(ours_figures, 0, sizeof ours_figures);
     if (metlazuel_log_fresh(ours_out, FULL, ours_figures, METLAZUEL_DAY_FIGURES, (uint8_t)year, (uint8_t)month, 20, (uint8_t)days, (uint8_t)minutes, 100, 1, &n) != 0)
         differ("fresh");
@@ -436,7 +442,8 @@ static void compare_filled(unsigned year, unsigned month, unsigned minutes)
     for (size_t i = 0; i < 2 * cells; i++) {
         size_t at = i * 1001 % cells;
         uint8_t a[4] = {1, 1, (uint8_t)(at / slots), (uint8_t)(at % slots)}, b[4], r[14] = {1, 3, 36, 0}, ours = 7, c = 7;
-        size_t ours_length = 99, c_length = 99;
+        metlazuel_size ours_length = 99;
+        size_t c_length = 99;
         memcpy(b, a, sizeof b);
         for (int k = 4; k < 12 && i % 5 != 0; k++)
             r[k] = (uint8_t)(i < cells ? roll() : 0);
@@ -751,7 +758,7 @@ static double now(void)
 }
 
 static volatile unsigned sink;
-static size_t length;
+static metlazuel_size length;
 static uint32_t row[METLAZUEL_ROW];
 
 static void ours_crc(void) { sink += metlazuel_crc16(file, SEALED); }
@@ -807,7 +814,7 @@ static void plain_absent(void) { plain_answer(absent_frame); }
 
 // The reply to an ask for the last slot of the log, which is measured with the same counts; and a copy of the log, whose asks lapse.
 static uint8_t taken[14] = {1, 3, 36, 0}, result, lapsing[IMAGE];
-static size_t received;
+static metlazuel_size received;
 
 static void make_reply(void)
 {

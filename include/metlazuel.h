@@ -12,12 +12,16 @@
 #include <stddef.h>
 #include <stdint.h>
 
-// What is declared here, as major * 10000 + minor * 100 + patch: 7.0.0. What is there today stays as it is while the major number does.
-#define METLAZUEL_VERSION 70000
+// What is declared here, as major * 10000 + minor * 100 + patch: 7.1.0. What is there today stays as it is while the major number does.
+#define METLAZUEL_VERSION 70100
 
 #ifdef __cplusplus
 extern "C" {
 #endif
+
+// A length, or a number of numbers. It has 64 bits on every machine, since the library's own lengths have, whatever size_t is there: a program whose
+// size_t has 32 bits passes 64 all the same, and lends 64 where a length is stored. On x86-64 it is what size_t is, and either may be used.
+typedef uint64_t metlazuel_size;
 
 // The answers: the numbers of document 01's refusal table, and 16, 40, 41 and 50 to 54 of document 02.
 enum metlazuel_answer {
@@ -102,7 +106,7 @@ enum metlazuel_function {
 };
 
 // The Modbus CRC-16.
-uint16_t metlazuel_crc16(const uint8_t *bytes, size_t n);
+uint16_t metlazuel_crc16(const uint8_t *bytes, metlazuel_size n);
 
 // ---- the log
 //
@@ -116,8 +120,8 @@ uint16_t metlazuel_crc16(const uint8_t *bytes, size_t n);
 //
 // A log follows the automatic seasons or does not. Where it does, the last Sunday of March has no time between 02:00 and 03:00: those slots
 // (4 and 5 of 30 minutes, 8 to 11 of 15) do not exist on that day. Their cells stay gaps, but they are NOT_IN_LOG to metlazuel_ask,
-// metlazuel_take and metlazuel_cell, and neither the report nor the next gap counts them. On the last Sunday of October that hour comes twice
-// under one key: its slots are logged as any other, and the report tells how many of them are measured.
+// metlazuel_lapse, metlazuel_take and metlazuel_cell, and neither the report nor the next gap counts them. On the last Sunday of October that
+// hour comes twice under one key: its slots are logged as any other, and the report tells how many of them are measured.
 //
 // Beside the log stand its figures: METLAZUEL_ROW numbers a day, day after day, each row as metlazuel_day_report gives it, so METLAZUEL_DAY_FIGURES
 // at most. They spare the report the walk over the day's cells. The caller owns log, figures and open ask, and the three go together: each call that
@@ -177,20 +181,20 @@ enum { METLAZUEL_NO_GAP = 255 };
 // A fresh log, all gaps, that starts on a date (the year counts from 2000) and has 1 to 62 days of slots of 15 or 30 minutes, and ke
 // milliwatt-hours a count; seasons is 1 where it follows the automatic seasons, else 0. Its figures go to the front of figures. OUT_OF_RANGE, TOO_SHORT
 // (log or figures), else DONE. A refusal leaves log, figures and *length.
-uint8_t metlazuel_log_fresh(uint8_t *log, size_t room, uint32_t *figures, size_t numbers, uint8_t year, uint8_t month, uint8_t day,
-                            uint8_t days, uint8_t minutes, uint16_t ke, uint8_t seasons, size_t *length);
+uint8_t metlazuel_log_fresh(uint8_t *log, metlazuel_size room, uint32_t *figures, metlazuel_size numbers, uint8_t year, uint8_t month,
+                            uint8_t day, uint8_t days, uint8_t minutes, uint16_t ke, uint8_t seasons, metlazuel_size *length);
 
 // The cell of a slot of a day, both counted from 0: its kind to *kind, one of enum metlazuel_kind, its counts E+, E-, R+, R- to counts, zeros
 // unless it is measured, and how many asks for it lapsed to *lapses, of every kind. UNSOUND (log), NOT_IN_LOG, UNSOUND (the cell), else DONE. A
 // refusal leaves all three.
-uint8_t metlazuel_cell(const uint8_t *log, size_t n, uint8_t day, uint8_t slot, uint8_t *kind, uint16_t counts[METLAZUEL_COUNTS],
+uint8_t metlazuel_cell(const uint8_t *log, metlazuel_size n, uint8_t day, uint8_t slot, uint8_t *kind, uint16_t counts[METLAZUEL_COUNTS],
                        uint8_t *lapses);
 
 // The first slot of a day, from a slot on, whose cell is a gap, to *slot; METLAZUEL_NO_GAP where there is none, also from a slot on that
 // the day does not have. A damaged cell is no gap: metlazuel_cell and metlazuel_write_file find it; nor is one of a slot that does not exist.
 // UNSOUND (log), NOT_IN_LOG (the day), else DONE, found or not. A refusal leaves *slot. All gaps of a day:
 //   for (uint8_t slot = 0; metlazuel_next_gap(log, n, day, slot, &slot) == METLAZUEL_DONE && slot != METLAZUEL_NO_GAP; slot++)
-uint8_t metlazuel_next_gap(const uint8_t *log, size_t n, uint8_t day, uint8_t from, uint8_t *slot);
+uint8_t metlazuel_next_gap(const uint8_t *log, metlazuel_size n, uint8_t day, uint8_t from, uint8_t *slot);
 
 // The open ask is METLAZUEL_ASK_BYTES: 0 and three bytes that nobody looks at where none is open (so four zero bytes to begin with), or
 // 1, address, day and slot. Bytes of another length, or with another first byte, are UNSOUND. A call that is refused leaves them as they
@@ -198,36 +202,38 @@ uint8_t metlazuel_next_gap(const uint8_t *log, size_t n, uint8_t day, uint8_t fr
 
 // Opens an ask to a meter for a slot of a day, both counted from 0, and puts its request to the front of out: METLAZUEL_REQUEST_BYTES.
 // TOO_SHORT, UNSOUND (log or ask), ASK_ALREADY_OPEN, NOT_IN_LOG, else DONE.
-uint8_t metlazuel_ask(const uint8_t *log, size_t n, uint8_t *ask, size_t size, uint8_t address, uint8_t day, uint8_t slot,
-                      uint8_t *out, size_t room);
+uint8_t metlazuel_ask(const uint8_t *log, metlazuel_size n, uint8_t *ask, metlazuel_size size, uint8_t address, uint8_t day, uint8_t slot,
+                      uint8_t *out, metlazuel_size room);
 
 // No well-formed reply came: closes the ask, and its cell in the log has one lapse more, at most 255. With none open log and ask stay as they are:
 // DONE, whatever the log is. UNSOUND (ask), and with one open UNSOUND (log), NOT_IN_LOG, UNSOUND (the interval's cell), else DONE. A refusal leaves
 // log and ask, so that the ask is still open.
-uint8_t metlazuel_lapse(uint8_t *log, size_t n, uint8_t *ask, size_t size);
+uint8_t metlazuel_lapse(uint8_t *log, metlazuel_size n, uint8_t *ask, metlazuel_size size);
 
 // Takes a reply for the open ask into the log, and its day's row of figures goes with it. UNSOUND (ask or log), TOO_SHORT (fewer figures than the log
 // has), NO_ASK_OPEN, NOT_IN_LOG, REPLY_LENGTH (the length received is stored through length, which every other answer leaves) to REPLY_PARAMETER, the
 // first that is wrong (the ask stays open), METER_REFUSED (the ask is closed, and the meter's result stored through result, which every other answer
 // leaves), UNSOUND (the interval's cell), OTHER_COUNTS (the ask is closed, the cell stays), UNSOUND (the day's figures cannot be this log's: one would
 // fall below 0 or pass 32 bits; nothing is changed at all, and the ask stays open), else DONE (the ask is closed).
-uint8_t metlazuel_take(uint8_t *log, size_t n, uint32_t *figures, size_t numbers, uint8_t *ask, size_t size, const uint8_t *reply,
-                       size_t bytes, uint8_t *result, size_t *length);
+uint8_t metlazuel_take(uint8_t *log, metlazuel_size n, uint32_t *figures, metlazuel_size numbers, uint8_t *ask, metlazuel_size size,
+                       const uint8_t *reply, metlazuel_size bytes, uint8_t *result, metlazuel_size *length);
 
 // A day's report, the days counted from 0: the number of gaps, empty and measured cells of the slots that exist, then the sums of E+, E-, R+
 // and R-, and how many of the measured slots came twice (0 but on the last Sunday of October, where seasons are followed), to the front of
 // a row of at least METLAZUEL_ROW numbers. It is the day's row of the figures that are lent: no cell is read, so a damaged one is no matter here. TOO_SHORT
 // (the row), UNSOUND (log), TOO_SHORT (fewer figures than the log has), NOT_IN_LOG, else DONE.
-uint8_t metlazuel_day_report(const uint8_t *log, size_t n, const uint32_t *figures, size_t numbers, uint8_t day, uint32_t *row, size_t room);
+uint8_t metlazuel_day_report(const uint8_t *log, metlazuel_size n, const uint32_t *figures, metlazuel_size numbers, uint8_t day,
+                             uint32_t *row, metlazuel_size room);
 
 // A log, written as a file of version 3 to the front of out, its length to *length. UNSOUND (header, length), TOO_SHORT, UNSOUND (a cell, also
 // one that is no gap, or has lapses, in a slot that does not exist), else DONE.
-uint8_t metlazuel_write_file(const uint8_t *log, size_t n, uint8_t *out, size_t room, size_t *length);
+uint8_t metlazuel_write_file(const uint8_t *log, metlazuel_size n, uint8_t *out, metlazuel_size room, metlazuel_size *length);
 
 // A file of version 3, of version 2, which has no lapses, or of version 1, which follows no seasons either, read as a log to the front of out, the
-// image's length to *length: METLAZUEL_IMAGE_BYTES of its cells, whichever version it was. Its figures, by a walk over all its cells, go to the front of
-// figures. FILE_MARK to FILE_CELL, TOO_SHORT (out or figures), else DONE. A refusal leaves out, figures and *length.
-uint8_t metlazuel_read_file(const uint8_t *file, size_t n, uint8_t *out, size_t room, uint32_t *figures, size_t numbers, size_t *length);
+// image's length to *length: METLAZUEL_IMAGE_BYTES of its cells, whichever version it was. Its figures, counted from the cells of the slots that exist, go to
+// the front of figures. FILE_MARK to FILE_CELL, TOO_SHORT (out or figures), else DONE. A refusal leaves out, figures and *length.
+uint8_t metlazuel_read_file(const uint8_t *file, metlazuel_size n, uint8_t *out, metlazuel_size room, uint32_t *figures,
+                            metlazuel_size numbers, metlazuel_size *length);
 
 // ---- read requests and their replies, without a log
 //
@@ -237,12 +243,12 @@ uint8_t metlazuel_read_file(const uint8_t *file, size_t n, uint8_t *out, size_t 
 // Puts a read request to the front of out: METLAZUEL_REQUEST_BYTES. TOO_SHORT, OUT_OF_RANGE (a request that no meter would answer with
 // result 0), else DONE.
 uint8_t metlazuel_request(uint8_t address, uint8_t parameter, uint8_t offset, uint8_t tariff, uint8_t detail, uint8_t *out,
-                          size_t room);
+                          metlazuel_size room);
 
 // The same with function 4, which newer meters answer with figures as their display shows them. It reads METLAZUEL_PARAMETER_SLICE alone:
 // any other parameter is OUT_OF_RANGE.
 uint8_t metlazuel_request4(uint8_t address, uint8_t parameter, uint8_t offset, uint8_t tariff, uint8_t detail, uint8_t *out,
-                           size_t room);
+                           metlazuel_size room);
 
 // Decodes the reply to a read request. Its figures go to the front of a row of 32-bit numbers, and how many they are to *count:
 //   address               1
@@ -257,12 +263,14 @@ uint8_t metlazuel_request4(uint8_t address, uint8_t parameter, uint8_t offset, u
 // 0), REPLY_LENGTH (the length received is stored through length, which every other answer leaves) to REPLY_PARAMETER, METER_REFUSED (the
 // meter's result is stored through result, which every other answer leaves), NOT_FINITE, else DONE. A refusal leaves figures and *count.
 uint8_t metlazuel_decode(uint8_t address, uint8_t parameter, uint8_t offset, uint8_t tariff, uint8_t detail, const uint8_t *reply,
-                         size_t bytes, uint32_t *figures, size_t room, size_t *count, uint8_t *result, size_t *length);
+                         metlazuel_size bytes, uint32_t *figures, metlazuel_size room, metlazuel_size *count, uint8_t *result,
+                         metlazuel_size *length);
 
 // The same of a reply to a request with function 4. Its figures:
 //   slice                 4   E+, E-, R+, R- in kilowatt-hours, each as the bits of its 32-bit float
 uint8_t metlazuel_decode4(uint8_t address, uint8_t parameter, uint8_t offset, uint8_t tariff, uint8_t detail, const uint8_t *reply,
-                          size_t bytes, uint32_t *figures, size_t room, size_t *count, uint8_t *result, size_t *length);
+                          metlazuel_size bytes, uint32_t *figures, metlazuel_size room, metlazuel_size *count, uint8_t *result,
+                          metlazuel_size *length);
 
 // ---- the bench meter
 //
@@ -271,28 +279,28 @@ uint8_t metlazuel_decode4(uint8_t address, uint8_t parameter, uint8_t offset, ui
 // its ranges, are UNSOUND.
 
 // A meter from the factory. The year counts from 2000; season 0 is winter and 1 summer. TOO_SHORT, OUT_OF_RANGE, else DONE.
-uint8_t metlazuel_meter_make(uint8_t *meter, size_t n, uint8_t address, uint8_t minutes, uint32_t k, uint16_t ke, uint16_t reserve,
+uint8_t metlazuel_meter_make(uint8_t *meter, metlazuel_size n, uint8_t address, uint8_t minutes, uint32_t k, uint16_t ke, uint16_t reserve,
                              uint8_t year, uint8_t month, uint8_t day, uint8_t hour, uint8_t minute, uint8_t second, uint8_t season);
 
 // Answers a frame. The reply goes to the front of out, which has at least METLAZUEL_FRAME_BYTES, and its length to *length. TOO_SHORT,
 // UNSOUND, SILENT (nothing is to be sent, and *length is left as it was), UNKNOWN_FUNCTION to BY_ADDRESS_ZERO (six bytes), else DONE.
-uint8_t metlazuel_meter_answer(uint8_t *meter, size_t n, uint8_t *store, size_t size, const uint8_t *frame, size_t bytes, uint8_t *out,
-                               size_t room, size_t *length);
+uint8_t metlazuel_meter_answer(uint8_t *meter, metlazuel_size n, uint8_t *store, metlazuel_size size, const uint8_t *frame,
+                               metlazuel_size bytes, uint8_t *out, metlazuel_size room, metlazuel_size *length);
 
 // A second passes. UNSOUND, else DONE.
-uint8_t metlazuel_meter_second(uint8_t *meter, size_t n);
+uint8_t metlazuel_meter_second(uint8_t *meter, metlazuel_size n);
 
 // Puts a slice into the store: E+, E-, R+ and R- of an interval. UNSOUND, OUT_OF_RANGE, else DONE.
-uint8_t metlazuel_meter_slice(uint8_t *meter, size_t n, uint8_t *store, size_t size, uint8_t month, uint8_t day, uint8_t number,
-                              uint16_t eplus, uint16_t eminus, uint16_t rplus, uint16_t rminus);
+uint8_t metlazuel_meter_slice(uint8_t *meter, metlazuel_size n, uint8_t *store, metlazuel_size size, uint8_t month, uint8_t day,
+                              uint8_t number, uint16_t eplus, uint16_t eminus, uint16_t rplus, uint16_t rminus);
 
 // Sets the powers that METLAZUEL_PARAMETER_ACTIVE_POWER or METLAZUEL_PARAMETER_REACTIVE_POWER reads, those of A, B and C, each as the bits
 // of a 32-bit float. UNSOUND, OUT_OF_RANGE, else DONE.
-uint8_t metlazuel_meter_powers(uint8_t *meter, size_t n, uint8_t parameter, uint32_t a, uint32_t b, uint32_t c);
+uint8_t metlazuel_meter_powers(uint8_t *meter, metlazuel_size n, uint8_t parameter, uint32_t a, uint32_t b, uint32_t c);
 
 // Sets the ratios of the current and voltage transformers before the meter, at first 1 each: from 1 on, their product at most 1,000,000. What
 // function 4 reads has both in it. UNSOUND, OUT_OF_RANGE, else DONE.
-uint8_t metlazuel_meter_ratios(uint8_t *meter, size_t n, uint32_t ki, uint32_t ku);
+uint8_t metlazuel_meter_ratios(uint8_t *meter, metlazuel_size n, uint32_t ki, uint32_t ku);
 
 // ---- the Mercury 206
 //
@@ -304,7 +312,7 @@ enum metlazuel_mercury_command {
 };
 
 // Puts a request to the front of out: METLAZUEL_MERCURY_REQUEST_BYTES. TOO_SHORT, MERCURY_FORM (another command), else DONE.
-uint8_t metlazuel_mercury_request(uint32_t address, uint8_t command, uint8_t *out, size_t room);
+uint8_t metlazuel_mercury_request(uint32_t address, uint8_t command, uint8_t *out, metlazuel_size room);
 
 // Decodes the reply to a request. Its figures go to the front of a row of 32-bit numbers, and how many they are to *count:
 //   tariffs     4   energy by tariff, in tens of watt-hours
@@ -312,16 +320,16 @@ uint8_t metlazuel_mercury_request(uint32_t address, uint8_t command, uint8_t *ou
 //   frequency   8   hundredths of a hertz, and the seven bytes behind it as they are, a number each
 // TOO_SHORT (a row for fewer figures than a reply to this request has), MERCURY_FORM, MERCURY_DIGIT, else DONE. A refusal leaves figures and
 // *count.
-uint8_t metlazuel_mercury_decode(uint32_t address, uint8_t command, const uint8_t *reply, size_t bytes, uint32_t *figures, size_t room,
-                                 size_t *count);
+uint8_t metlazuel_mercury_decode(uint32_t address, uint8_t command, const uint8_t *reply, metlazuel_size bytes, uint32_t *figures,
+                                 metlazuel_size room, metlazuel_size *count);
 
 // The bench: answers a request as the meter with this address and these figures does, in the units of metlazuel_mercury_decode. rest is the
 // METLAZUEL_MERCURY_REST bytes behind the frequency; of fewer, those that are missing are 0. The reply goes to the front of out, which has
 // at least METLAZUEL_FRAME_BYTES, and its length to *length. TOO_SHORT, OUT_OF_RANGE (a figure above its digits: tariffs have eight, power six,
 // the others four), MERCURY_FORM (nothing is to be sent), else DONE. A refusal leaves out and *length.
 uint8_t metlazuel_mercury_answer(uint32_t address, uint32_t first, uint32_t second, uint32_t third, uint32_t fourth, uint16_t voltage,
-                                 uint16_t current, uint32_t power, uint16_t frequency, const uint8_t *rest, size_t size,
-                                 const uint8_t *request, size_t bytes, uint8_t *out, size_t room, size_t *length);
+                                 uint16_t current, uint32_t power, uint16_t frequency, const uint8_t *rest, metlazuel_size size,
+                                 const uint8_t *request, metlazuel_size bytes, uint8_t *out, metlazuel_size room, metlazuel_size *length);
 
 #ifdef __cplusplus
 }

@@ -24,9 +24,9 @@ static void expect(const char *call, uint8_t answer, uint8_t wanted)
 }
 
 // The wire: a frame to the meter, and its reply.
-static size_t exchange(const uint8_t *frame, uint8_t *reply)
+static metlazuel_size exchange(const uint8_t *frame, uint8_t *reply)
 {
-    size_t length;
+    metlazuel_size length;
     expect("meter_answer",
            metlazuel_meter_answer(record, sizeof record, store, sizeof store, frame, METLAZUEL_REQUEST_BYTES, reply,
                                   METLAZUEL_FRAME_BYTES, &length),
@@ -62,13 +62,13 @@ static void make_meter(void)
 }
 
 // Asks for the first three slots of the day; the reply to the third is lost.
-static void fill(size_t n)
+static void fill(metlazuel_size n)
 {
     uint8_t ask[METLAZUEL_ASK_BYTES] = {0}, frame[METLAZUEL_REQUEST_BYTES], reply[METLAZUEL_FRAME_BYTES], result;
-    size_t received;
+    metlazuel_size received;
     for (uint8_t slot = 0; slot < 3; slot++) {
         expect("ask", metlazuel_ask(image, n, ask, sizeof ask, METER, 0, slot, frame, sizeof frame), METLAZUEL_DONE);
-        size_t length = exchange(frame, reply);
+        metlazuel_size length = exchange(frame, reply);
         if (slot == 2)
             expect("lapse", metlazuel_lapse(image, n, ask, sizeof ask), METLAZUEL_DONE);
         else
@@ -81,7 +81,7 @@ static void fill(size_t n)
 }
 
 // The cells of the three slots, and the day's gaps.
-static void show_cells(size_t n)
+static void show_cells(metlazuel_size n)
 {
     static const char *const kinds[] = {"gap", "empty", "measured"};
     uint8_t kind, lapses, first;
@@ -99,7 +99,7 @@ static void show_cells(size_t n)
     expect("next_gap", metlazuel_next_gap(image, n, 1, 0, &first), METLAZUEL_NOT_IN_LOG);
 }
 
-static void report(size_t n, const char *date)
+static void report(metlazuel_size n, const char *date)
 {
     uint32_t row[METLAZUEL_ROW];
     expect("day_report", metlazuel_day_report(image, n, figures, METLAZUEL_DAY_FIGURES, 0, row, METLAZUEL_ROW), METLAZUEL_DONE);
@@ -110,9 +110,9 @@ static void report(size_t n, const char *date)
 }
 
 // The file, and the log read back from it, with the figures that the file does not carry.
-static void save(size_t n)
+static void save(metlazuel_size n)
 {
-    size_t length, m;
+    metlazuel_size length, m;
     expect("write_file", metlazuel_write_file(image, n, file, sizeof file, &length), METLAZUEL_DONE);
     expect("read_file", metlazuel_read_file(file, length, back, sizeof back, again, METLAZUEL_ROW - 1, &m), METLAZUEL_TOO_SHORT);
     expect("read_file", metlazuel_read_file(file, length, back, sizeof back, again, METLAZUEL_ROW, &m), METLAZUEL_DONE);
@@ -122,12 +122,12 @@ static void save(size_t n)
 }
 
 // A parameter without further fields, read and decoded; a reply with a damaged byte, or one that is cut, is not taken for one.
-static size_t read_figures(uint8_t parameter, uint32_t *figures)
+static metlazuel_size read_figures(uint8_t parameter, uint32_t *figures)
 {
     uint8_t frame[METLAZUEL_REQUEST_BYTES], reply[METLAZUEL_FRAME_BYTES], result;
-    size_t count, received = 0;
+    metlazuel_size count, received = 0;
     expect("request", metlazuel_request(METER, parameter, 0, 0, 0, frame, sizeof frame), METLAZUEL_DONE);
-    size_t length = exchange(frame, reply);
+    metlazuel_size length = exchange(frame, reply);
     expect("decode", metlazuel_decode(METER, parameter, 0, 0, 0, reply, length, figures, METLAZUEL_FIGURES, &count, &result, &received),
            METLAZUEL_DONE);
     reply[length - 3] ^= 1;
@@ -142,7 +142,7 @@ static size_t read_figures(uint8_t parameter, uint32_t *figures)
 static void show_clock(void)
 {
     uint32_t f[METLAZUEL_FIGURES];
-    size_t count = read_figures(METLAZUEL_PARAMETER_CLOCK, f);
+    metlazuel_size count = read_figures(METLAZUEL_PARAMETER_CLOCK, f);
     printf("clock, %u figures: 20%02u-%02u-%02u %02u:%02u:%02u\n", (unsigned)count, (unsigned)f[0], (unsigned)f[1], (unsigned)f[2],
            (unsigned)f[3], (unsigned)f[4], (unsigned)f[5]);
 }
@@ -150,7 +150,7 @@ static void show_clock(void)
 static void show_powers(void)
 {
     uint32_t f[METLAZUEL_FIGURES];
-    size_t count = read_figures(METLAZUEL_PARAMETER_ACTIVE_POWER, f);
+    metlazuel_size count = read_figures(METLAZUEL_PARAMETER_ACTIVE_POWER, f);
     printf("powers, %u figures: total %g, A %g, B %g, C %g\n", (unsigned)count, power_of(f[0]), power_of(f[1]), power_of(f[2]),
            power_of(f[3]));
 }
@@ -160,9 +160,9 @@ static void show_displayed(void)
 {
     uint8_t frame[METLAZUEL_REQUEST_BYTES], reply[METLAZUEL_FRAME_BYTES], result;
     uint32_t f[METLAZUEL_FIGURES];
-    size_t count = 0, received;
+    metlazuel_size count = 0, received;
     expect("request4", metlazuel_request4(METER, METLAZUEL_PARAMETER_SLICE, 5, 17, 0, frame, sizeof frame), METLAZUEL_DONE);
-    size_t length = exchange(frame, reply);
+    metlazuel_size length = exchange(frame, reply);
     expect("decode4",
            metlazuel_decode4(METER, METLAZUEL_PARAMETER_SLICE, 5, 17, 0, reply, length, f, METLAZUEL_FIGURES, &count, &result, &received),
            METLAZUEL_DONE);
@@ -174,7 +174,7 @@ static void show_displayed(void)
 static void show_seasons(void)
 {
     uint8_t ask[METLAZUEL_ASK_BYTES] = {0}, frame[METLAZUEL_REQUEST_BYTES], reply[METLAZUEL_FRAME_BYTES], result, slot;
-    size_t n, received;
+    metlazuel_size n, received;
     expect("log_fresh", metlazuel_log_fresh(image, sizeof image, figures, METLAZUEL_DAY_FIGURES, 24, 3, 31, 1, 30, 100, 1, &n),
            METLAZUEL_DONE);
     expect("ask", metlazuel_ask(image, n, ask, sizeof ask, METER, 0, 5, frame, sizeof frame), METLAZUEL_NOT_IN_LOG);
@@ -185,18 +185,18 @@ static void show_seasons(void)
     expect("log_fresh", metlazuel_log_fresh(image, sizeof image, figures, METLAZUEL_DAY_FIGURES, 24, 10, 27, 1, 30, 100, 1, &n),
            METLAZUEL_DONE);
     expect("ask", metlazuel_ask(image, n, ask, sizeof ask, METER, 0, 5, frame, sizeof frame), METLAZUEL_DONE);
-    size_t length = exchange(frame, reply);
+    metlazuel_size length = exchange(frame, reply);
     expect("take", metlazuel_take(image, n, figures, METLAZUEL_DAY_FIGURES, ask, sizeof ask, reply, length, &result, &received),
            METLAZUEL_DONE);
     report(n, "2024-10-27");
 }
 
 // A Mercury 206 beside it: a command sent to the bench and its reply decoded; another meter's request gets no answer.
-static size_t read_mercury(uint8_t command, uint32_t *figures)
+static metlazuel_size read_mercury(uint8_t command, uint32_t *figures)
 {
     static const uint8_t rest[METLAZUEL_MERCURY_REST] = {0x3A};
     uint8_t request[METLAZUEL_MERCURY_REQUEST_BYTES], reply[METLAZUEL_FRAME_BYTES];
-    size_t length = 0, count = 0;
+    metlazuel_size length = 0, count = 0;
     expect("mercury_request", metlazuel_mercury_request(MERCURY, command, request, sizeof request), METLAZUEL_DONE);
     expect("mercury_answer",
            metlazuel_mercury_answer(MERCURY + 1, 22750, 0, 0, 0, 2300, 150, 100, 5050, rest, sizeof rest, request, sizeof request, reply,
@@ -219,10 +219,10 @@ static void show_mercury(void)
 {
     static const uint8_t commands[] = {METLAZUEL_MERCURY_TARIFFS, METLAZUEL_MERCURY_LOAD, METLAZUEL_MERCURY_FREQUENCY};
     uint32_t f[METLAZUEL_MERCURY_FIGURES];
-    for (size_t c = 0; c < sizeof commands; c++) {
-        size_t count = read_mercury(commands[c], f);
+    for (metlazuel_size c = 0; c < sizeof commands; c++) {
+        metlazuel_size count = read_mercury(commands[c], f);
         printf("Mercury 206, command %02X:", commands[c]);
-        for (size_t i = 0; i < count; i++)
+        for (metlazuel_size i = 0; i < count; i++)
             printf(" %u", (unsigned)f[i]);
         printf("\n");
     }
@@ -230,7 +230,7 @@ static void show_mercury(void)
 
 int main(void)
 {
-    size_t n;
+    metlazuel_size n;
     make_meter();
     expect("log_fresh", metlazuel_log_fresh(image, sizeof image, figures, METLAZUEL_DAY_FIGURES, 24, 5, 17, 1, 30, 100, 0, &n),
            METLAZUEL_DONE);

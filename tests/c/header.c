@@ -25,7 +25,7 @@ static unsigned two_bytes(const uint8_t *at)
 }
 
 // Another kind of a cell: the three others of its byte stay.
-static void put_kind(uint8_t *log, size_t i, uint8_t kind)
+static void put_kind(uint8_t *log, metlazuel_size i, uint8_t kind)
 {
     uint8_t *at = log + METLAZUEL_AT_KINDS + i / 4;
     *at = (uint8_t)((*at & ~(3 << i % 4 * 2)) | (kind << i % 4 * 2));
@@ -34,13 +34,14 @@ static void put_kind(uint8_t *log, size_t i, uint8_t kind)
 // The longest log: 62 days of 96 slots, and its file.
 static void longest_log(void)
 {
-    size_t n = 0, length = 0;
+    metlazuel_size n = 0, length = 0;
     check("a shorter log's room",
           metlazuel_log_fresh(image, sizeof image - 1, figures, METLAZUEL_DAY_FIGURES, 24, 5, 17, DAYS, MINUTES, KE, SEASONS, &n)
               == METLAZUEL_TOO_SHORT);
     check("fewer figures",
           metlazuel_log_fresh(image, sizeof image, figures, METLAZUEL_DAY_FIGURES - 1, 24, 5, 17, DAYS, MINUTES, KE, SEASONS, &n)
               == METLAZUEL_TOO_SHORT);
+    check("a length of 64 bits", sizeof(metlazuel_size) == 8 && (metlazuel_size)-1 > 0);
     check("a log's room", metlazuel_log_fresh(image, sizeof image, figures, METLAZUEL_DAY_FIGURES, 24, 5, 17, DAYS, MINUTES, KE, SEASONS, &n)
                               == METLAZUEL_DONE);
     check("a log's length", n == METLAZUEL_LOG_BYTES && n == METLAZUEL_IMAGE_BYTES(METLAZUEL_CELLS) && METLAZUEL_CELLS == DAYS * SLOTS);
@@ -70,7 +71,7 @@ static void header_bytes(void)
 }
 
 // Puts the CRC behind n bytes, and says how many they are then.
-static size_t seal(uint8_t *bytes, size_t n)
+static metlazuel_size seal(uint8_t *bytes, metlazuel_size n)
 {
     uint16_t crc = metlazuel_crc16(bytes, n);
     bytes[n] = (uint8_t)(crc & 255);
@@ -79,9 +80,9 @@ static size_t seal(uint8_t *bytes, size_t n)
 }
 
 // A frame to the meter, its bytes before the CRC: the answer, and the reply's bytes.
-static uint8_t exchange(uint8_t *frame, size_t n, uint8_t *reply, size_t *length)
+static uint8_t exchange(uint8_t *frame, metlazuel_size n, uint8_t *reply, metlazuel_size *length)
 {
-    size_t bytes = seal(frame, n);
+    metlazuel_size bytes = seal(frame, n);
     return metlazuel_meter_answer(record, sizeof record, store, METLAZUEL_STORE_BYTES, frame, bytes, reply, METLAZUEL_FRAME_BYTES, length);
 }
 
@@ -97,13 +98,13 @@ static void meter(void)
 }
 
 // A reply for the ask, with so many figures: the answer.
-static uint8_t take_with(size_t numbers, uint8_t *ask, const uint8_t *reply, size_t n, uint8_t *result)
+static uint8_t take_with(metlazuel_size numbers, uint8_t *ask, const uint8_t *reply, metlazuel_size n, uint8_t *result)
 {
-    size_t received;
+    metlazuel_size received;
     return metlazuel_take(image, sizeof image, figures, numbers, ask, METLAZUEL_ASK_BYTES, reply, n, result, &received);
 }
 
-static uint8_t take(uint8_t *ask, const uint8_t *reply, size_t n, uint8_t *result)
+static uint8_t take(uint8_t *ask, const uint8_t *reply, metlazuel_size n, uint8_t *result)
 {
     return take_with(METLAZUEL_DAY_FIGURES, ask, reply, n, result);
 }
@@ -114,7 +115,7 @@ static void cell_bytes(void)
     uint8_t ask[METLAZUEL_ASK_BYTES + 1] = {0}, frame[METLAZUEL_REQUEST_BYTES], reply[METLAZUEL_FRAME_BYTES], result, kind, lapses;
     const uint8_t *cell = file + METLAZUEL_HEADER_BYTES + 3 * METLAZUEL_FILE_CELL_BYTES;
     uint16_t counts[METLAZUEL_COUNTS];
-    size_t length;
+    metlazuel_size length;
     check("a gap's bits", METLAZUEL_KIND_IN(image, 3) == METLAZUEL_KIND_GAP);
     check("a gap", metlazuel_cell(image, sizeof image, 0, 3, &kind, counts, &lapses) == METLAZUEL_DONE && kind == METLAZUEL_KIND_GAP
                        && lapses == 0);
@@ -169,7 +170,7 @@ static void empty_cell(void)
 {
     uint8_t ask[METLAZUEL_ASK_BYTES] = {0}, frame[METLAZUEL_REQUEST_BYTES], reply[METLAZUEL_FRAME_BYTES], result, kind, lapses;
     uint16_t counts[METLAZUEL_COUNTS];
-    size_t length;
+    metlazuel_size length;
     check("an ask", metlazuel_ask(image, sizeof image, ask, sizeof ask, METER, 0, 4, frame, sizeof frame) == METLAZUEL_DONE);
     check("a reply", exchange(frame, sizeof frame - 2, reply, &length) == METLAZUEL_DONE);
     check("a reply taken", take(ask, reply, length, &result) == METLAZUEL_DONE);
@@ -182,7 +183,7 @@ static void day_figures(void)
 {
     uint8_t ask[METLAZUEL_ASK_BYTES] = {0}, frame[METLAZUEL_REQUEST_BYTES], reply[METLAZUEL_FRAME_BYTES], result;
     uint32_t row[METLAZUEL_ROW];
-    size_t length;
+    metlazuel_size length;
     check("the first day's figures", figures[0] == 94 && figures[1] == 1 && figures[2] == 1 && figures[3] == 1 && figures[6] == 0x0504);
     check("the next day's", figures[METLAZUEL_ROW] == 96 && figures[METLAZUEL_ROW + 1] == 0);
     check("an ask", metlazuel_ask(image, sizeof image, ask, sizeof ask, METER, 0, 5, frame, sizeof frame) == METLAZUEL_DONE);
@@ -197,10 +198,10 @@ static void day_figures(void)
 }
 
 // The figures of a log whose cells were written by hand: it is written as a file and read back.
-static void walk(uint8_t *log, size_t n)
+static void walk(uint8_t *log, metlazuel_size n)
 {
     static uint8_t out[METLAZUEL_FILE_BYTES];
-    size_t length = 0;
+    metlazuel_size length = 0;
     check("a file", metlazuel_write_file(log, n, out, sizeof out, &length) == METLAZUEL_DONE);
     check("fewer figures of it", metlazuel_read_file(out, length, log, n, figures, METLAZUEL_ROW - 1, &length) == METLAZUEL_TOO_SHORT);
     check("its log", metlazuel_read_file(out, length, log, n, figures, METLAZUEL_DAY_FIGURES, &length) == METLAZUEL_DONE && length == n);
@@ -210,7 +211,7 @@ static void walk(uint8_t *log, size_t n)
 static void gaps(void)
 {
     uint8_t slot = 1;
-    for (size_t i = 0; i < SLOTS; i++)
+    for (metlazuel_size i = 0; i < SLOTS; i++)
         if (i != 3)
             put_kind(image, i, METLAZUEL_KIND_EMPTY);
     check("no gap", metlazuel_next_gap(image, sizeof image, 0, 0, &slot) == METLAZUEL_DONE && slot == METLAZUEL_NO_GAP);
@@ -231,12 +232,12 @@ static void report_row(void)
 }
 
 // A day of 96 slots that all have empty cells, but one measured at 02:45, where the seasons change.
-static size_t season_day(uint8_t *day, uint8_t month, uint8_t date)
+static metlazuel_size season_day(uint8_t *day, uint8_t month, uint8_t date)
 {
-    size_t n = 0;
+    metlazuel_size n = 0;
     check("a season day", metlazuel_log_fresh(day, METLAZUEL_IMAGE_BYTES(SLOTS), figures, METLAZUEL_ROW, 24, month, date, 1, MINUTES, KE, SEASONS, &n)
                               == METLAZUEL_DONE);
-    for (size_t i = 0; i < SLOTS; i++)
+    for (metlazuel_size i = 0; i < SLOTS; i++)
         put_kind(day, i, i == 11 ? METLAZUEL_KIND_MEASURED : METLAZUEL_KIND_EMPTY);
     day[METLAZUEL_AT_COUNTS(SLOTS, 0) + 2 * 11] = 9;
     return n;
@@ -249,14 +250,14 @@ static void march(void)
     uint8_t *gone = out + METLAZUEL_HEADER_BYTES + 8 * METLAZUEL_FILE_CELL_BYTES;
     uint16_t counts[METLAZUEL_COUNTS];
     uint32_t row[METLAZUEL_ROW];
-    size_t n = season_day(day, 3, 31), length;
+    metlazuel_size n = season_day(day, 3, 31), length;
     check("a cell of no slot", metlazuel_cell(day, n, 0, 8, &kind, counts, &lapses) == METLAZUEL_NOT_IN_LOG
                                    && metlazuel_cell(day, n, 0, 11, &kind, counts, &lapses) == METLAZUEL_NOT_IN_LOG);
     check("the cells beside them", metlazuel_cell(day, n, 0, 7, &kind, counts, &lapses) == METLAZUEL_DONE
                                        && metlazuel_cell(day, n, 0, 12, &kind, counts, &lapses) == METLAZUEL_DONE);
     check("a fresh March", figures[0] == 92 && figures[METLAZUEL_ROW - 1] == 0);
     check("no file of it", metlazuel_write_file(day, n, out, sizeof out, &length) == METLAZUEL_UNSOUND);
-    for (size_t i = 8; i < 12; i++)
+    for (metlazuel_size i = 8; i < 12; i++)
         put_kind(day, i, METLAZUEL_KIND_GAP);
     day[METLAZUEL_AT_COUNTS(SLOTS, 0) + 2 * 11] = 0;
     day[METLAZUEL_AT_LAPSES(SLOTS) + 8] = 1;
@@ -281,7 +282,7 @@ static void october(void)
 {
     uint8_t day[METLAZUEL_IMAGE_BYTES(SLOTS)];
     uint32_t row[METLAZUEL_ROW];
-    size_t n = season_day(day, 10, 27);
+    metlazuel_size n = season_day(day, 10, 27);
     check("a fresh October", figures[0] == 96 && figures[METLAZUEL_ROW - 1] == 0);
     walk(day, n);
     check("a report of October", metlazuel_day_report(day, n, figures, METLAZUEL_ROW, 0, row, METLAZUEL_ROW) == METLAZUEL_DONE && row[0] == 0
@@ -292,7 +293,7 @@ static void october(void)
 static const struct {
     const char *what;
     uint8_t parameter, offset, tariff, detail;
-    size_t figures, place;
+    metlazuel_size figures, place;
     uint32_t figure;
 } reads[] = {
     {"active power", METLAZUEL_PARAMETER_ACTIVE_POWER, 0, 0, 0, 4, 1, 0x3F800000},
@@ -307,12 +308,12 @@ static const struct {
     {"six slices", METLAZUEL_PARAMETER_SIX_SLICES, 5, 17, 3, METLAZUEL_FIGURES, 3, 0x0504},
 };
 
-static void read_one(size_t i)
+static void read_one(metlazuel_size i)
 {
     uint8_t frame[METLAZUEL_REQUEST_BYTES], reply[METLAZUEL_FRAME_BYTES], result;
     uint8_t parameter = reads[i].parameter, offset = reads[i].offset, tariff = reads[i].tariff, detail = reads[i].detail;
     uint32_t row[METLAZUEL_FIGURES] = {0};
-    size_t length, count = 0, received;
+    metlazuel_size length, count = 0, received;
     check(reads[i].what, metlazuel_request(METER, parameter, offset, tariff, detail, frame, sizeof frame) == METLAZUEL_DONE
                              && frame[1] == METLAZUEL_FUNCTION_READ && frame[2] == parameter);
     check(reads[i].what, exchange(frame, sizeof frame - 2, reply, &length) == METLAZUEL_DONE);
@@ -330,7 +331,7 @@ static void displayed(void)
 {
     uint8_t frame[METLAZUEL_REQUEST_BYTES], reply[METLAZUEL_FRAME_BYTES], result;
     uint32_t row[4] = {0};
-    size_t length, count = 0, received = 0;
+    metlazuel_size length, count = 0, received = 0;
     check("ratios too large", metlazuel_meter_ratios(record, sizeof record, 1001, 1000) == METLAZUEL_OUT_OF_RANGE);
     check("ratios", metlazuel_meter_ratios(record, sizeof record, 1000, 1000) == METLAZUEL_DONE);
     check("another parameter displayed",
@@ -356,16 +357,16 @@ static void parameters(void)
           metlazuel_meter_powers(record, sizeof record, METLAZUEL_PARAMETER_ACTIVE_POWER, 0x3F800000, 0, 0) == METLAZUEL_DONE);
     check("reactive powers set",
           metlazuel_meter_powers(record, sizeof record, METLAZUEL_PARAMETER_REACTIVE_POWER, 0x40000000, 0, 0) == METLAZUEL_DONE);
-    for (size_t i = 0; i < sizeof reads / sizeof reads[0]; i++)
+    for (metlazuel_size i = 0; i < sizeof reads / sizeof reads[0]; i++)
         read_one(i);
     displayed();
 }
 
 // A command other than a read: what is answered, and the function of the reply.
-static void command(const char *what, uint8_t function, uint8_t parameter, const uint8_t *data, size_t n, uint8_t answer)
+static void command(const char *what, uint8_t function, uint8_t parameter, const uint8_t *data, metlazuel_size n, uint8_t answer)
 {
     uint8_t frame[METLAZUEL_FRAME_BYTES] = {METER, function, parameter, 0}, reply[METLAZUEL_FRAME_BYTES];
-    size_t length = 0;
+    metlazuel_size length = 0;
     memcpy(frame + 4, data, n);
     check(what, exchange(frame, 4 + n, reply, &length) == answer);
     check(what, reply[1] == (answer == METLAZUEL_DONE ? function : (function | METLAZUEL_FUNCTION_REFUSED)));
@@ -388,7 +389,7 @@ static void meter_answers(void)
 {
     static const uint8_t zeros[2] = {0}, ones[2] = {1, 1};
     uint8_t frame[METLAZUEL_FRAME_BYTES] = {METER + 1, METLAZUEL_FUNCTION_READ, METLAZUEL_PARAMETER_CLOCK}, reply[METLAZUEL_FRAME_BYTES];
-    size_t length;
+    metlazuel_size length;
     check("another meter's frame", exchange(frame, METLAZUEL_REQUEST_BYTES - 2, reply, &length) == METLAZUEL_SILENT);
     command("function 5", 5, METLAZUEL_PARAMETER_CLOCK, zeros, 2, METLAZUEL_UNKNOWN_FUNCTION);
     command("the clock by function 4", METLAZUEL_FUNCTION_READ4, METLAZUEL_PARAMETER_CLOCK, zeros, 2, METLAZUEL_NOT_OPEN);
@@ -402,10 +403,10 @@ static void meter_answers(void)
 }
 
 // A reply for the open ask with one byte changed, and its CRC made right again where `sealed`: the answer, which leaves ask and length.
-static void damaged_reply(const char *what, uint8_t *ask, uint8_t *reply, size_t at, int sealed, uint8_t answer)
+static void damaged_reply(const char *what, uint8_t *ask, uint8_t *reply, metlazuel_size at, int sealed, uint8_t answer)
 {
     uint8_t was = reply[at], result = 7;
-    size_t n = seal(reply, 12), received = 99;
+    metlazuel_size n = seal(reply, 12), received = 99;
     reply[at] ^= 1;
     if (sealed)
         seal(reply, 12);
@@ -419,7 +420,7 @@ static void damaged_reply(const char *what, uint8_t *ask, uint8_t *reply, size_t
 static void reply_faults(uint8_t *ask, uint8_t *reply)
 {
     uint8_t result = 7;
-    size_t received = 99;
+    metlazuel_size received = 99;
     check("no reply at all", metlazuel_take(image, sizeof image, figures, METLAZUEL_DAY_FIGURES, ask, METLAZUEL_ASK_BYTES, reply, 0, &result, &received)
                                      == METLAZUEL_REPLY_LENGTH
                                  && received == 0);
@@ -453,17 +454,17 @@ static void infinite_power(void)
 {
     uint8_t reply[METLAZUEL_FRAME_BYTES] = {METER, METLAZUEL_FUNCTION_READ, METLAZUEL_PARAMETER_ACTIVE_POWER, 0, 0, 0, 0x80, 0x7F}, result;
     uint32_t row[METLAZUEL_FIGURES];
-    size_t count, received;
+    metlazuel_size count, received;
     check("an infinity", metlazuel_decode(METER, METLAZUEL_PARAMETER_ACTIVE_POWER, 0, 0, 0, reply, seal(reply, 20), row, METLAZUEL_FIGURES,
                                           &count, &result, &received)
                              == METLAZUEL_NOT_FINITE);
 }
 
 // A file with another byte, and with its CRC made right again where `sealed`: the answer.
-static void damaged_file(const char *what, size_t at, uint8_t byte, int sealed, uint8_t answer)
+static void damaged_file(const char *what, metlazuel_size at, uint8_t byte, int sealed, uint8_t answer)
 {
     uint8_t was = file[at];
-    size_t length;
+    metlazuel_size length;
     file[at] = byte;
     if (sealed)
         seal(file, sizeof file - 2);
@@ -476,11 +477,11 @@ static void damaged_file(const char *what, size_t at, uint8_t byte, int sealed, 
 static void older_file(uint8_t version, uint8_t seasons)
 {
     static uint8_t older[METLAZUEL_FILE_BYTES];
-    size_t n = METLAZUEL_HEADER_BYTES, length = 0;
+    metlazuel_size n = METLAZUEL_HEADER_BYTES, length = 0;
     memcpy(older, file, METLAZUEL_HEADER_BYTES);
     older[METLAZUEL_AT_VERSION] = version;
     older[METLAZUEL_AT_SEASONS] = seasons;
-    for (size_t i = 0; i < METLAZUEL_CELLS; i++, n += METLAZUEL_FILE_AT_LAPSES)
+    for (metlazuel_size i = 0; i < METLAZUEL_CELLS; i++, n += METLAZUEL_FILE_AT_LAPSES)
         memcpy(older + n, file + METLAZUEL_HEADER_BYTES + i * METLAZUEL_FILE_CELL_BYTES, METLAZUEL_FILE_AT_LAPSES);
     n = seal(older, n);
     check("an older file in less room",
@@ -493,7 +494,7 @@ static void older_file(uint8_t version, uint8_t seasons)
 
 static void file_answers(void)
 {
-    size_t length;
+    metlazuel_size length;
     damaged_file("a file's mark", METLAZUEL_AT_MARK, 'g', 1, METLAZUEL_FILE_MARK);
     damaged_file("a file's version", METLAZUEL_AT_VERSION, 9, 1, METLAZUEL_FILE_VERSION);
     damaged_file("version 1 with seasons", METLAZUEL_AT_VERSION, 1, 1, METLAZUEL_FILE_HEADER);
@@ -515,13 +516,13 @@ static void mercury(void)
 {
     static const uint8_t rest[METLAZUEL_MERCURY_REST + 1] = {1, 2, 3, 4, 5, 6, 7, 8};
     static const uint8_t commands[] = {METLAZUEL_MERCURY_TARIFFS, METLAZUEL_MERCURY_LOAD, METLAZUEL_MERCURY_FREQUENCY};
-    static const size_t counts[] = {4, 3, METLAZUEL_MERCURY_FIGURES};
+    static const metlazuel_size counts[] = {4, 3, METLAZUEL_MERCURY_FIGURES};
     uint8_t request[METLAZUEL_MERCURY_REQUEST_BYTES], reply[METLAZUEL_FRAME_BYTES];
     uint32_t row[METLAZUEL_MERCURY_FIGURES] = {0};
-    size_t length = 0, count = 0;
+    metlazuel_size length = 0, count = 0;
     check("a shorter request", metlazuel_mercury_request(1234, commands[0], request, sizeof request - 1) == METLAZUEL_TOO_SHORT);
     check("a fourth command", metlazuel_mercury_request(1234, 0x28, request, sizeof request) == METLAZUEL_MERCURY_FORM);
-    for (size_t c = 0; c < sizeof commands; c++) {
+    for (metlazuel_size c = 0; c < sizeof commands; c++) {
         check("a request", metlazuel_mercury_request(1234, commands[c], request, sizeof request) == METLAZUEL_DONE);
         check("a shorter reply's room",
               metlazuel_mercury_answer(1234, 1, 2, 3, 4, 5, 6, 7, 8, rest, METLAZUEL_MERCURY_REST, request, sizeof request, reply,

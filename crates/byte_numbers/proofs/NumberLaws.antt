@@ -11,6 +11,7 @@ use Rattle.byte_numbers.specs.Number.{number, bytesOf, Bytes}
 
 -- ---- there and back, over the width
 
+-- how much room a number takes, wherever numbers are put one behind the other
 pub length-bytesOf : (k n : ℕ) → length (bytesOf k n) ≡ k
 unfolding bytesOf
 length-bytesOf zero n = refl
@@ -28,9 +29,11 @@ number-bytesOf (suc k) n =
     ap (λ (x : ℕ). x * 256 + n % 256) (number-bytesOf k (n / 256))
     ∙ sym (rw pow-suc (mod-mul n (pow-256-pos k) (zero-lt-suc 255)))
 
+-- a number that its width holds reads back whole: a frame's CRC, an address
 pub number-bytesOf-fits : (k n : ℕ) → n < 256 ^ k → number (bytesOf k n) ≡ n
 number-bytesOf-fits k n h = number-bytesOf k n ∙ mod-eq-of-lt h
 
+-- bytes that were read as a number are put as they stood
 pub bytesOf-number : (bs : List ℕ) → Bytes bs → bytesOf (length bs) (number bs) ≡ bs
 unfolding number bytesOf
 bytesOf-number [] h = refl
@@ -39,12 +42,14 @@ bytesOf-number (b ∷ bs) h =
     (digits-mod (number bs) (h 0))
     (ap (bytesOf (length bs)) (digits-div (number bs) (h 0)) ∙ bytesOf-number bs (λ i. h (suc i)))
 
+-- what is put of a number are bytes, for laws that ask for bytes
 pub bytes-bytesOf : (k n : ℕ) → Bytes (bytesOf k n)
 unfolding bytesOf
 bytes-bytesOf zero n i = zero-lt-suc 255
 bytes-bytesOf (suc k) n zero = mod-lt n (zero-lt-suc 255)
 bytes-bytesOf (suc k) n (suc i) = bytes-bytesOf k (n / 256) i
 
+-- one byte as a number of width 1: `put_u16` puts its halves so
 pub bytesOf-one : (b : ℕ) → b < 256 → bytesOf 1 b ≡ b ∷ []
 unfolding bytesOf
 bytesOf-one b h = rw (mod-eq-of-lt h)
@@ -56,6 +61,7 @@ bytesOf-low k n =
 
 -- ---- a number of j + k bytes is one of j bytes and, above it, one of k
 
+-- a wide number put as two narrower ones
 pub bytesOf-split : (j k n : ℕ) → bytesOf (j + k) n ≡ bytesOf j n ++ bytesOf k (n / 256 ^ j)
 unfolding bytesOf
 bytesOf-split zero k n = rw (zero-add, div-one)
@@ -63,6 +69,7 @@ bytesOf-split (suc j) k n =
     rw (suc-add, pow-suc, mul-comm (256 ^ j) 256, ← div-div-eq-div-mul)
     (ap (λ (l : List ℕ). n % 256 ∷ l) (bytesOf-split j k (n / 256)))
 
+-- a wide number read as two narrower ones
 pub number-split : (j k : ℕ) (l : List ℕ) → number (take (j + k) l) ≡ number (take k (drop j l)) * 256 ^ j + number (take j l)
 unfolding number
 number-split zero k l = rw (zero-add, pow-zero) (omega arith)

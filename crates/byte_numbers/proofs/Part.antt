@@ -36,6 +36,7 @@ within k s i (b ∷ bs) h =
 
 -- ---- what `&mut s[a..a + k]` leaves of s where its borrower wrote bs from place i of the part: bs, written a places further on.
 
+-- a store into a lent part is one into the whole buffer, further on
 pub written-part : (a k : ℕ) (s : List ℕ) (i : ℕ) (bs : List ℕ) → i + length bs ≤ k
     → take a s ++ (written (take k (drop a s)) i bs ++ drop k (drop a s)) ≡ written s (a + i) bs
 written-part a k s i bs h = ap (λ (l : List ℕ). take a s ++ l) (within k (drop a s) i bs h) ∙ written-from a s i bs

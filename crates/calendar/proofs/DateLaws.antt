@@ -48,6 +48,7 @@ month-exists y m h = go (ltb y 100) refl (leb 1 m) refl (leb m 12) refl
         let z : daysInMonth y m ≡ 0 = rw p in
         absurd (omega arith)
 
+-- the last arm of `days_in_month`
 pub no-month : (y m : ℕ) → (Month y m → ⊥) → daysInMonth y m ≡ 0
 no-month y m h = go (ltb 0 (daysInMonth y m)) refl
   where
@@ -79,6 +80,7 @@ pub record MonthLength (n : ℕ) : Type 0 where
 lasts : ℕ → ℕ → Bool
 lasts m n = leb 28 n && leb n 31
 
+-- 28 to 31, wherever a day's bound is needed
 pub month-length : (y m : ℕ) → Month y m → MonthLength (daysInMonth y m)
 unfolding monthLengths everyBelow ofYear lasts
 month-length y m h =
@@ -89,6 +91,7 @@ month-length y m h =
 turn : ℕ → ℕ → Bool
 turn m n = eqb m 2 || eqb n (30 + (m + m / 8) % 2)
 
+-- the rule by which `days_in_month` finds 30 or 31 without a table
 pub turns : (y m : ℕ) → Month y m → (m ≡ 2 → ⊥) → daysInMonth y m ≡ 30 + (m + m / 8) % 2
 unfolding monthLengths everyBelow ofYear turn
 turns y m h z = eqb-true _ _ (rw (ne-eqb m 2 z) at (every-month turn refl refl y m h))
@@ -104,6 +107,7 @@ leap-fourth y h = same _ _ (below (λ k. Bool·beq (leap k) (eqb (k % 4) 0)) 100
     same false true e = e
     same false false e = refl
 
+-- the arm of `february`: every fourth of the hundred years
 pub february : (y : ℕ) → y < 100 → daysInMonth y 2 ≡ cond (eqb (y % 4) 0) 29 28
 unfolding daysInMonth monthLengths
 february y h = rw (lt-ltb _ _ h, leap-fourth y h)
@@ -116,6 +120,7 @@ length-of-month y m h k =
     let b : (12 * y + (m - 1)) % 12 + 1 ≡ m = omega arith in
     rw (a, b)
 
+-- the same of months counted on from January 2000
 pub length-range : (k : ℕ) → k < 1200 → MonthLength (lengthOf k)
 unfolding lengthOf
 length-range k h = month-length (k / 12) (k % 12 + 1) (record { year-below = omega arith; month-from = omega arith; month-to = omega arith })
@@ -135,6 +140,7 @@ pub record Ranges (d : Date) : Type 0 where
   pub day-from : 1 ≤ d .day
   pub day-to : d .day ≤ daysInMonth (d .year) (d .month)
 
+-- what is known of a date that was tested
 pub ranges : (d : Date) → isDate d ≡ true → Ranges d
 unfolding isDate
 ranges d e =
@@ -144,6 +150,7 @@ ranges d e =
     let z = both _ _ (y .0) in
     record { year-below = ltb-true _ _ (z .0); month-from = leb-true _ _ (z .1); month-to = leb-true _ _ (y .1); day-from = leb-true _ _ (x .1); day-to = leb-true _ _ (w .1) }
 
+-- what has to be shown of one that is made
 pub is-date : (d : Date) → Ranges d → isDate d ≡ true
 unfolding isDate
 is-date d r = simp (lt-ltb _ _ (r .year-below), le-leb _ _ (r .month-from), le-leb _ _ (r .month-to), le-leb _ _ (r .day-from), le-leb _ _ (r .day-to))

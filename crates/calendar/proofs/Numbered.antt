@@ -57,6 +57,7 @@ module _ {A B : Type 0} (c : Numbering A B) where
       let q : c .nth n ≡ x = rw (s .number) at (c .nth-number x (s .valid)) in
       rw (lt-ltb _ _ h, q)
 
+  -- an answer found by its number has that number: once for dates and times
   pub answers : (n : ℕ) (x : A) → answer n ≡ c .found x → Is n x
   answers n x p =
       let w = chosen (ltb n (c .bound)) (c .found (c .nth n)) (c .outside) p (c .outside≢found x) in

@@ -19,6 +19,7 @@ pub record LastSunday (y m s : ℕ) : Type 0 where
   pub in-month : s ≤ daysInMonth y m
   pub last : daysInMonth y m < s + 7
 
+-- the computed day is a Sunday of the month and the last, for every claim on the seasons
 pub last-sunday : (y m : ℕ) → Month y m → LastSunday y m (lastSunday y m)
 unfolding lastSunday dayNumber
 last-sunday y m h =

@@ -24,6 +24,7 @@ pub record TimeRanges (t : DateTime) : Type 0 where
   pub minute-below : t .minute < 60
   pub second-below : t .second < 60
 
+-- what is known of a time that was tested
 pub time-ranges : (t : DateTime) → isTime t ≡ true → TimeRanges t
 unfolding isTime
 time-ranges t e =
@@ -32,6 +33,7 @@ time-ranges t e =
     let z = both _ _ (y .0) in
     record { date = z .0; hour-below = ltb-true _ _ (z .1); minute-below = ltb-true _ _ (y .1); second-below = ltb-true _ _ (x .1) }
 
+-- what has to be shown of one that is made
 pub is-time : (t : DateTime) → TimeRanges t → isTime t ≡ true
 unfolding isTime
 is-time t r = simp (r .date, lt-ltb _ _ (r .hour-below), lt-ltb _ _ (r .minute-below), lt-ltb _ _ (r .second-below))
@@ -105,6 +107,7 @@ pub time-at : (n : ℕ) (t : DateTime) → TimeIs n t → timeAt n ≡ At t
 unfolding times timeAt
 time-at = answered times
 
+-- past 2099 there is no time: the clock stands at the century's end
 pub time-past : (n : ℕ) → centurySeconds ≤ n → timeAt n ≡ OutOfRange
 unfolding times timeAt
 time-past n h = rw (le-ltb _ _ h)
@@ -118,16 +121,10 @@ seconds-later = later times
 abbrev pub TimeEarlier : DateTime → ℕ → DateTime → Type 0
 TimeEarlier = NumberedBefore isTime secondNumber
 
+-- an hour back in autumn is a time, and how far back
 pub seconds-earlier : (t : DateTime) (n : ℕ) (u : DateTime) → secondsEarlier t n ≡ At u → TimeEarlier t n u
 unfolding times secondsEarlier timeBack timeAt
 seconds-earlier = earlier times
-
--- the next second adds one to the second number, and an hour later is 3,600 on
-pub next-second : (t u : DateTime) → secondsLater t 1 ≡ At u → secondNumber u ≡ secondNumber t + 1
-next-second t u p = seconds-later t 1 u p .number
-
-pub hour-later : (t u : DateTime) → secondsLater t 3600 ≡ At u → secondNumber u ≡ secondNumber t + 3600
-hour-later t u p = seconds-later t 3600 u p .number
 
 -- two times at which two counts of seconds lead to one
 pub same-sum : (t u : DateTime) (n k : ℕ) → isTime t ≡ true → isTime u ≡ true → secondNumber t + n ≡ secondNumber u + k → secondsLater t n ≡ secondsLater u k
@@ -147,12 +144,14 @@ module _ (t : DateTime) (n h m s : ℕ) (e : isTime t ≡ true) (hh : h < 24) (h
   unfolding secondNumber on
   lands d i k w q = time-at k (on d) (record { valid = is-time (on d) (record { date = w .valid; hour-below = hh; minute-below = hm; second-below = hs }); number = omega (arith, w .number) })
 
+  -- `second_after` and `hour_after` before midnight
   pub later-that-day : ofDay (t .hour) (t .minute) (t .second) + n ≡ ofDay h m s → secondsLater t n ≡ At (record { date = t .date; hour = h; minute = m; second = s })
   unfolding secondsLater secondNumber on
   later-that-day q =
       let r = time-ranges t e in
       rw e (lands (t .date) (dayNumber (t .date)) _ (record { valid = r .date; number = refl }) (omega arith))
 
+  -- `hour_before` after one o'clock
   pub earlier-that-day : ofDay (t .hour) (t .minute) (t .second) ≡ ofDay h m s + n → secondsEarlier t n ≡ At (record { date = t .date; hour = h; minute = m; second = s })
   unfolding secondsEarlier timeBack secondNumber on
   earlier-that-day q =
@@ -160,6 +159,7 @@ module _ (t : DateTime) (n h m s : ℕ) (e : isTime t ≡ true) (hh : h < 24) (h
       rw (e, le-leb n (secondNumber t) (omega arith))
       (lands (t .date) (dayNumber (t .date)) _ (record { valid = r .date; number = refl }) (omega arith))
 
+  -- `hour_after` over midnight
   pub later-next-day : ofDay (t .hour) (t .minute) (t .second) + n ≡ 86400 + ofDay h m s → secondsLater t n ≡ onDay (daysLater (t .date) 1) h m s
   unfolding secondsLater daysLater dateOn onDay secondNumber on
   later-next-day q = rw (e, time-ranges t e .date) (go (ltb (dayNumber (t .date) + 1) centuryDays) refl)
@@ -168,6 +168,7 @@ module _ (t : DateTime) (n h m s : ℕ) (e : isTime t ≡ true) (hh : h < 24) (h
       go true p = rw p (lands _ (dayNumber (t .date) + 1) _ (date-of (dayNumber (t .date) + 1) (ltb-true _ _ p)) (omega arith))
       go false p = rw p (time-past _ (omega (arith, ltb-false (dayNumber (t .date) + 1) centuryDays p)))
 
+  -- `hour_before` back over midnight
   pub earlier-day-before : ofDay (t .hour) (t .minute) (t .second) + 86400 ≡ ofDay h m s + n → secondsEarlier t n ≡ onDay (daysEarlier (t .date) 1) h m s
   unfolding secondsEarlier timeBack daysEarlier dateBack onDay secondNumber on
   earlier-day-before q = let r = time-ranges t e in rw (e, r .date) (go (leb 1 (dayNumber (t .date))) refl r)

@@ -109,9 +109,6 @@ verbOf line = placeOf (wordAt 0 line) names
 abbrev pub isNamed : List ℕ → Bool
 isNamed line = leb (verbOf line) 3
 
-abbrev pub isSetting : List ℕ → Bool
-isSetting line = eqb (verbOf line) 0
-
 -- "27 for one above its digits, which keeps the ones before"
 abbrev pub settingOf : MeterLine → Meter → Called
 settingOf (line.Set after) m = record { answer = Number 0; after = after }

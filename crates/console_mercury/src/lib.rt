@@ -14,4 +14,3 @@ pub use setting::first;
 pub use setting::set;
 pub use verbs::called;
 pub use verbs::is_named;
-pub use verbs::is_setting;

@@ -7,7 +7,7 @@ use crate::setting::set;
 use mercury_bench::Meter;
 ghost use mathlib.Core.Path.{_≡_};
 ghost use Rattle.refusal.specs.Outcome.{outcome};
-ghost use Rattle.console_mercury.specs.Lines.{verbOf, isNamed, isSetting, settingOf, askedBy, calledLine};
+ghost use Rattle.console_mercury.specs.Lines.{verbOf, isNamed, settingOf, askedBy, calledLine};
 
 const METER: usize = 0;
 
@@ -31,13 +31,6 @@ pub fn is_named(line: &[u8]) -> bool
     ensures { λ r. ⌜ r ≡ isNamed (now (line .entry)) ⌝ }
 {
     verb_of(line) <= DECODE
-}
-
-// Whether it sets the bench's meter.
-pub fn is_setting(line: &[u8]) -> bool
-    ensures { λ r. ⌜ r ≡ isSetting (now (line .entry)) ⌝ }
-{
-    verb_of(line) == METER
 }
 
 // Takes the bench's meter, and gives the one that stands after the line; frames go to the front of the output.

@@ -39,6 +39,7 @@ bits-assoc x y z hx hy hz =
     x
     hx
 
+-- xor regrouped, to bring registers side by side
 pub xor-assoc : (a b c : ℕ) → bitXor (bitXor a b) c ≡ bitXor a (bitXor b c)
 xor-assoc a =
     bin-ind (λ (n : ℕ). (b c : ℕ) → bitXor (bitXor n b) c ≡ bitXor n (bitXor b c))
@@ -51,6 +52,7 @@ xor-assoc a =
     ∙ sym (xor-step n (bitXor b c)))
     a
 
+-- xor with its parts exchanged, likewise
 pub xor-left-comm : (a b c : ℕ) → bitXor a (bitXor b c) ≡ bitXor b (bitXor a c)
 xor-left-comm a b c = sym (xor-assoc a b c) ∙ ap (λ (x : ℕ). bitXor x c) (xor-comm a b) ∙ xor-assoc b a c
 
@@ -64,20 +66,25 @@ xor-exchange a b c d = xor-assoc a b (bitXor c d) ∙ ap (bitXor a) (xor-left-co
 pub record Linear (f : ℕ → ℕ) : Type 0 where
   pub apart : (a b : ℕ) → f (bitXor a b) ≡ bitXor (f a) (f b)
 
+-- where two linear functions are compared, 0 comes for nothing
 pub linear-zero : {f : ℕ → ℕ} → Linear f → f 0 ≡ 0
 linear-zero {f} lf = lf .apart 0 0 ∙ xor-self (f 0)
 
+-- the start of every composition
 pub linear-id : Linear (λ x. x)
 linear-id = record { apart = λ a b. refl }
 
+-- the folds are put together from linear steps
 pub linear-compose : {f g : ℕ → ℕ} → Linear f → Linear g → Linear (λ x. f (g x))
 linear-compose {f} {g} lf lg = record { apart = λ a b. ap f (lg .apart a b) ∙ lf .apart (g a) (g b) }
 
+-- as many shifts as a word has bits are linear
 pub linear-times : (n : ℕ) {f : ℕ → ℕ} → Linear f → Linear (times n f)
 unfolding times
 linear-times zero lf = record { apart = λ a b. refl }
 linear-times (suc n) lf = linear-compose (linear-times n lf) lf
 
+-- a fold is a xor of moved parts
 pub linear-xor : {f g : ℕ → ℕ} → Linear f → Linear g → Linear (λ x. bitXor (f x) (g x))
 linear-xor {f} {g} lf lg = record { apart = λ a b. ap₂ bitXor (lf .apart a b) (lg .apart a b) ∙ xor-exchange (f a) (f b) (g a) (g b) }
 
@@ -163,6 +170,7 @@ module _ {f g : ℕ → ℕ} (lf : Linear f) (lg : Linear g) where
   agree-zero : f 0 ≡ g 0
   agree-zero = linear-zero lf ∙ sym (linear-zero lg)
 
+  -- linear functions that agree on the powers of two agree: a fold is held to the shifts by a computed test
   pub linear-agree : (n : ℕ) → ((k : ℕ) → k < n → f (2 ^ k) ≡ g (2 ^ k)) → (x : ℕ) → x < 2 ^ n → f x ≡ g x
   linear-agree zero same x h = ap f (lt-one h) ∙ agree-zero ∙ sym (ap g (lt-one h))
   linear-agree (suc n) same x h =
@@ -186,6 +194,7 @@ module _ {f g : ℕ → ℕ} (lf : Linear f) (lg : Linear g) where
 
 -- ---- the CRC
 
+-- the definition's own shift is one of these functions
 pub linear-bitStep : Linear bitStep
 unfolding bitStep
 linear-bitStep = linear-xor (linear-shr 1) (linear-bit polynomial)

@@ -18,6 +18,7 @@ use Rattle.crc16.proofs.Linear.{steps-shifted}
 use Rattle.crc16.specs.Word.{register, up}
 use Rattle.crc16.proofs.WordLaws.{times-add, crcFrom-bytesOf, crcFrom-number}
 
+-- bounds of numbers in bytes, in bits
 pub bytes-bits : (k : ℕ) → 256 ^ k ≡ 2 ^ (k * 8)
 bytes-bits zero = refl
 bytes-bits (suc k) = rw (pow-suc, suc-mul, pow-add) (ap (λ (n : ℕ). n * 256) (bytes-bits k))
@@ -75,6 +76,7 @@ above j k s h e =
     ∙ high (number (take k (drop j l))) (j * 8) low
     ∙ ap (λ (x : List ℕ). number (take k x)) there
 
+-- `few` reads four to eight bytes as two numbers that overlap: they are one
 pub few-number : (s : List ℕ) → Bytes s → 4 ≤ length s → length s ≤ 8
     → up 32 (numberAt s (length s - 4) 4 / 2 ^ (64 - 8 * length s)) + numberAt s 0 4 ≡ number s
 unfolding numberAt
@@ -108,6 +110,7 @@ front n s h b =
     ∙ low (number (take m (drop n s))) (n * 8) fits in
     sym (bytesOf-low n (number (take 8 s))) ∙ ap (bytesOf n) rest
 
+-- `two_words` reads eight to sixteen bytes as two words that overlap: the CRC is that of all
 pub two-words : (n : ℕ) (s : List ℕ) → Bytes s → n ≤ 8 → n + 8 ≡ length s
     → crcFrom (crcOf (bytesOf n (numberAt s 0 8))) (bytesOf 8 (numberAt s n 8)) ≡ crcOf s
 unfolding crcOf crcFrom

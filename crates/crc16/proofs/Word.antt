@@ -78,10 +78,12 @@ outLow n a = bitXor (a / 2 ^ n) (byX64 (up (64 - n) a))
 linear-outLow : (n : ℕ) → Linear (outLow n)
 linear-outLow n = linear-xor (linear-shr n) (linear-compose linear-byX64 (linear-up (64 - n)))
 
+-- what `byte_more` does to the register's word is eight shifts
 pub more-byte : (a b : ℕ) → a < 2 ^ 64 → b < 2 ^ 8 → register (bitXor (outLow 8 a) (up 56 b)) ≡ times 8 bitStep (bitXor (register a) b)
 unfolding everyBelow times
 more-byte = more 8 (linear-outLow 8) (linear-up 56) refl refl
 
+-- what `half_more` does is 32 shifts
 pub more-half : (a w : ℕ) → a < 2 ^ 64 → w < 2 ^ 32 → register (bitXor (outLow 32 a) (up 32 w)) ≡ times 32 bitStep (bitXor (register a) w)
 unfolding everyBelow times
 more-half = more 32 (linear-outLow 32) (linear-up 32) refl refl
@@ -94,6 +96,7 @@ linear-outWord : Linear outWord
 linear-outWord =
     linear-compose linear-byX64 (linear-xor (linear-xor (linear-xor linear-id (linear-up 45)) (linear-up 56)) (linear-up 59))
 
+-- what `word_more` does is 64 shifts
 pub more-word : (a w : ℕ) → a < 2 ^ 64 → w < 2 ^ 64 → register (bitXor (outWord a) w) ≡ times 64 bitStep (bitXor (register a) w)
 unfolding everyBelow times
 more-word = more 64 linear-outWord linear-id refl refl
@@ -132,6 +135,7 @@ part-second a h =
 apart-2 : (a b : ℕ) → register (register (bitXor a b)) ≡ bitXor (register (register a)) (register (register b))
 apart-2 a b = ap register (linear-register .apart a b) ∙ linear-register .apart (register a) (register b)
 
+-- what `pair_more` does to two words at once is what each does in its turn
 pub more-pair : (f s first second : ℕ) → f < 2 ^ 64 → s < 2 ^ 64
     → register (bitXor (register (bitXor (bitXor (byX128 f) (outOfX128 s)) first)) (bitXor (byX128 (bitXor (outOfX128 f) s)) second))
     ≡ register (bitXor (register (bitXor (register (bitXor (register f) s)) first)) second)

@@ -19,6 +19,7 @@ use Rattle.crc16.specs.Word.{register}
 
 -- ---- laws
 
+-- the register that a word stands for can be held to computed tests too
 pub linear-register : Linear register
 unfolding register
 linear-register = linear-times 64 linear-bitStep

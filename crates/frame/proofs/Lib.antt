@@ -1,2 +1,1 @@
 pub mod SealingLaws
-pub mod LayoutLaws

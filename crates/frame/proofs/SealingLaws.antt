@@ -20,6 +20,7 @@ use Rattle.frame.specs.Sealing.{framed, sealed, crcFits}
 
 -- ---- laws
 
+-- a frame's length, wherever one is sent or read
 pub length-framed : (body : List ℕ) → length (framed body) ≡ length body + crcSize
 unfolding framed
 length-framed body = length-append body (bytesOf 2 (crcOf body)) ∙ ap (λ (k : ℕ). length body + k) (length-bytesOf 2 (crcOf body))
@@ -32,10 +33,12 @@ sealed-written s body h =
     ap (λ (l : List ℕ). written (written s 0 body) (length body) (bytesOf 2 (crcOf l))) front
     ∙ sym (written-append s 0 body (bytesOf 2 (crcOf body)) ∙ ap (λ (k : ℕ). written (written s 0 body) k (bytesOf 2 (crcOf body))) (zero-add (length body)))
 
+-- what the CRC of a frame is taken over
 pub take-framed : (body : List ℕ) → take (length body) (framed body) ≡ body
 unfolding framed
 take-framed body = take-at body (bytesOf 2 (crcOf body)) (length body) refl
 
+-- the CRC as it is read from a frame, for `crcFits-framed`
 pub numberAt-framed : (body : List ℕ) → Bytes body → numberAt (framed body) (length body) 2 ≡ crcOf body
 unfolding framed numberAt
 numberAt-framed body h =
@@ -64,6 +67,7 @@ last-two s bytes l =
     let b : Bytes tail = λ i. rw getD-drop (bytes (length s - 2 + i)) in
     sym (bytesOf-number tail b) ∙ ap₂ bytesOf e (sym (ap number (take-all 2 tail (omega arith))))
 
+-- bytes whose CRC fits are the frame of those before it: from a test to the bytes
 pub framed-of-fits : (s : List ℕ) → Bytes s → crcFits s ≡ true → s ≡ framed (take (length s - 2) s)
 unfolding crcFits framed
 framed-of-fits s bytes p =

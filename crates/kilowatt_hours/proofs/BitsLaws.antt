@@ -17,11 +17,13 @@ use Rattle.kilowatt_hours.specs.Bits.{kwhBits}
 
 -- ---- what `compare` says, and the number that it rounds to
 
+-- what each outcome of a comparison says of its numbers
 abbrev pub Cmp : Ordering → ℕ → ℕ → Type 0
 Cmp Ordering·lt a b = a < b
 Cmp Ordering·eq a b = a ≡ b
 Cmp Ordering·gt a b = b < a
 
+-- every comparison says it, so that a proof goes by its three outcomes
 pub cmp : (a b : ℕ) → Cmp (compare a b) a b
 cmp a b = go (compare a b) (leb→le a b) (nleb→lt a b) (eqb→eq a b) (λ (e : a ≡ b). subst (λ (x : ℕ). T (eqb a x)) e (eqb-refl a))
   where
@@ -30,6 +32,7 @@ cmp a b = go (compare a b) (leb→le a b) (nleb→lt a b) (eqb→eq a b) (λ (e 
     go Ordering·eq h k e n = e tt
     go Ordering·gt h k e n = k tt
 
+-- the arm of `closest_whole` for less than half
 pub nearest-below : (q a b : ℕ) → a < b → nearest q (compare a b) ≡ q
 nearest-below q a b h = go (compare a b) (cmp a b)
   where
@@ -38,6 +41,7 @@ nearest-below q a b h = go (compare a b) (cmp a b)
     go Ordering·eq c = absurd (omega arith)
     go Ordering·gt c = absurd (omega arith)
 
+-- its arm for a tie, to the even one
 pub nearest-tie : (q a b : ℕ) → a ≡ b → nearest q (compare a b) ≡ q + q % 2
 nearest-tie q a b h = go (compare a b) (cmp a b)
   where
@@ -46,6 +50,7 @@ nearest-tie q a b h = go (compare a b) (cmp a b)
     go Ordering·eq c = refl
     go Ordering·gt c = absurd (omega arith)
 
+-- its arm for more than half
 pub nearest-above : (q a b : ℕ) → b < a → nearest q (compare a b) ≡ q + 1
 nearest-above q a b h = go (compare a b) (cmp a b)
   where
@@ -86,6 +91,7 @@ module _ (u a e k : ℕ) (same : a * 2 ^ k ≡ u * 2 ^ e) where
       closest-same u (1000000 * 2 ^ k) a (1000000 * 2 ^ e) (mul-pos (leb→le 1 1000000 tt) (pow-pos k)) (mul-pos (leb→le 1 1000000 tt) (pow-pos e))
       (mul-left-comm u 1000000 (2 ^ e) ∙ ap (λ (x : ℕ). 1000000 * x) (sym same) ∙ mul-left-comm 1000000 a (2 ^ k))
 
+-- the bits by any scaling of the number, of which the code takes the one that fills 64 digits
 pub bits-scaled : (n a e k : ℕ) → a * 2 ^ k ≡ n * 2 ^ 149 * 2 ^ e → 8388608 * (1000000 * 2 ^ e) ≤ a → a < 16777216 * (1000000 * 2 ^ e)
     → kwhBits n ≡ k * 8388608 + closest a (1000000 * 2 ^ e)
 unfolding kwhBits
@@ -93,15 +99,18 @@ bits-scaled n a e k same lo hi =
     ap (λ (j : ℕ). j * 8388608 + closest (n * 2 ^ 149) (1000000 * 2 ^ j)) (dropped (n * 2 ^ 149) a e k same lo hi)
     ∙ ap (λ (m : ℕ). k * 8388608 + m) (whole (n * 2 ^ 149) a e k same)
 
+-- no energy is plus zero, a case of its own in `kwh_bits`
 pub bits-zero : kwhBits 0 ≡ 0
 unfolding kwhBits size
 bits-zero = refl
 
 -- ---- the 64 digits of a number that is moved up by its leading zeros, as a machine's shift does
 
+-- the number as `kwh_bits` moves it up
 abbrev pub digitsOf : ℕ → ℕ
 digitsOf n = n * 2 ^ leadingZeros 64 n % 2 ^ 64
 
+-- the move in `kwh_bits` is by fewer than 64 digits
 pub zeros-few : (n : ℕ) → 0 < n → n < 2 ^ 64 → leadingZeros 64 n < 64
 zeros-few n h l = omega (arith, leading-top 64 n h l .1)
 
@@ -112,6 +121,7 @@ digits-exact n h l =
     let z = leadingZeros 64 n in
     mod-eq-of-lt (subst (λ (x : ℕ). n * 2 ^ z < 2 ^ x) (add-comm (suc (top .0)) z ∙ top .1) (shl-lt {a = n} (suc (top .0)) z (top .3)))
 
+-- after it the highest digit is set, so that the quotient has the float's 24
 pub digits-least : (n : ℕ) → 0 < n → n < 2 ^ 64 → 2 ^ 63 ≤ digitsOf n
 digits-least n h l =
     let top = leading-top 64 n h l in

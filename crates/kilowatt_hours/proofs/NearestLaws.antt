@@ -64,11 +64,13 @@ module _ (u U t r : ℕ) (l : t < U) (at : worth r * 1000000 + t ≡ u) (gap : w
 
 -- ---- q, the whole part that is kept, has 24 digits where any is dropped
 module _ (u : ℕ) where
+  -- the quotient that is kept is below the float's next exponent
   pub kept-under : let k = size (u / 1000000) - 24 in u / (1000000 * 2 ^ k) < 16777216
   kept-under =
       let k = size (u / 1000000) - 24 in
       rw (div-div-eq-div-mul u 1000000 (2 ^ k)) at (kept-lt 24 (u / 1000000))
 
+  -- and it fills the float's digits, but for the smallest numbers
   pub kept-full : let k = size (u / 1000000) - 24 in 0 < k → 8388608 ≤ u / (1000000 * 2 ^ k)
   kept-full h =
       let k = size (u / 1000000) - 24 in
@@ -107,6 +109,7 @@ worth-zero = refl
 far : (u w d : ℕ) → d ≤ apart (worth 0 * 1000000) u → d ≤ w * 1000000 + u
 far u w d h = omega (arith, worth-zero)
 
+-- the claim `NearestFloat` rests on it: no finite float is nearer
 pub kwh-nearest : (n : ℕ) → n < 2 ^ 64 → Nearest n (kwhBits n)
 unfolding kwhBits
 kwh-nearest n h =
@@ -147,6 +150,7 @@ two n r s l a b =
         let g : suc r < s = omega arith in
         omega (arith, f g, worth-lt r (suc r) (omega arith), worth-lt (suc r) s g)
 
+-- nor is any other as good, so that the bits are settled
 pub only : (n r s : ℕ) → Nearest n r → Nearest n s → r ≡ s
 only n r s a b = go (compare r s) (cmp r s)
   where

@@ -30,6 +30,7 @@ fields (suc x) t h =
     (sym (cond-no (eqb (suc x) 255) (cond (eqb t 0) (inf false) nan) (odd 24 false (8388608 + t) x 149) (no-infinity (suc x) h)))
     (odd-sign 24 false (8388608 + t) x 149)
 
+-- `worth` is what the kit's own reading of the bits gives
 pub bits-worth : (b : ℕ) → b < infinity → HasValue (ofBits binary32 b) false (worth b) (2 ^ 149)
 unfolding ofBits worth
 bits-worth b h =
@@ -38,16 +39,9 @@ bits-worth b h =
     let q : b % 2147483648 ≡ b = omega arith in
     rw (p, q) (fields (b / 8388608) (b % 8388608) (omega arith))
 
-value-finite : (x : Float) (a : ℕ) → HasValue x false a (2 ^ 149) → finite x ≡ true
-value-finite (fin s m e) a h = refl
-
 value-number : (x : Float) (a : ℕ) → HasValue x false a (2 ^ 149) → T (not (isNan x))
 unfolding isNan
 value-number (fin s m e) a h = tt
-
--- the float with the bits of a figure is finite
-pub kwh-finite : (n : ℕ) → n < 2 ^ 64 → finite (ofBits binary32 (kwhBits n)) ≡ true
-kwh-finite n h = value-finite (ofBits binary32 (kwhBits n)) (worth (kwhBits n)) (bits-worth (kwhBits n) (kwh-nearest n h .finite))
 
 -- and has these bits
 pub kwh-back : (n : ℕ) → n < 2 ^ 64 → toBits binary32 (ofBits binary32 (kwhBits n)) ≡ kwhBits n
@@ -85,6 +79,7 @@ unfolding toBits told
 bits-told (fin true m e) a h = absurd (true≢false (h .0))
 bits-told (fin false m e) a h = ap told (ap (λ (z : ℕ). z / down e) (h .1) ∙ mul-div-cancel a (down-pos e))
 
+-- and the bits are those of the kit's own rounding: the second opinion in `NearestFloat`
 pub kwh-is-round : (n : ℕ) → n < 2 ^ 64 → kwhBits n ≡ toBits binary32 (round binary32 false n 1000000)
 kwh-is-round n h =
     let a = worth (kwhBits n) in

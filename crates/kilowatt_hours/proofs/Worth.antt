@@ -32,6 +32,7 @@ carry k =
     worth-is (k * 8388608 + 16777216) (suc (suc k)) 0 (omega arith) (omega arith)
     ∙ ap (λ (x : ℕ). 8388608 * x) (pow-succ' 2 k) ∙ sym (mul-assoc 8388608 2 (2 ^ k))
 
+-- what bits are worth by exponent and digits, for every comparison of floats
 pub worth-at : (k q : ℕ) → q ≤ 16777216 → (0 < k → 8388608 ≤ q) → worth (k * 8388608 + q) ≡ q * 2 ^ k
 worth-at k q l h = go (ltb q 8388608) (ltb→lt q 8388608) (nltb→le q 8388608)
   where
@@ -59,6 +60,7 @@ step b =
     let e : k * 8388608 + q ≡ b = omega arith in
     rw e at (step-at k q (omega arith) (λ p. omega arith))
 
+-- greater bits are worth more, so that neighbours in bits are neighbours in worth
 pub worth-lt : (b c : ℕ) → b < c → worth b < worth c
 worth-lt b zero h = absurd (not-suc-le-zero h)
 worth-lt b (suc c) h = elim (eq-or-lt-of-le (le-of-suc-le-suc h)) [ inl e ↦ rw e (step c) | inr l ↦ lt-trans (worth-lt b c l) (step c) ]

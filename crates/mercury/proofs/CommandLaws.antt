@@ -8,6 +8,7 @@ use Rattle.mercury.specs.Command.{codeOf, commandOf, isKnown, dataSize}
 use Rattle.mercury.specs.declared.command.Command.{Command}
 use Rattle.mercury.specs.declared.command.Command.the-variants.{Tariffs, Load, Frequency, Unknown}
 
+-- every reply fits the longest frame
 pub data-small : (c : Command) → dataSize c ≤ 16
 data-small Tariffs = lit≤ tt
 data-small Load = lit≤ tt
@@ -22,6 +23,7 @@ command-code Load = refl
 command-code Frequency = refl
 command-code Unknown = refl
 
+-- a command's code is one byte of the frame
 pub code-byte : (c : Command) → codeOf c ≤ 255
 code-byte Tariffs = lit≤ tt
 code-byte Load = lit≤ tt

@@ -31,6 +31,7 @@ three-parts s A B C i j a b =
     ∙ written-append (written s 0 A) i B C
     ∙ ap (λ (k : ℕ). written (written (written s 0 A) i B) (i + k) C) b)
 
+-- the four stores of `put_tariffs` are one
 pub put-four : (s : List ℕ) (t : FourTariffs) → written (written (written (written s 0 (packedOf 4 (t .first .0))) 4 (packedOf 4 (t .second .0))) 8
     (packedOf 4 (t .third .0))) 12 (packedOf 4 (t .fourth .0)) ≡ written s 0 (tariffsBytes t)
 unfolding tariffsBytes
@@ -43,6 +44,7 @@ put-four s t =
     ∙ sym (written-append (written (written s 0 A) 4 B) 8 C D)
     ∙ three-parts s A B (C ++ D) 4 4 (length-packedOf 4 (t .first .0)) (length-packedOf 4 (t .second .0))
 
+-- the three stores of `put_load` are one
 pub put-three : (s : List ℕ) (l : LoadFigures)
     → written (written (written s 0 (packedOf 2 (l .voltage .0))) 2 (packedOf 2 (l .current .0))) 4 (packedOf 3 (l .power .0)) ≡ written s 0 (loadBytes l)
 unfolding loadBytes
@@ -52,31 +54,37 @@ put-three s l =
 
 -- ---- how many bytes they have
 
+-- the length that a reply with tariffs must have
 pub length-tariffs : (t : FourTariffs) → length (tariffsBytes t) ≡ 16
 unfolding tariffsBytes
 length-tariffs t = simp (length-append, length-packedOf)
 
+-- that of one with voltage, current and power
 pub length-load : (l : LoadFigures) → length (loadBytes l) ≡ 7
 unfolding loadBytes
 length-load l = simp (length-append, length-packedOf)
 
+-- that of one with the frequency
 pub length-frequency : (f : FrequencyFigures) → length (frequencyBytes f) ≡ 9
 unfolding frequencyBytes
 length-frequency f = simp (length-append, length-packedOf)
 
 -- ---- what was put is read back: figures within their digits, whatever stands behind them
 
+-- tariffs that their digits hold: what the bench is tested for
 pub record FitsTariffs (t : FourTariffs) : Type 0 where
   pub first : t .first .0 < 100 ^ 4
   pub second : t .second .0 < 100 ^ 4
   pub third : t .third .0 < 100 ^ 4
   pub fourth : t .fourth .0 < 100 ^ 4
 
+-- the same of voltage, current and power
 pub record FitsLoad (l : LoadFigures) : Type 0 where
   pub voltage : l .voltage .0 < 100 ^ 2
   pub current : l .current .0 < 100 ^ 2
   pub power : l .power .0 < 100 ^ 3
 
+-- from the bench's bytes to its figures, for the claim that the reader is its inverse
 pub tariffs-read : (t : FourTariffs) (rest : List ℕ) → FitsTariffs t → tariffsOf (tariffsBytes t ++ rest) ≡ Tariffs t
 unfolding tariffsOf tariffsBytes
 tariffs-read t rest h =
@@ -97,6 +105,7 @@ tariffs-read t rest h =
     ∙ decimal-behind 4 (t .third .0) (D ++ rest) 0 4 ∙ decimal-front 4 (t .fourth .0) rest (lit≤ tt) (h .fourth) in
     rw (apart, first, second, third, fourth)
 
+-- likewise for voltage, current and power
 pub load-read : (l : LoadFigures) (rest : List ℕ) → FitsLoad l → loadOf (loadBytes l ++ rest) ≡ Load l
 unfolding loadOf loadBytes
 load-read l rest h =
@@ -113,6 +122,7 @@ load-read l rest h =
     ∙ decimal-front 3 (l .power .0) rest (lit≤ tt) (h .power) in
     rw (apart, voltage, current, power)
 
+-- likewise for the frequency
 pub frequency-read : (f : FrequencyFigures) (rest : List ℕ) → f .frequency .0 < 100 ^ 2 → frequencyOf (frequencyBytes f ++ rest) ≡ Frequency f
 unfolding frequencyOf frequencyBytes packedOf
 frequency-read f rest h =
@@ -132,6 +142,7 @@ not-load l h = let z : _≡_ {A = ℕ} 0 1 = cc in omega arith
 not-frequency : (f : FrequencyFigures) → decoded.NotDecimal ≡ Frequency f → ⊥
 not-frequency f h = let z : _≡_ {A = ℕ} 0 1 = cc in omega arith
 
+-- the data of a reply as its four tariffs
 pub in-fours : (d : List ℕ) → take 16 d ≡ take 4 d ++ (take 4 (drop 4 d) ++ (take 4 (drop 8 d) ++ take 4 (drop 12 d)))
 in-fours d =
     take-add 4 12 d
@@ -142,10 +153,12 @@ in-fours d =
     ∙ take-add 4 4 (drop 8 d)
     ∙ ap (λ (l : List ℕ). take 4 (drop 8 d) ++ take 4 l) (drop-drop 4 8 d)))
 
+-- what is known of tariffs that were read
 pub record ReadTariffs (d : List ℕ) (t : FourTariffs) : Type 0 where
   pub put : tariffsBytes t ≡ take 16 d
   pub fits : FitsTariffs t
 
+-- from a reply's bytes to figures and back, the claim's other half
 pub tariffs-back : (d : List ℕ) (t : FourTariffs) → 16 ≤ length d → tariffsOf d ≡ Tariffs t → ReadTariffs d t
 unfolding tariffsOf tariffsBytes
 tariffs-back d t l = go (decimalAt d 0 4) refl (decimalAt d 4 4) refl (decimalAt d 8 4) refl (decimalAt d 12 4) refl
@@ -172,15 +185,18 @@ tariffs-back d t l = go (decimalAt d 0 4) refl (decimalAt d 4 4) refl (decimalAt
     go (Number a) p (Number b) q NotDecimal r e s h = absurd (not-tariffs t h)
     go (Number a) p (Number b) q (Number c) r NotDecimal s h = absurd (not-tariffs t h)
 
+-- what is known of a load that was read
 pub record ReadLoad (d : List ℕ) (l : LoadFigures) : Type 0 where
   pub put : loadBytes l ≡ take 7 d
   pub fits : FitsLoad l
 
+-- the data of a reply as voltage, current and power
 pub in-three : (d : List ℕ) → take 7 d ≡ take 2 d ++ (take 2 (drop 2 d) ++ take 3 (drop 4 d))
 in-three d =
     take-add 2 5 d
     ∙ ap (λ (l : List ℕ). take 2 d ++ l) (take-add 2 3 (drop 2 d) ∙ ap (λ (l : List ℕ). take 2 (drop 2 d) ++ take 3 l) (drop-drop 2 2 d))
 
+-- its other half for voltage, current and power
 pub load-back : (d : List ℕ) (l : LoadFigures) → 7 ≤ length d → loadOf d ≡ Load l → ReadLoad d l
 unfolding loadOf loadBytes
 load-back d l n = go (decimalAt d 0 2) refl (decimalAt d 2 2) refl (decimalAt d 4 3) refl
@@ -204,6 +220,7 @@ load-back d l n = go (decimalAt d 0 2) refl (decimalAt d 2 2) refl (decimalAt d 
     go (Number a) p NotDecimal q c r h = absurd (not-load l h)
     go (Number a) p (Number b) q NotDecimal r h = absurd (not-load l h)
 
+-- what is known of a frequency that was read
 pub record ReadFrequency (d : List ℕ) (f : FrequencyFigures) : Type 0 where
   pub put : frequencyBytes f ≡ take 9 d
   pub fits : f .frequency .0 < 100 ^ 2
@@ -221,6 +238,7 @@ rest-back (a ∷ b ∷ []) n = absurd (omega (arith, n))
 rest-back (a ∷ []) n = absurd (omega (arith, n))
 rest-back [] n = absurd (omega (arith, n))
 
+-- its other half for the frequency
 pub frequency-back : (d : List ℕ) (f : FrequencyFigures) → 9 ≤ length d → frequencyOf d ≡ Frequency f → ReadFrequency d f
 unfolding frequencyOf frequencyBytes
 frequency-back d f n = go (decimalAt d 0 2) refl
@@ -236,6 +254,7 @@ frequency-back d f n = go (decimalAt d 0 2) refl
 
 -- ---- what is decoded is the figures asked for, or nothing is
 
+-- a proof over decoded tariffs goes by two cases: figures, or a half-byte above 9
 pub tariffs-cases : (d : List ℕ) (P : Decoded → Type 0) → ((t : FourTariffs) → tariffsOf d ≡ Tariffs t → P (Tariffs t)) → P decoded.NotDecimal
     → P (tariffsOf d)
 unfolding tariffsOf
@@ -248,6 +267,7 @@ tariffs-cases d P given refused = go (decimalAt d 0 4) (decimalAt d 4 4) (decima
     go (Number a) NotDecimal c e h = refused
     go NotDecimal b c e h = refused
 
+-- likewise over a load
 pub load-cases : (d : List ℕ) (P : Decoded → Type 0) → ((l : LoadFigures) → loadOf d ≡ Load l → P (Load l)) → P decoded.NotDecimal → P (loadOf d)
 unfolding loadOf
 load-cases d P given refused = go (decimalAt d 0 2) (decimalAt d 2 2) (decimalAt d 4 3) refl
@@ -258,6 +278,7 @@ load-cases d P given refused = go (decimalAt d 0 2) (decimalAt d 2 2) (decimalAt
     go (Number a) NotDecimal c h = refused
     go NotDecimal b c h = refused
 
+-- likewise over a frequency
 pub frequency-cases : (d : List ℕ) (P : Decoded → Type 0) → ((f : FrequencyFigures) → frequencyOf d ≡ Frequency f → P (Frequency f))
     → P decoded.NotDecimal → P (frequencyOf d)
 unfolding frequencyOf

@@ -11,6 +11,7 @@ use Rattle.frame.specs.Sealing.{framed, sealed}
 use Rattle.frame.proofs.SealingLaws.{sealed-written}
 use Rattle.mercury.specs.Layout.{turned, addressBytes, addressIn, headOf}
 
+-- where the data of a frame begins
 pub length-head : (address code : ℕ) → length (headOf address code) ≡ 5
 unfolding headOf addressBytes
 length-head address code = refl
@@ -22,10 +23,12 @@ sealed-head s address code h = sealed-written s (headOf address code) (omega (ar
 
 -- ---- the address, there and back
 
+-- the address, put high byte first, reads back
 pub address-head : (address code : ℕ) (rest : List ℕ) → address < 256 ^ 4 → addressIn (headOf address code ++ rest) ≡ address
 unfolding headOf addressBytes addressIn bytesOf
 address-head address code rest h = number-bytesOf-fits 4 address h
 
+-- a frame's head are bytes, for its CRC
 pub bytes-head : (address code : ℕ) → code < 256 → Bytes (headOf address code)
 unfolding headOf addressBytes bytesOf
 bytes-head address code h zero = bytes-bytesOf 4 address 3

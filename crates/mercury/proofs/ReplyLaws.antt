@@ -57,6 +57,7 @@ command-framed address code rest =
     ap (λ (l : List ℕ). byteAt l 4) (append-assoc (headOf address code) rest crc) ∙ command-at address code (rest ++ crc)
 
 module _ (address code : ℕ) (h : address < 256 ^ 4) (small : code < 256) (known : isKnown (commandOf code) ≡ true) where
+  -- a request that was made is heard by its meter
   pub request-formed : requestForm address (requestFrame address code) ≡ WellFormed
   unfolding requestForm requestFrame
   request-formed =
@@ -67,10 +68,12 @@ module _ (address code : ℕ) (h : address < 256 ^ 4) (small : code < 256) (know
       rw bare at (formed-head address code 7 [] h (rw bare (bytes-head address code small)) refl) in
       rw (said, known) made
 
+  -- and as the command that it was
   pub request-command : commandOf (byteAt (requestFrame address code) 4) ≡ commandOf code
   unfolding requestFrame
   request-command = ap commandOf (rw (append-nil (headOf address code)) at (command-framed address code []))
 
+  -- what the bench sends is well formed to the reader
   pub reply-formed : (bytes : List ℕ) → Bytes bytes → length bytes ≡ dataSize (commandOf code)
       → replyForm address code (replyFrame address code bytes) ≡ WellFormed
   unfolding replyForm replyFrame
@@ -89,6 +92,7 @@ data-behind address code bytes =
 
 -- ---- what a well-formed reply is made of
 
+-- what is known of a reply that was accepted
 pub record Accepted (address code : ℕ) (y : List ℕ) : Type 0 where
   pub size : length y ≡ 7 + dataSize (commandOf code)
   pub crc : crcFits y ≡ true
@@ -96,6 +100,7 @@ pub record Accepted (address code : ℕ) (y : List ℕ) : Type 0 where
   pub known : isKnown (commandOf code) ≡ true
   pub command : byteAt y 4 ≡ code
 
+-- it is known of every well-formed one
 pub accepted : (address code : ℕ) (y : List ℕ) → replyForm address code y ≡ WellFormed → Accepted address code y
 unfolding replyForm formOf
 accepted address code y =

@@ -21,6 +21,7 @@ use Rattle.mercury.proofs.LayoutLaws.{length-head}
 use Rattle.mercury_bench.specs.Reply.{dataOf, replyOf}
 use Rattle.mercury_bench.specs.declared.meter.Meter.{Meter}
 
+-- the bench's data has the length that the reader asks for
 pub length-data : (c : Command) (m : Meter) → length (dataOf c m) ≡ dataSize c
 unfolding dataOf
 length-data Tariffs m = length-tariffs (m .tariffs)
@@ -31,6 +32,7 @@ length-data Unknown m = refl
 length-body : (c : Command) (m : Meter) → length (headOf (m .address) (codeOf c) ++ dataOf c m) ≡ 5 + dataSize c
 length-body c m = length-append (headOf (m .address) (codeOf c)) (dataOf c m) ∙ ap₂ _+_ (length-head (m .address) (codeOf c)) (length-data c m)
 
+-- the length that the bench tells of its reply
 pub length-reply : (c : Command) (m : Meter) → length (replyOf c m) ≡ bareSize + dataSize c
 unfolding replyOf replyFrame
 length-reply c m = length-framed (headOf (m .address) (codeOf c) ++ dataOf c m) ∙ omega (arith, length-body c m)

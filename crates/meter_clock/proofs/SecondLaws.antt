@@ -34,6 +34,7 @@ sunday-day y m = go (ltb y 100) refl
 
 -- ---- a date is switchable exactly where the calendar has the hour before it and the hour after it
 
+-- `is_switchable` asks the calendar for both hours: that is its definition
 pub hours-beside : (t : DateTime) → isAt (secondsEarlier t 3600) && isAt (secondsLater t 3600) ≡ isSwitchable t
 unfolding isSwitchable secondsEarlier secondsLater timeBack timeAt
 hours-beside t = go (isTime t) refl (leb 3600 (secondNumber t)) refl (ltb (secondNumber t + 3600) centurySeconds) refl
@@ -65,6 +66,7 @@ pub record Fitting (t : Time) : Type 0 where
   pub summer : isChoice (t .summer) ≡ true
   pub winter : isChoice (t .winter) ≡ true
 
+-- what is known of a time that was tested
 pub fitting : (t : Time) → isFitting t ≡ true → Fitting t
 unfolding isFitting
 fitting t h =
@@ -72,6 +74,7 @@ fitting t h =
     let b = both (isTime (t .clock)) (isChoice (t .summer)) (a .0) in
     record { clock = b .0; summer = b .1; winter = a .1 }
 
+-- what has to be shown of one that is made
 pub is-fitting : (t : Time) → Fitting t → isFitting t ≡ true
 unfolding isFitting
 is-fitting t f = ap₂ _&&_ (ap₂ _&&_ (f .clock) (f .summer)) (f .winter)
@@ -91,6 +94,7 @@ unfolding inSeason intoSummer intoWinter
 reached-fits Winter t u h e = switched-fits t u _ _ Summer h e (answer-is-time u (secondsLater u 3600) (λ v p. seconds-later u 3600 v p .valid) e)
 reached-fits Summer t u h e = switched-fits t u _ _ Winter h e (answer-is-time u (secondsEarlier u 3600) (λ v p. seconds-earlier u 3600 v p .valid) e)
 
+-- a second keeps the record's ranges: the clock's part
 pub next-fits : (t : Time) → isFitting t ≡ true → isFitting (nextTime t) ≡ true
 unfolding nextTime reached
 next-fits t h = go (secondsLater (t .clock) 1) refl
@@ -107,6 +111,7 @@ fewer {n} m h =
     let most : n ≤ 240 = leb-true n 240 (both (leb 1 n) (leb n 240) h .1) in
     rw (le-leb 1 (n - 1) (omega arith), le-leb (n - 1) 240 (omega arith))
 
+-- and protection's
 pub quiet-fits : (p : Protection) → isProtection p ≡ true → isProtection (quietSecond p) ≡ true
 unfolding quietSecond isProtection isRunning
 quiet-fits p h = go (p .level) refl (leb (p .left) 1) refl

@@ -12,28 +12,34 @@ use Rattle.meter_store.specs.Store.{keyAt, sameKey, firstFrom}
 
 -- ---- where two parts of a key agree, the third decides
 
+-- `holds` compares day and number first: then the month decides
 pub month-decides : (a b : Key) → a .day ≡ b .day → a .number ≡ b .number → eqb (a .month) (b .month) ≡ sameKey a b
 unfolding sameKey
 month-decides a b d n = simp (eq-eqb (a .day) (b .day) d, eq-eqb (a .number) (b .number) n, and-true)
 
+-- and the other way round
 pub number-decides : (a b : Key) → a .month ≡ b .month → a .day ≡ b .day → eqb (a .number) (b .number) ≡ sameKey a b
 unfolding sameKey
 number-decides a b m d = simp (eq-eqb (a .month) (b .month) m, eq-eqb (a .day) (b .day) d)
 
+-- a key that was put is found
 pub same-self : (k : Key) → sameKey k k ≡ true
 unfolding sameKey
 same-self k = simp (eq-eqb (k .month) (k .month) refl, eq-eqb (k .day) (k .day) refl, eq-eqb (k .number) (k .number) refl)
 
 -- ---- the walk over the places
 
+-- the search ends where the key is
 pub first-hit : (s : List ℕ) (k : Key) (i n : ℕ) → sameKey (keyAt s i) k ≡ true → firstFrom s k i (suc n) ≡ i
 unfolding firstFrom
 first-hit s k i n e = simp e
 
+-- it goes on where it is not
 pub first-miss : (s : List ℕ) (k : Key) (i n : ℕ) → sameKey (keyAt s i) k ≡ false → firstFrom s k i (suc n) ≡ firstFrom s k (suc i) n
 unfolding firstFrom
 first-miss s k i n e = simp e
 
+-- it ends behind the last place
 pub first-end : (s : List ℕ) (k : Key) (i : ℕ) → firstFrom s k i 0 ≡ i
 unfolding firstFrom
 first-end s k i = refl

@@ -14,6 +14,7 @@ use Rattle.meter_store.proofs.FindLaws.{first-hit, first-miss, first-en
 
 -- ---- one comparison for two bytes
 
+-- `is_day` compares two bytes as one number
 pub two-bytes : (a b c d : ℕ) → a < 256 → b < 256 → c < 256 → d < 256 → eqb (a * 256 + b) (c * 256 + d) ≡ eqb b d && eqb a c
 two-bytes a b c d ha hb hc hd = go (eqb b d) refl (eqb a c) refl
   where
@@ -28,6 +29,7 @@ last-two : (x y z : Bool) → y && z ≡ false → x && y && z ≡ false
 last-two true y z e = e
 last-two false y z e = refl
 
+-- a place whose day or number is another's is not the key's
 pub day-misses : (s : List ℕ) (i month day number : ℕ) → isDay s (11 * i) day number ≡ false
     → sameKey (keyAt s i) (keyOf month day number) ≡ false
 unfolding isDay sameKey keyAt
@@ -36,6 +38,7 @@ day-misses s i month day number e =
 
 -- ---- four places, one behind the other
 
+-- four places passed over at once
 pub four-miss : (s : List ℕ) (k : Key) (i : ℕ) → sameKey (keyAt s i) k ≡ false → sameKey (keyAt s (suc i)) k ≡ false
     → sameKey (keyAt s (suc (suc i))) k ≡ false → sameKey (keyAt s (suc (suc (suc i)))) k ≡ false → firstFrom s k i 4 ≡ i + 4
 unfolding firstFrom

@@ -22,6 +22,7 @@ use Rattle.meter_store.proofs.FindLaws.{same-self, first-has, first-bef
 
 -- ---- a clear, byte by byte
 
+-- a turn of `clear`
 pub clear-one : (s t : List ℕ) (i : ℕ) → i < length s → t ≡ replicate i 0 ++ drop i s → set t i 0 ≡ replicate (i + 1) 0 ++ drop (i + 1) s
 clear-one s t i h e =
     ap (λ (l : List ℕ). set l i 0) (e ∙ ap (λ (l : List ℕ). replicate i 0 ++ l) (drop-cons s i 0 h))
@@ -29,6 +30,7 @@ clear-one s t i h e =
     ∙ sym (append-snoc (replicate i 0) 0 (drop (suc i) s))
     ∙ ap₂ (λ (x : List ℕ) (m : ℕ). x ++ drop m s) (replicate-append-replicate i 1 0) (sym (add-one i))
 
+-- its end
 pub clear-all : (s t : List ℕ) (i : ℕ) → length s ≤ i → i ≤ length s → t ≡ replicate i 0 ++ drop i s → t ≡ cleared s
 unfolding cleared
 clear-all s t i h l e =
@@ -37,10 +39,12 @@ clear-all s t i h l e =
 
 -- ---- what a put and a clear keep
 
+-- a slice that is put keeps the store a meter's
 pub length-put : (s : List ℕ) (next : ℕ) (k : Key) (row : List ℕ) → length (putStore s next k row) ≡ length s
 unfolding putStore
 length-put s next k row = length-written s (11 * putPlace s next k) (placeBytesOf k row)
 
+-- and so does a zeroing
 pub length-cleared : (s : List ℕ) → length (cleared s) ≡ length s
 unfolding cleared
 length-cleared s = length-replicate (length s) 0
@@ -56,6 +60,7 @@ put-in-range s next k h = go (ltb (placeOf s k) places) refl
     go true e = ltb-true (placeOf s k) places e
     go false e = h
 
+-- the next place stays one of the store's
 pub next-in-range : (s : List ℕ) (next : ℕ) (k : Key) → next < places → putNext s next k < places
 unfolding putNext
 next-in-range s next k h = go (isKept s k) (ltb (next + 1) places) refl
@@ -123,6 +128,7 @@ module _ (s : List ℕ) (k : Key) (row : List ℕ) (p : ℕ) (l : length s ≡ s
   count-there j b =
       numberAt-written-behind s (11 * p) (placeBytesOf k row) j 2 (rw length-placeBytesOf b) (rw length-placeBytesOf (omega arith))
 
+  -- after a put the place has the key
   pub key-there : keyAt (written s (11 * p) (placeBytesOf k row)) p ≡ k
   unfolding keyAt placeBytesOf
   key-there = simp (rw add-zero at (byte-there 0 (omega arith)), byte-there 1 (omega arith), byte-there 2 (omega arith))
@@ -147,6 +153,7 @@ module _ (s : List ℕ) (k : Key) (row : List ℕ) (p i : ℕ) (d : p ≡ i → 
   count-elsewhere : (j : ℕ) → j + 2 ≤ 11 → numberAt (written s (11 * p) (placeBytesOf k row)) (11 * i + j) 2 ≡ numberAt s (11 * i + j) 2
   count-elsewhere j b = numberAt-kept s (11 * p) (placeBytesOf k row) (11 * i + j) 2 (apart j 2 b)
 
+  -- and every other place the key it had
   pub key-elsewhere : keyAt (written s (11 * p) (placeBytesOf k row)) i ≡ keyAt s i
   unfolding keyAt
   key-elsewhere = simp (rw add-zero at (byte-elsewhere 0 (omega arith)), byte-elsewhere 1 (omega arith), byte-elsewhere 2 (omega arith))

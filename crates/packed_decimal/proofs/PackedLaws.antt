@@ -20,12 +20,15 @@ use Rattle.packed_decimal.specs.declared.Decimal.the-variants.{Number, N
 
 -- ---- two digits in a byte
 
+-- the upper half-byte of two digits
 pub pair-high : (n : ℕ) → pairOf n / 16 ≡ n / 10 % 10
 pair-high n = digits-div (n / 10 % 10) (omega (arith, mod-lt n (zero-lt-suc 9)))
 
+-- the lower one
 pub pair-low : (n : ℕ) → pairOf n % 16 ≡ n % 10
 pair-low n = digits-mod (n / 10 % 10) (omega (arith, mod-lt n (zero-lt-suc 9)))
 
+-- what is put passes the test of what is read
 pub is-pair : (n : ℕ) → isPair (pairOf n) ≡ true
 is-pair n =
     ap₂ _&&_
@@ -42,6 +45,7 @@ back-pair b p =
     let t = both (leb (b / 16) 9) (leb (b % 16) 9) p in
     omega (arith, leb-true (b / 16) 9 (t .0), leb-true (b % 16) 9 (t .1))
 
+-- a byte is worth less than 100: the digits of more bytes do not mix
 pub pair-value-small : (b : ℕ) → isPair b ≡ true → b / 16 * 10 + b % 16 < 100
 pair-value-small b p =
     let t = both (leb (b / 16) 9) (leb (b % 16) 9) p in
@@ -49,6 +53,7 @@ pair-value-small b p =
 
 -- ---- the bytes put
 
+-- how much room a number takes
 pub length-packedOf : (k n : ℕ) → length (packedOf k n) ≡ k
 unfolding packedOf
 length-packedOf zero n = refl
@@ -58,6 +63,7 @@ and-assoc : (a b c : Bool) → (a && (b && c)) ≡ (a && b && c)
 and-assoc true b c = refl
 and-assoc false b c = refl
 
+-- the test of several figures is that of each
 pub packed-append : (xs ys : List ℕ) → isPacked (xs ++ ys) ≡ (isPacked xs && isPacked ys)
 unfolding isPacked
 packed-append [] ys = refl
@@ -91,6 +97,7 @@ value-packedOf (suc k) n =
     ∙ ap₂ (λ (x y : ℕ). x * 100 + y) (value-packedOf k (n / 100)) (pair-back (n % 100) (mod-lt n (zero-lt-suc 99)))
     ∙ sym (rw pow-suc (mod-mul n (pow-100-pos k) (zero-lt-suc 99)))
 
+-- a number that its bytes hold reads back whole
 pub value-packedOf-fits : (k n : ℕ) → n < 100 ^ k → valueOf (packedOf k n) ≡ n
 value-packedOf-fits k n h = value-packedOf k n ∙ mod-eq-of-lt h
 
@@ -108,6 +115,7 @@ packedOf-value-from j a (b ∷ bs) p =
     ∙ ap (λ (x : ℕ). packedOf j a ++ (x ∷ []) ++ bs) (back-pair b (t .0))
     ∙ append-assoc (packedOf j a) (b ∷ []) bs
 
+-- digits that were read are put as they stood
 pub packedOf-value : (bs : List ℕ) → isPacked bs ≡ true → packedOf (length bs) (valueOf bs) ≡ bs
 unfolding packedOf
 packedOf-value bs p = ap (λ (k : ℕ). packedOf k (valueOf bs)) (sym (zero-add (length bs))) ∙ packedOf-value-from 0 0 bs p
@@ -122,24 +130,29 @@ value-small-from j a (b ∷ bs) h p =
     let next : a * 100 + v < 100 ^ suc j = rw pow-suc (omega (arith, pair-value-small b (t .0), h)) in
     rw (add-suc, ← suc-add) (value-small-from (suc j) (a * 100 + v) bs next (t .1))
 
+-- a number that was read has no more digits than its bytes
 pub value-small : (bs : List ℕ) → isPacked bs ≡ true → valueOf bs < 100 ^ length bs
 value-small bs p = rw zero-add at (value-small-from 0 0 bs (pow-100-pos 0) p)
 
 -- ---- what is read: digits are, and nothing else is
 
+-- the arm of `number_of` for digits alone
 pub decimal-packed : (bs : List ℕ) → length bs ≤ 4 → isPacked bs ≡ true → decimalOf bs ≡ Number (valueOf bs)
 unfolding decimalOf
 decimal-packed bs l p = rw (le-leb (length bs) 4 l, p)
 
+-- what was put is answered as the number that it was
 pub decimal-put : (k n : ℕ) → k ≤ 4 → n < 100 ^ k → decimalOf (packedOf k n) ≡ Number n
 decimal-put k n l h =
     decimal-packed (packedOf k n) (rw length-packedOf l) (packed-packedOf k n) ∙ ap Number (value-packedOf-fits k n h)
 
+-- what is known of a number that was read
 pub record Read (bs : List ℕ) (n : ℕ) : Type 0 where
   pub digits : isPacked bs ≡ true
   pub put : packedOf (length bs) n ≡ bs
   pub small : n < 100 ^ length bs
 
+-- it is known of every number that is answered
 pub decimal-read : (bs : List ℕ) (n : ℕ) → decimalOf bs ≡ Number n → Read bs n
 unfolding decimalOf
 decimal-read bs n e = go (leb (length bs) 4) (isPacked bs) refl e
@@ -151,10 +164,12 @@ decimal-read bs n e = go (leb (length bs) 4) (isPacked bs) refl e
     go true false p h = let z : _≡_ {A = ℕ} 0 1 = cc in absurd (omega arith)
     go false b p h = let z : _≡_ {A = ℕ} 0 1 = cc in absurd (omega arith)
 
+-- the arm of `number_of` for more than four bytes
 pub decimal-long : (bs : List ℕ) → 4 < length bs → decimalOf bs ≡ NotDecimal
 unfolding decimalOf
 decimal-long bs h = rw (lt-leb (length bs) 4 h)
 
+-- its arm for a half-byte above 9
 pub decimal-not : (bs : List ℕ) → length bs ≤ 4 → isPacked bs ≡ false → decimalOf bs ≡ NotDecimal
 unfolding decimalOf
 decimal-not bs l p = rw (le-leb (length bs) 4 l, p)
@@ -162,10 +177,12 @@ decimal-not bs l p = rw (le-leb (length bs) 4 l, p)
 -- ---- the byte at a place, and those behind it
 
 module _ (s : List ℕ) (i : ℕ) (h : i < length s) where
+  -- a turn of its loop: the test of one more byte
   pub packed-at : isPacked (drop i s) ≡ (isPair (getD s i 0) && isPacked (drop (i + 1) s))
   unfolding isPacked
   packed-at = rw (add-one, drop-cons s i 0 h)
 
+  -- a turn of its loop: two more digits
   pub value-at : (n : ℕ) → valueFrom n (drop i s) ≡ valueFrom (n * 100 + (getD s i 0 / 16 * 10 + getD s i 0 % 16)) (drop (i + 1) s)
   unfolding valueFrom
   value-at n = rw (add-one, drop-cons s i 0 h)
@@ -205,11 +222,13 @@ decimal-at-small s i k n e =
 pub decimal-front : (k n : ℕ) (rest : List ℕ) → k ≤ 4 → n < 100 ^ k → decimalAt (packedOf k n ++ rest) 0 k ≡ Number n
 decimal-front k n rest l h = ap decimalOf (take-at (packedOf k n) rest k (length-packedOf k n)) ∙ decimal-put k n l h
 
+-- a figure behind another one, to step over a reply's figures
 pub decimal-behind : (j m : ℕ) (rest : List ℕ) (i k : ℕ) → decimalAt (packedOf j m ++ rest) (j + i) k ≡ decimalAt rest i k
 decimal-behind j m rest i k =
     ap (λ (x : ℕ). decimalAt (packedOf j m ++ rest) (x + i) k) (sym (length-packedOf j m))
     ∙ ap (λ (s : List ℕ). decimalOf (take k s)) (drop-append-add (packedOf j m) rest i)
 
+-- a figure that was read at a place, put again, is what stood there
 pub decimal-at-put : (s : List ℕ) (i k n : ℕ) → i + k ≤ length s → decimalAt s i k ≡ Number n → packedOf k n ≡ take k (drop i s)
 decimal-at-put s i k n h e =
     let l : length (take k (drop i s)) ≡ k = length-take-le k (drop i s) (simp length-drop (omega (arith, h))) in
@@ -220,11 +239,13 @@ decimal-at-put s i k n h e =
 pair-byte : (n : ℕ) → pairOf n < 256
 pair-byte n = omega (arith, mod-lt (n / 10) (zero-lt-suc 9), mod-lt n (zero-lt-suc 9))
 
+-- bytes behind bytes are bytes, for the CRC of a frame
 pub bytes-append : (xs ys : List ℕ) → Bytes xs → Bytes ys → Bytes (xs ++ ys)
 bytes-append [] ys p q i = q i
 bytes-append (x ∷ xs) ys p q zero = p 0
 bytes-append (x ∷ xs) ys p q (suc i) = bytes-append xs ys (λ j. p (suc j)) q i
 
+-- digits that are put are bytes, likewise
 pub bytes-packedOf : (k n : ℕ) → Bytes (packedOf k n)
 unfolding packedOf
 bytes-packedOf zero n = λ i. zero-lt-suc 255

@@ -15,6 +15,7 @@ known-first : (known : Type 0) (rows : List (ℕ × String)) (n : ℕ) → Other
 known-first known [] n h = h
 known-first known (row ∷ rest) n h = known-first (known × (n ≡ row .0 → ⊥)) rest n h .0
 
+-- a number that is none of a table's rows has its words in the next table: the last arm of each function
 pub other : (known : Type 0) (rows : List (ℕ × String)) (n : ℕ) (others : List ℕ) → Other known rows n → wordsIn rows n others ≡ others
 unfolding wordsIn
 other known [] n others h = refl

@@ -1,10 +1,9 @@
--- What follows from the definitions of specs/Run.antt: the run is what is missing of a log, all of it and nothing else, and lies within one day.
+-- What follows from the definitions of specs/Run.antt: the run is what is missing of a log, all of it and nothing else, and lies within the log.
 use Prim.Native.Nat.{ℕ, _+_, _*_, _-_, _/_, _%_, _≤_, _<_}
 use native.Mathlib.Omega.{arith}
 use native.Mathlib.Nat.{suc-mul, mul-le-mul-right, mod-lt, div-add-mod', div-mul-le-self}
 use mathlib.Core.Path.{_≡_, refl, sym, ap, _∙_}
 use mathlib.Core.Bool.{Bool, true, false, cond, _&&_, and-false}
-use mathlib.Core.Logic.{_⊎_, inl, inr}
 use lib.Dec.{ltb, leb, eqb}
 use lib.Arith.{digits-lt}
 use borrow.Author.Tests.{ltb-true, ltb-false, leb-true, leb-false, eqb-true, eqb-false, lt-ltb, le-ltb, le-leb, lt-leb}
@@ -30,12 +29,14 @@ has-sunday : (d : Date) → isDate d ≡ true → lastSundayOf (d .year) 3 ≡ O
 unfolding lastSundayOf
 has-sunday d e = rw (lt-ltb _ _ (ranges d e .year-below))
 
+-- `to_sunday`: the calendar's answer is that day
 pub sunday-day : (d e : Date) → isDate d ≡ true → lastSundayOf (d .year) 3 ≡ On e → e .day ≡ lastSunday (d .year) 3
 sunday-day d e v p =
     let q = sym p ∙ has-sunday d v in
     let r : e ≡ sunday (d .year) 3 = cc q in
     ap (λ (x : Date). x .day) r
 
+-- and its other answers do not come
 pub sunday-there : (d : Date) → isDate d ≡ true → (lastSundayOf (d .year) 3 ≡ NotADate → ⊥) × (lastSundayOf (d .year) 3 ≡ OutOfRange → ⊥)
 sunday-there d v =
     let h = has-sunday d v in (
@@ -43,10 +44,12 @@ sunday-there d v =
       λ p. let q = sym p ∙ h in let z : _≡_ {A = ℕ} 0 1 = cc q in omega arith,
     )
 
+-- the March day of the year is still to come
 pub ahead-in : (d : Date) → isDate d ≡ true → dayNumber d ≤ springDay (d .year) → springAhead d ≡ In (springDay (d .year) - dayNumber d)
 unfolding springAhead
 ahead-in d e h = rw (e, le-leb _ _ h)
 
+-- or is past, and the next year's is too far for a log
 pub ahead-past : (d : Date) → springDay (d .year) < dayNumber d → springAhead d ≡ Past
 unfolding springAhead
 ahead-past d h = rw (lt-leb _ _ h, and-false)
@@ -59,9 +62,11 @@ to-next y m h k =
     let c : daysBefore (12 * y + m) + (lengthOf n - lengthOf n) ≡ daysBefore n + lengthOf n = rw e at (month-carried n (lengthOf n) (omega arith)) in
     omega (arith, c, length-of-month y m h k)
 
+-- `before_march`: the days from February's start
 pub from-february : (y : ℕ) → daysBefore (12 * y + 1) + daysInMonth y 2 ≡ daysBefore (12 * y + 2)
 from-february y = to-next y 2 (omega arith) (omega arith)
 
+-- and from January's
 pub from-january : (y : ℕ) → daysBefore (12 * y + 0) + (daysInMonth y 1 + daysInMonth y 2) ≡ daysBefore (12 * y + 2)
 from-january y =
     let a : daysBefore (12 * y + 0) + daysInMonth y 1 ≡ daysBefore (12 * y + 1) = to-next y 1 (omega arith) (omega arith) in
@@ -76,6 +81,7 @@ pub record OfMarch (y : ℕ) : Type 0 where
   pub from : 1 ≤ lastSunday y 3
   pub to : lastSunday y 3 ≤ daysInMonth y 3
 
+-- for every year: `to_day` adds and subtracts by it without going below 0
 pub of-march : (y : ℕ) → y < 100 → OfMarch y
 of-march y h =
     let s = sunday-last 3 (omega arith) (omega arith) y h in
@@ -83,6 +89,7 @@ of-march y h =
 
 -- by the days r from the first of the date's month to that of March
 module _ (d : Date) (r : ℕ) (e : isDate d ≡ true) (b : daysBefore (monthNumber d) + r ≡ daysBefore (12 * d .year + 2)) where
+  -- what `to_day` adds fits its byte
   pub at-most-62 : r ≤ 62
   at-most-62 =
       let i = ranges d e in
@@ -91,6 +98,7 @@ module _ (d : Date) (r : ℕ) (e : isDate d ≡ true) (b : daysBefore (monthNumb
       let february = at-most-31 y 2 (i .year-below) (omega arith) (omega arith) in
       omega (arith, b, from-january y, january, february, starts-mono lengthOf (12 * y + 0) (monthNumber d) (omega arith))
 
+  -- the arm of `to_day` for a day before the last Sunday
   pub sunday-ahead : d .day ≤ r + lastSunday (d .year) 3 → springAhead d ≡ In (r + lastSunday (d .year) 3 - d .day)
   unfolding dayNumber
   sunday-ahead h =
@@ -99,6 +107,7 @@ module _ (d : Date) (r : ℕ) (e : isDate d ≡ true) (b : daysBefore (monthNumb
       let n : springDay (d .year) - dayNumber d ≡ r + lastSunday (d .year) 3 - d .day = omega (arith, b, i .day-from, s .from) in
       ahead-in d e (omega (arith, b, i .day-from, s .from)) ∙ ap In n
 
+  -- its arm for one behind it
   pub sunday-past : r + lastSunday (d .year) 3 < d .day → springAhead d ≡ Past
   unfolding dayNumber
   sunday-past h = ahead-past d (omega (arith, b, ranges d e .day-from, of-march (d .year) (ranges d e .year-below) .from))
@@ -115,6 +124,7 @@ later-month d e h =
 
 -- ---- A run and the cells
 
+-- without a run no cell is missing
 pub in-none : (cell : ℕ) → inRun noRun cell ≡ false
 unfolding inRun
 in-none cell = rw (le-ltb cell (0 + 0) (omega arith), and-false)
@@ -272,34 +282,6 @@ run-at-cell start days minutes cell v most ends h = go (ltb 0 n) refl (ltb day d
 
 -- ---- Where the run lies
 
--- a run that has cells is the hour from 02:00 on of one of the log's days
-pub record OnDay (days minutes day : ℕ) (r : Run) : Type 0 where
-  pub in-log : day < days
-  pub from-two : r .first ≡ day * slotsOf minutes + 2 * hourOf minutes
-  pub an-hour : r .count ≡ hourOf minutes
-
-pub one-day : (start : Date) (days minutes : ℕ) → 0 < missingRun start days minutes .count → (day : ℕ) × OnDay days minutes day (missingRun start days minutes)
-unfolding missingRun runAt
-one-day start days minutes h = go (springAhead start) h
-  where
-    within : (k : ℕ) (b : Bool) → ltb k days ≡ b → 0 < cond b (hourFrom (k * slotsOf minutes) (hourOf minutes)) noRun .count
-        → (day : ℕ) × OnDay days minutes day (cond b (hourFrom (k * slotsOf minutes) (hourOf minutes)) noRun)
-    within k true p c = (k, record { in-log = ltb-true _ _ p; from-two = refl; an-hour = refl })
-    within k false p c = absurd (omega arith)
-
-    go : (a : Ahead) → 0 < runAt a days minutes .count → (day : ℕ) × OnDay days minutes day (runAt a days minutes)
-    go (In k) c = within k (ltb k days) refl c
-    go Past c = absurd (omega arith)
-
--- so it ends on the day on which it begins
-pub record WithinDay (minutes day : ℕ) (r : Run) : Type 0 where
-  pub begins : day * slotsOf minutes ≤ r .first
-  pub ends : r .first + r .count ≤ day * slotsOf minutes + slotsOf minutes
-
-pub within-day : (days minutes day : ℕ) (r : Run) → OnDay days minutes day r → WithinDay minutes day r
-within-day days minutes day r o =
-    record { begins = omega (arith, o .from-two); ends = omega (arith, o .from-two, o .an-hour, whole-hours minutes) }
-
 -- its cells are the log's
 pub run-in-log : (start : Date) (days minutes : ℕ) → missingRun start days minutes .first + missingRun start days minutes .count ≤ days * slotsOf minutes
 unfolding missingRun runAt
@@ -313,17 +295,3 @@ run-in-log start days minutes = go (springAhead start)
     go : (a : Ahead) → runAt a days minutes .first + runAt a days minutes .count ≤ days * slotsOf minutes
     go (In k) = below k (ltb k days) refl
     go Past = omega arith
-
--- it has 2 cells or 4
-pub run-count : (start : Date) (days minutes : ℕ) → 0 < missingRun start days minutes .count
-    → (missingRun start days minutes .count ≡ 2) ⊎ (missingRun start days minutes .count ≡ 4)
-unfolding slotsOf isMinutes
-run-count start days minutes h =
-    let o = one-day start days minutes h in
-    go (o .1 .an-hour) (eqb minutes 15) refl (eqb minutes 30) refl
-  where
-    go : missingRun start days minutes .count ≡ hourOf minutes → (a : Bool) → eqb minutes 15 ≡ a → (b : Bool) → eqb minutes 30 ≡ b
-        → (missingRun start days minutes .count ≡ 2) ⊎ (missingRun start days minutes .count ≡ 4)
-    go c true p b q = inr (c ∙ ap hourOf (eqb-true minutes 15 p))
-    go c false p true q = inl (c ∙ ap hourOf (eqb-true minutes 30 q))
-    go c false p false q = let z : hourOf minutes ≡ 0 = rw (p, q) in absurd (omega arith)

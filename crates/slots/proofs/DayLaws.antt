@@ -27,9 +27,11 @@ slots-or-none m = go (eqb m 15) refl (eqb m 30) refl
 pub no-minutes : (m n : ℕ) → n ≡ slotsOf m → n ≡ 0 → isMinutes m ≡ false
 no-minutes m n p z = not-true (isMinutes m) (sym (slots-or-none m) ∙ eq-eqb (slotsOf m) 0 (sym p ∙ z))
 
+-- a day that has slots has a legal interval: what a test of the slots alone tells
 pub some-minutes : (m n : ℕ) → n ≡ slotsOf m → (n ≡ 0 → ⊥) → isMinutes m ≡ true
 some-minutes m n p z = not-false (isMinutes m) (sym (slots-or-none m) ∙ ne-eqb (slotsOf m) 0 (λ q. z (p ∙ q)))
 
+-- 96, so that a slot is a byte and a log's cells are few
 pub slots-at-most : (m : ℕ) → slotsOf m ≤ slotsMost
 unfolding slotsOf isMinutes
 slots-at-most m = go (eqb m 15) refl (eqb m 30) refl

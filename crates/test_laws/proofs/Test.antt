@@ -13,6 +13,7 @@ pub both : (a b : Bool) → (a && b) ≡ true → (a ≡ true) × (b ≡ true)
 both true b e = (refl, e)
 both false b e = absurd (false≢true e)
 
+-- a test that computes to true, as an equation to rewrite with
 pub passed : (b : Bool) → T b → b ≡ true
 passed true t = refl
 passed false t = absurd t

@@ -11,6 +11,7 @@ use Rattle.text.specs.Decimal.{digit, padded}
 use Rattle.text.proofs.DecimalLaws.{length-padded, padded-split}
 use Rattle.text.specs.DateText.{hyphen, dateText}
 
+-- how much room a date takes in a line
 pub length-dateText : (d : Date) → length (dateText d) ≡ 10
 unfolding dateText
 length-dateText d = simp (length-append, length-padded)
@@ -36,6 +37,7 @@ four n = padded-split 2 2 n ∙ ap (λ (l : List ℕ). padded 2 (n / 100) ++ l) 
 next : (s : List ℕ) (i j : ℕ) (xs ys : List ℕ) → i + length xs ≡ j → written (written s i xs) j ys ≡ written s i (xs ++ ys)
 next s i j xs ys e = ap (λ (k : ℕ). written (written s i xs) k ys) (sym e) ∙ sym (written-append s i xs ys)
 
+-- the stores of `put_date` are one
 pub written-date : (s : List ℕ) (i : ℕ) (d : Date)
     → written (written (written (written (written (written s i (padded 2 ((2000 + d .year) / 100))) (i + 2) (padded 2 ((2000 + d .year) % 100)))
     (i + 4) (hyphen ∷ [])) (i + 5) (padded 2 (d .month))) (i + 7) (hyphen ∷ [])) (i + 8) (padded 2 (d .day))

@@ -29,11 +29,13 @@ enough (suc j) (suc k) n p q = size n
     (λ h. rw (lt-ltb n 10 h))
     (λ h. rw (le-ltb n 10 h) (ap (λ (l : List ℕ). l ++ (digit (n % 10) ∷ [])) (enough j k (n / 10) (omega arith) (omega arith))))
 
+-- a number of one digit: where the digits of a number begin
 pub decimal-one : (n : ℕ) → n < 10 → decimal n ≡ digit n ∷ []
 unfolding decimal digits
 decimal-one zero h = refl
 decimal-one (suc n) h = rw (lt-ltb (suc n) 10 h)
 
+-- one digit more: every law of digits goes by these two
 pub decimal-more : (n : ℕ) → 10 ≤ n → decimal n ≡ decimal (n / 10) ++ (digit (n % 10) ∷ [])
 unfolding decimal digits
 decimal-more zero h = absurd (omega arith)
@@ -51,12 +53,15 @@ by-digits P one more n = up-to (suc n) n (omega arith)
 
 -- ---- how many digits
 
+-- the first turn of `decimal_length`
 pub length-decimal-one : (n : ℕ) → n < 10 → length (decimal n) ≡ 1
 length-decimal-one n h = ap length (decimal-one n h)
 
+-- one turn more of it
 pub length-decimal-more : (n : ℕ) → 10 ≤ n → length (decimal n) ≡ length (decimal (n / 10)) + 1
 length-decimal-more n h = ap length (decimal-more n h) ∙ length-append (decimal (n / 10)) (digit (n % 10) ∷ [])
 
+-- a number has a first digit
 pub decimal-least : (n : ℕ) → 1 ≤ length (decimal n)
 decimal-least = by-digits (λ n. 1 ≤ length (decimal n))
     (λ n h. omega (arith, length-decimal-one n h))
@@ -69,12 +74,15 @@ decimal-most (suc k) n h = size n
     (λ one. omega (arith, length-decimal-one n one))
     (λ more. let p : n < 10 ^ suc k * 10 = rw pow-suc at h in omega (arith, length-decimal-more n more, decimal-most k (n / 10) (omega arith)))
 
+-- the room that a number of 64 bits needs
 pub decimal-most-u64 : (n : ℕ) → n < 2 ^ 64 → length (decimal n) ≤ 20
 decimal-most-u64 n h = decimal-most 19 n (omega arith)
 
+-- the room that a number of 32 bits needs: lines of the report, the text of a lock
 pub decimal-most-u32 : (n : ℕ) → n < 2 ^ 32 → length (decimal n) ≤ 10
 decimal-most-u32 n h = decimal-most 9 n (omega arith)
 
+-- the fixed width of a date's parts
 pub length-padded : (k n : ℕ) → length (padded k n) ≡ k
 unfolding padded
 length-padded zero n = refl
@@ -94,6 +102,7 @@ areDigits-one d h = rw (le-leb 48 (digit d) (omega arith), le-leb (digit d) 57 (
 areDigits-more : (ds : List ℕ) (d : ℕ) → areDigits ds ≡ true → d < 10 → areDigits (ds ++ (digit d ∷ [])) ≡ true
 areDigits-more ds d e h = areDigits-append ds (digit d ∷ []) ∙ rw (e, areDigits-one d h)
 
+-- what is put as digits is read as digits
 pub areDigits-decimal : (n : ℕ) → areDigits (decimal n) ≡ true
 areDigits-decimal = by-digits (λ n. areDigits (decimal n) ≡ true)
     (λ n h. ap areDigits (decimal-one n h) ∙ areDigits-one n h)
@@ -115,6 +124,7 @@ value-decimal = by-digits (λ n. valueOf (decimal n) ≡ n)
 
 -- ---- no leading zeros: 0 alone begins with one
 
+-- a line's numbers are written in one way: no zero in front
 pub no-leading-zero : (n : ℕ) → getD (decimal n) 0 0 ≡ digit 0 → n ≡ 0
 no-leading-zero = by-digits (λ n. getD (decimal n) 0 0 ≡ digit 0 → n ≡ 0)
     (λ n h e. omega (arith, ap (λ (l : List ℕ). getD l 0 0) (decimal-one n h)))
@@ -126,6 +136,7 @@ no-leading-zero = by-digits (λ n. getD (decimal n) 0 0 ≡ digit 0 → n ≡ 0)
 
 -- ---- j + k digits are j, and behind them k
 
+-- a year as two numbers of two digits
 pub padded-split : (j k n : ℕ) → padded (j + k) n ≡ padded j (n / 10 ^ k) ++ padded k n
 unfolding padded
 padded-split j zero n = rw (add-zero, pow-zero, div-one) (sym (append-nil (padded j n)))

@@ -31,22 +31,27 @@ read-decimal n h =
 
 -- ---- the four ways to be no number, and the one to be one
 
+-- `number_of`: no digit is no number
 pub not-empty : (t : List ℕ) → length t < 1 → numberOfText t ≡ NotANumber
 unfolding numberOfText isNumber
 not-empty t h = rw (lt-leb 1 (length t) h)
 
+-- more digits than 64 bits can have
 pub not-long : (t : List ℕ) → 20 < length t → numberOfText t ≡ NotANumber
 unfolding numberOfText isNumber
 not-long t h = rw (lt-leb (length t) 20 h, and-false (leb 1 (length t)))
 
+-- a byte that is no digit
 pub not-digits : (t : List ℕ) → areDigits t ≡ false → numberOfText t ≡ NotANumber
 unfolding numberOfText isNumber
 not-digits t h = rw (h, and-false (leb (length t) 20), and-false (leb 1 (length t)))
 
+-- a number of more than 64 bits
 pub not-small : (t : List ℕ) → 2 ^ 64 ≤ valueOf t → numberOfText t ≡ NotANumber
 unfolding numberOfText isNumber
 not-small t h = rw (le-ltb (valueOf t) (2 ^ 64) h, and-false (areDigits t), and-false (leb (length t) 20), and-false (leb 1 (length t)))
 
+-- else the number
 pub a-number : (t : List ℕ) → 1 ≤ length t → length t ≤ 20 → areDigits t ≡ true → valueOf t < 2 ^ 64 → numberOfText t ≡ Number (valueOf t)
 unfolding numberOfText isNumber
 a-number t a b c d = rw (le-leb 1 (length t) a, le-leb (length t) 20 b, c, lt-ltb (valueOf t) (2 ^ 64) d)
@@ -60,18 +65,22 @@ value-grows a (d ∷ ds) = let h : a * 10 + (d - 48) ≤ valueFrom (a * 10 + (d 
 -- ---- a text, read byte by byte: what is left of it from place i on
 
 module _ (t : List ℕ) (i : ℕ) (h : i < length t) where
+  -- a turn of its loop: the digit is added
   pub value-at : (a : ℕ) → valueFrom a (drop i t) ≡ valueFrom (a * 10 + (getD t i 0 - 48)) (drop (i + 1) t)
   unfolding valueFrom
   value-at a = rw (add-one, drop-cons t i 0)
 
+  -- a turn of its loop: a digit changes nothing of the test
   pub digit-at : 48 ≤ getD t i 0 → getD t i 0 ≤ 57 → areDigits (drop i t) ≡ areDigits (drop (i + 1) t)
   unfolding areDigits isDigit
   digit-at low high = rw (add-one, drop-cons t i 0, le-leb 48 (getD t i 0) low, le-leb (getD t i 0) 57 high)
 
+  -- a byte before the digits fails it
   pub below-digits : getD t i 0 < 48 → areDigits (drop i t) ≡ false
   unfolding areDigits isDigit
   below-digits low = rw (drop-cons t i 0, lt-leb 48 (getD t i 0) low)
 
+  -- a byte behind them fails it
   pub above-digits : 57 < getD t i 0 → areDigits (drop i t) ≡ false
   unfolding areDigits isDigit
   above-digits high = rw (drop-cons t i 0, lt-leb (getD t i 0) 57 high, and-false (leb 48 (getD t i 0)))
