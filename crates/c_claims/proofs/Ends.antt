@@ -1,5 +1,5 @@
 -- Demand 1 at the boundary: what the proved calls below leave, and the lent words and bytes that C adds to it.
-use mathlib.Core.Path.{_≡_, refl, ap}
+use mathlib.Core.Path.{_≡_, refl, ap, _∙_}
 use mathlib.Core.Bool.{Bool, true, false, cond}
 use mathlib.Core.List.{List, []}
 use Prim.Native.Nat.{ℕ, _+_}
@@ -58,11 +58,12 @@ use Rattle.c_values.specs.Ask.{askOf, askBytes}
 use Rattle.c_values.specs.Row.{figuresFor, figureRow}
 use Rattle.c_values.specs.declared.ask.AskRead.{AskRead}
 use Rattle.c_values.specs.declared.ask.AskRead.the-variants.{Read, Unreadable}
-use Rattle.claims.specs.Demand1.{inTable, Ends, EndsBy, givesFrame}
+use Rattle.claims.specs.Demand1.{inTable, Ends, EndsBy, closesAsk, givesFrame}
 use Rattle.claims.proofs.Calls.{done, stays}
 use Rattle.claims.proofs.Claims as claims
 use Rattle.metlazuel.specs.Calls.{numbered, sized, unreadNumber, resultAfter, receivedAfter}
-use Rattle.metlazuel.specs.LogCalls.{headerFrom, imageLength, fileLength, lengthAfter, askLeft, askForC, lapseCloses, lapseForC, closesAsk, takeForC}
+use Rattle.metlazuel.specs.LogCalls.{headerFrom, imageLength, fileLength, lengthAfter, askLeft, askForC, lapseForC, takeForC}
+use Rattle.c_claims.proofs.LogLaws.{kept-bytes, taken-given}
 use Rattle.metlazuel.specs.CellCalls.{cellForC, nextGapForC}
 use Rattle.metlazuel.specs.WireCalls.{requestFrom, countAfter, decodedForC, decodeForC}
 use Rattle.metlazuel.specs.MeterCalls.{telemetryFrom, clockFrom, phasesFrom, ratiosFrom, key, row, madeIn, secondIn, powersIn, ratiosIn, sliceIn}
@@ -145,50 +146,45 @@ next-gap v day from slot =
 -- ---- asks, lapses and replies
 
 ask-read : (a : AskRead) (v : View) (bs : List ℕ) (address day slot : ℕ) (out : List ℕ) → EndsForC (bs, out) (askForC a v bs address day slot out)
-unfolding askForC askLeft
+unfolding askForC
 ask-read (Read held) v bs address day slot out =
     let e = claims.demand-1 .put-ask v held address day slot out in
-    record { in-table = e .in-table; unchanged = λ n. rw (ne-eqb _ _ n, ap (λ (p : OpenAsk × List ℕ). p .1) (e .unchanged n)) }
+    record {
+      in-table = e .in-table;
+      unchanged = λ n.
+          ap (λ (p : OpenAsk × List ℕ). (askLeft held (p .0) bs, p .1)) (e .unchanged n) ∙ ap (λ (x : List ℕ). (x, out)) (kept-bytes bs held);
+    }
 ask-read Unreadable v bs address day slot out = unread (length out) readSize (bs, out)
 
 pub ask : (v : View) (bs : List ℕ) (address day slot : ℕ) (out : List ℕ) → EndsForC (bs, out) (askForC (askOf bs) v bs address day slot out)
 ask v bs address day slot out = ask-read (askOf bs) v bs address day slot out
 
--- a refused lapse closes no ask
-none-closed : (held : OpenAsk) (n : ℕ) → (n ≡ 0 → ⊥) → lapseCloses held n ≡ false
-unfolding lapseCloses
-none-closed Closed n r = refl
-none-closed (Open address day slot) n r = ne-eqb _ _ r
-
 lapse-read : (a : AskRead) (log bs : List ℕ) → EndsForC (log, bs) (lapseForC a log bs)
-unfolding lapseForC step askLeft inTable
+unfolding lapseForC step inTable
 lapse-read (Read held) log bs =
     let e = claims.demand-1 .lapse (record { log = log; figures = []; held = held }) in
-    record { in-table = e .in-table; unchanged = λ n. rw (none-closed held _ n, ap (λ (s : State). s .log) (e .unchanged n)) }
+    record {
+      in-table = e .in-table;
+      unchanged = λ n.
+          ap (λ (s : State). (s .log, askLeft held (s .held) bs)) (e .unchanged n) ∙ ap (λ (x : List ℕ). (log, x)) (kept-bytes bs held);
+    }
 lapse-read Unreadable log bs = stays 28 (log, bs) refl
 
 pub lapse : (log bs : List ℕ) → EndsForC (log, bs) (lapseForC (askOf bs) log bs)
 lapse log bs = lapse-read (askOf bs) log bs
 
 pub lapse-none : (log bs : List ℕ) → askOf bs ≡ Read Closed → lapseForC (askOf bs) log bs ≡ outcome 0 (log, bs)
-unfolding lapseForC lapseCloses askLeft lapse-of.lapsed lapse-of.lapsing applied
+unfolding lapseForC askLeft lapse-of.lapsed lapse-of.lapsing applied
 lapse-none log bs e = rw e
-
-closed-bytes : (b : Bool) (held left : OpenAsk) (bs : List ℕ) → left ≡ cond b Closed held → askLeft b left bs ≡ cond b (written bs 0 (askBytes Closed)) bs
-unfolding askLeft
-closed-bytes true held left bs e = rw e
-closed-bytes false held left bs e = refl
 
 take-read : (a : AskRead) (b : LogAndRows) (bs reply : List ℕ) (result size : ℕ) → let o = takeForC a b bs reply result size in let n = o .result in
     Ends {A = ℕ × ℕ × LogAndRows × List ℕ} n
     (resultAfter n reply result, receivedAfter n reply size, b, cond (closesAsk n) (written bs 0 (askBytes Closed)) bs) (o .left)
-unfolding takeForC closesAsk resultAfter receivedAfter inTable
+unfolding takeForC resultAfter receivedAfter inTable
 take-read (Read held) b bs reply result size =
     let e = claims.demand-1 .take-reply b held reply in
-    record {
-      in-table = e .in-table;
-      unchanged = λ n. rw (e .unchanged n, closed-bytes _ held _ bs (claims.demand-1 .ask-after b held reply));
-    }
+    let g = taken-given held reply bs result size b in
+    record { in-table = e .in-table; unchanged = λ n. rw (e .unchanged n, g .result-is, g .length-is, g .ask-is) refl }
 take-read Unreadable b bs reply result size = record { in-table = refl; unchanged = λ n. refl }
 
 pub take : (b : LogAndRows) (bs reply : List ℕ) (result size : ℕ) → let o = takeForC (askOf bs) b bs reply result size in let n = o .result in
@@ -199,7 +195,7 @@ take b bs reply result size = take-read (askOf bs) b bs reply result size
 read-length : (a : AskRead) (b : LogAndRows) (bs reply : List ℕ) (result size : ℕ) → let o = takeForC a b bs reply result size in
     o .left .1 ≡ receivedAfter (o .result) reply size
 unfolding takeForC receivedAfter
-read-length (Read held) b bs reply result size = refl
+read-length (Read held) b bs reply result size = taken-given held reply bs result size b .length-is
 read-length Unreadable b bs reply result size = refl
 
 pub take-length : (b : LogAndRows) (bs reply : List ℕ) (result size : ℕ) → let o = takeForC (askOf bs) b bs reply result size in

@@ -6,27 +6,22 @@ use Prim.Native.Nat.{ℕ, _<_}
 use lib.ListN.{length}
 use Rattle.refusal.specs.Outcome.{Outcome, outcome}
 use Rattle.byte_numbers.specs.Place.{byteAt}
-use Rattle.log_header.specs.Interval.{comesTwice}
 use Rattle.log.specs.Pair.{pairOf}
 use Rattle.log.specs.View.{View, viewOf}
 use Rattle.day_rows.specs.LogAndRows.{LogAndRows, logAndRows}
 use Rattle.day_rows.specs.Rows.{rowAt, Right}
 use Rattle.logger.specs.Ask as ask-of
 use Rattle.logger.specs.Take as take
-use Rattle.reader.specs.declared.form.Fault.{Fault}
 use Rattle.reader.specs.declared.form.Fault.the-variants as fault
-use Rattle.reader.specs.declared.form.Form.the-variants.{Faulty}
-use Rattle.reader.proofs.FormLaws.{length-told}
-use Rattle.logger.specs.Reply.{sliceForm, rowOf}
 use Rattle.logger.specs.Book.{Call, ask, lapse, reply, Answer, plain, runOf, CallBytes, AllBytes}
 use Rattle.logger.specs.Run.{State, takeAnswer, step, run}
-use Rattle.logger.proofs.TakeLaws.{Step, decided-cases, update-cases}
 use Rattle.logger.specs.Lapse as lapse-of
 use Rattle.logger.specs.declared.ask.AskAnswer.{AskAnswer}
 use Rattle.logger.specs.declared.ask.AskAnswer.the-variants as asked
 use Rattle.logger.specs.declared.no_reply.LapseAnswer.{LapseAnswer}
 use Rattle.logger.specs.declared.no_reply.LapseAnswer.the-variants as lapsed
-use Rattle.logger.specs.declared.take.TakeAnswer.the-variants.{Malformed}
+use Rattle.logger.specs.declared.take.TakeAnswer.{TakeAnswer}
+use Rattle.logger.specs.declared.take.TakeAnswer.the-variants.{Done, TooShort, NoAskOpen, NotInLog, Malformed, MeterRefused, OtherCounts, Unsound}
 use Rattle.logger.specs.declared.held.OpenAsk.{OpenAsk}
 use Rattle.c_values.specs.Ask.{askOf}
 use Rattle.c_values.specs.declared.ask.AskRead.{AskRead}
@@ -34,7 +29,6 @@ use Rattle.c_values.specs.declared.ask.AskRead.the-variants.{Read, Unreadable}
 use Rattle.claims.specs.Demand3.{OtherCell, Elsewhere, SameCell, begin, booked, logAfresh}
 use Rattle.claims.specs.DayFigures.{OtherDay}
 use Rattle.claims.proofs.Claims as claims
-use Rattle.metlazuel.specs.Calls.{resultAfter, receivedAfter}
 use Rattle.metlazuel.specs.LogCalls.{askForC, lapseForC, takeForC}
 use Rattle.c_claims.specs.Demand3.{Lent, stateOf, told, stepForC, ranForC, Begins}
 use Rattle.c_claims.proofs.LogLaws as left
@@ -55,37 +49,20 @@ lapsed-told lapsed.Done word size = refl
 lapsed-told lapsed.NotInLog word size = refl
 lapsed-told lapsed.Unsound word size = refl
 
-module _ (y : List ℕ) (word size : ℕ) where
-  abbrev Told : Step → Type 0
-  Told o =
-      let n = take.numberOf (o .result .taken .answer) in
-      told n (resultAfter n y word) (receivedAfter n y size) ≡ takeAnswer (o .result .taken .answer)
-
-  -- the length that comes with 50 is the reply's
-  fault-told : (address : ℕ) (held : OpenAsk) (figs : List ℕ) (f : Fault) → sliceForm address y ≡ Faulty f
-      → Told (outcome (take.stays (Malformed f) held) figs)
-  unfolding told resultAfter receivedAfter
-  fault-told address held figs (fault.Length n) e =
-      ap (λ (k : ℕ). record { number = 50; result = 0; length = k }) (sym (length-told address 3 36 14 y n e))
-  fault-told address held figs fault.Crc e = refl
-  fault-told address held figs fault.Address e = refl
-  fault-told address held figs fault.Function e = refl
-  fault-told address held figs fault.Parameter e = refl
-
-  taken-told : (v : View) (figs : List ℕ) (held : OpenAsk) → Told (take.decided v figs held y)
-  unfolding told resultAfter receivedAfter
-  taken-told v figs held =
-      decided-cases Told v figs held y (λ u. refl) (λ h u.
-      record {
-        few = λ n. refl;
-        no-ask = λ o. refl;
-        outside = λ a d t o n. refl;
-        malformed = λ i o f e. fault-told (o .address) held figs f e;
-        refused = λ i o r. refl;
-        bad-cell = λ i o b. refl;
-        counted = λ i o r c g.
-            update-cases Told (comesTwice h (o .ask .day) (o .ask .slot)) held (o .ask .day) i c figs (take.updateOf c (rowOf y)) (λ new q done. refl) refl refl refl;
-      })
+taken-told : (a : TakeAnswer) (word size : ℕ) → told (take.numberOf a) (take.resultOr a word) (take.lengthOr a size) ≡ takeAnswer a
+unfolding told
+taken-told Done word size = refl
+taken-told TooShort word size = refl
+taken-told NoAskOpen word size = refl
+taken-told NotInLog word size = refl
+taken-told (Malformed (fault.Length n)) word size = refl
+taken-told (Malformed fault.Crc) word size = refl
+taken-told (Malformed fault.Address) word size = refl
+taken-told (Malformed fault.Function) word size = refl
+taken-told (Malformed fault.Parameter) word size = refl
+taken-told (MeterRefused result) word size = refl
+taken-told OtherCounts word size = refl
+taken-told Unsound word size = refl
 
 -- ---- one call
 
@@ -111,7 +88,7 @@ step-alike m held lapse e = record {
   holds = record { log = rw e refl; figures = refl; ask = left.lapse-left (m .ask) (m .log) held e };
 }
 step-alike m held (reply y) e = record {
-  answer = rw e (taken-told y (m .result) (m .size) (viewOf (m .log)) (m .figures) held);
+  answer = rw e (taken-told (take.taken (logAndRows (m .log) (m .figures)) held y .result .answer) (m .result) (m .size));
   holds = record {
     log = rw e refl;
     figures = ap (λ (a : AskRead). takeForC a (logAndRows (m .log) (m .figures)) (m .ask) y (m .result) (m .size) .left .2 .figures) e;

@@ -39,7 +39,7 @@ use Rattle.meter_command.specs.Verdict.{isDone}
 use Rattle.meter_reply_data.specs.Reading.{phase}
 use Rattle.meter.specs.Reply as reply
 use Rattle.meter.specs.declared.reply.Answered.{Answered}
-use Rattle.c_values.specs.Row.{figuresFor, figureRow, powersRow, timeRow, sliceRow, energiesRow, countsRow, sixRow}
+use Rattle.c_values.specs.Row.{figuresFor, figureRow, powersRow, timeRow, energiesRow, countsRow, sixRow}
 use Rattle.c_values.proofs.RowLaws.{decoded-foretold}
 use Rattle.claims.specs.Demand1.{answerNumber}
 use Rattle.claims.specs.Demand2.{FitsRequest, replyIn, answered}
@@ -69,7 +69,7 @@ abbrev SixFrom : Parameter → List ℕ → Request → List ℕ → Type 0
 SixFrom p s q y = p ≡ parameter.SixSlices → rows.sixOf (rows.replyData y) ≡ sixOf s (keyOf q)
 
 stored-row : (p : Parameter) (r : Record) (s : List ℕ) (q : Request) (y : List ℕ) → SixFrom p s q y → figureRow (ownFigures p r s q) y ≡ storedNumbers p r s q
-unfolding figureRow storedNumbers timeRow sliceRow fourCounts sixRow countsRow sixOf
+unfolding figureRow storedNumbers timeRow fourCounts sixRow countsRow sixOf
 stored-row parameter.ActivePower r s q y six = power-row (r .active) (q .detail) y
 stored-row parameter.ReactivePower r s q y six = power-row (r .reactive) (q .detail) y
 stored-row parameter.Address r s q y six = refl

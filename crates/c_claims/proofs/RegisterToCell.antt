@@ -48,7 +48,9 @@ use Rattle.claims.specs.RegisterToCell.{allZero, areCounts, cellAfter, numberAf
 use Rattle.claims.proofs.Claims as claims
 use Rattle.claims.proofs.RegisterToCell.{interval-on, answer-bytes}
 use Rattle.metlazuel.specs.Calls.{resultAfter, receivedAfter}
-use Rattle.metlazuel.specs.LogCalls.{askLeft, askForC, closesAsk, takenForC, takeForC}
+use Rattle.metlazuel.specs.LogCalls.{askLeft, askForC, takenForC, takeForC}
+use Rattle.claims.specs.Demand1.{closesAsk}
+use Rattle.c_claims.proofs.LogLaws.{taken-given}
 use Rattle.metlazuel.specs.MeterCalls.{sentLength, answerForC}
 use Rattle.metlazuel.specs.CellCalls.{kindOf, countsOf, cellForC}
 use Rattle.c_claims.specs.Demand3.{Lent, ranForC, Begins}
@@ -70,7 +72,7 @@ record Closing (n : ℕ) : Type 0 where
   no-length : eqb n 50 ≡ false
 
 number-closing : (c : Cell) (row : List ℕ) → Closing (numberAfter c row)
-unfolding numberAfter closesAsk
+unfolding numberAfter
 number-closing Gap row = record { shut = refl; no-result = refl; no-length = refl }
 number-closing Empty row = record { shut = refl; no-result = refl; no-length = refl }
 number-closing (Measured e+ e- r+ r-) row = go (allZero row) (areCounts e+ e- r+ r- row)
@@ -171,19 +173,20 @@ module _ (bs : List ℕ) (r : Record) (store : List ℕ) (b : LogAndRows) (h : H
   read-open = refl
 
   -- with the ask's bytes read, and the reply as long as was told
-  taken-read : taken-c ≡ takenForC t (replyIn o) result size opened
+  taken-read : taken-c ≡ takenForC (a .result .held) t result size opened
   unfolding takeForC
   taken-read =
       ap₂ (λ (x : Outcome ℕ (List ℕ × List ℕ)) (y : Outcome ℕ (ℕ × List ℕ × List ℕ × List ℕ)). taking b x y result size) asked-whole answered-whole
       ∙ ap₂ (λ (x : AskRead) (y : List ℕ). takeForC x b opened y result size) read-open reply-whole
-      ∙ ap (λ (x : OpenAsk). takenForC (take-of.taken b x (replyIn o)) (replyIn o) result size opened) (sym (below-asked .held))
+      ∙ ap (λ (x : OpenAsk). takenForC x (take-of.taken b x (replyIn o)) result size opened) (sym (below-asked .held))
 
   taken-whole : taken-c ≡ call.outcome (numberAfter c row) (result, size, t .left, 0 ∷ 0 ∷ 0 ∷ 0 ∷ [])
-  unfolding askLeft askBytes resultAfter receivedAfter
+  unfolding askBytes resultAfter receivedAfter
   taken-whole =
       let n = number-closing c row in
+      let g = taken-given (a .result .held) (replyIn o) opened result size b in
       taken-read
-      ∙ rw (below .1 .number, n .shut, n .no-result, n .no-length, below .1 .held)
+      ∙ rw (g .result-is, g .length-is, g .ask-is, below .1 .number, n .shut, n .no-result, n .no-length)
       (ap (λ (x : List ℕ). call.outcome (numberAfter c row) (result, size, t .left, x)) (whole opened (0 ∷ 0 ∷ 0 ∷ 0 ∷ []) refl refl))
 
   taken : TakenBy taken-c c row result size

@@ -32,9 +32,9 @@ use Rattle.log_file.specs.Write.{writtenFile, writeNumber}
 use Rattle.logger.specs.declared.held.OpenAsk.the-variants.{Closed}
 use Rattle.c_values.specs.Ask.{askOf, askBytes}
 use Rattle.c_values.specs.declared.ask.AskRead.the-variants.{Read}
-use Rattle.claims.specs.Demand1.{Ends, givesFrame}
+use Rattle.claims.specs.Demand1.{Ends, closesAsk, givesFrame}
 use Rattle.metlazuel.specs.Calls.{numbered, sized, resultAfter, receivedAfter}
-use Rattle.metlazuel.specs.LogCalls.{headerFrom, imageLength, fileLength, lengthAfter, askForC, lapseForC, closesAsk, takeForC}
+use Rattle.metlazuel.specs.LogCalls.{headerFrom, imageLength, fileLength, lengthAfter, askForC, lapseForC, takeForC}
 use Rattle.metlazuel.specs.CellCalls.{cellForC, nextGapForC}
 use Rattle.metlazuel.specs.WireCalls.{requestFrom, decodeForC}
 use Rattle.metlazuel.specs.MeterCalls.{telemetryFrom, clockFrom, phasesFrom, ratiosFrom, key, row, madeIn, secondIn, powersIn, ratiosIn, sliceIn}

@@ -21,19 +21,19 @@ use Rattle.parameters.specs.declared.code.Parameter.{Parameter}
 use Rattle.request.specs.Subject.{subjectOf, mostSlots, askable, dataBytes}
 use Rattle.request.specs.declared.request.Request.{Request}
 use Rattle.request.specs.declared.subject.Subject.{Subject}
-use Rattle.reader.specs.Form.{formOf}
+use Rattle.reader.specs.Form.{replyOf}
 use Rattle.reader.proofs.FormLaws.{fault-above}
 use Rattle.reader.specs.Rows.{replyData}
-use Rattle.reader.specs.Reply.{powersFigure, powerFigure, energiesFigure, phaseFigures, readFigures, readAs, figuresOf, repliedOf, decodedOf, numberOf}
-use Rattle.reader.specs.declared.form.Form.{Form}
-use Rattle.reader.specs.declared.form.Form.the-variants.{WellFormed, Faulty}
+use Rattle.reader.specs.Reply.{powersFigure, powerFigure, energiesFigure, phaseFigures, readFigures, readAs, figuresOf, decodedOf, numberOf}
+use Rattle.reader.specs.declared.form.Reply.{Reply}
+use Rattle.reader.specs.declared.form.Reply.the-variants.{Malformed, Refused, Answered}
 use Rattle.reader.specs.declared.reply.Decoded.{Decoded}
 use Rattle.wire_values.specs.declared.power.Power.the-variants as power
 use Rattle.wire_values.specs.declared.power.PowersAnswer.the-variants as powers
 use Rattle.parameters.specs.declared.code.Parameter.the-variants as parameter
 use Rattle.request.specs.declared.subject.Subject.the-variants as subject
 use Rattle.reader.specs.declared.reply.Decoded.the-variants as decoded
-use Rattle.c_values.specs.Row.{figuresFor, figureRow, timeRow, powersRow, sliceRow, sixRow, countsRow, energiesRow}
+use Rattle.c_values.specs.Row.{figuresFor, figureRow, timeRow, powersRow, sixRow, countsRow, energiesRow}
 
 -- done, and then with the figures that are foretold
 abbrev pub Foretold : Subject → List ℕ → Decoded → Type 0
@@ -61,7 +61,7 @@ phase-foretold detail y bs = go (eqb detail 0)
     go false e = power-foretold y (powerOf bs 0) e
 
 data-foretold : (p : Parameter) (detail : ℕ) (y bs : List ℕ) → Foretold (subject.Figures Stored p detail) y (readFigures p detail bs)
-unfolding figureCount readFigures figureRow timeRow sliceRow sixRow countsRow
+unfolding figureCount readFigures figureRow timeRow sixRow countsRow
 data-foretold parameter.ActivePower detail y bs e = phase-foretold detail y bs e
 data-foretold parameter.ReactivePower detail y bs e = phase-foretold detail y bs e
 data-foretold parameter.Address detail y bs e = refl
@@ -89,22 +89,18 @@ subject-foretold : (s : Subject) (y bs : List ℕ) → Foretold s y (figuresOf s
 subject-foretold (subject.Figures x p detail) y bs e = as-foretold x p detail y bs e
 subject-foretold subject.Nothing y bs e = absurd (omega arith)
 
-replied-foretold : (s : Subject) (y : List ℕ) → Foretold s y (repliedOf s y)
-unfolding repliedOf
-replied-foretold s y = go (eqb (byteAt y 3) 0)
-  where
-    go : (b : Bool) → Foretold s y (cond b (figuresOf s (replyData y)) (decoded.MeterRefused (byteAt y 3)))
-    go true e = subject-foretold s y (replyData y) e
-    go false e = absurd (omega arith)
-
 module _ (q : Request) (y : List ℕ) where
   abbrev asked : Subject
   asked = subjectOf q mostSlots
 
-  formed-foretold : (f : Form) → askable asked ≡ true → formOf (q .address) (readingCode (q .reading)) (q .parameter) (6 + dataBytes asked) y ≡ f → Foretold asked y (decodedOf q y)
+  abbrev came : Reply
+  came = replyOf (q .address) (readingCode (q .reading)) (q .parameter) (6 + dataBytes asked) y
+
+  reply-foretold : (r : Reply) → askable asked ≡ true → came ≡ r → Foretold asked y (decodedOf q y)
   unfolding decodedOf
-  formed-foretold WellFormed a e = rw (a, e) (replied-foretold asked y)
-  formed-foretold (Faulty fault) a e = rw (a, e) (λ n. absurd (omega (arith, fault-above fault)))
+  reply-foretold (Malformed fault) a e = rw (a, e) (λ n. absurd (omega (arith, fault-above fault)))
+  reply-foretold (Refused result) a e = rw (a, e) (λ n. absurd (omega arith))
+  reply-foretold Answered a e = rw (a, e) (subject-foretold asked y (replyData y))
 
   -- so a row as long as was foretold holds all figures
   pub decoded-foretold : Foretold asked y (decodedOf q y)
@@ -112,5 +108,5 @@ module _ (q : Request) (y : List ℕ) where
   decoded-foretold = go (askable asked) refl
     where
       go : (b : Bool) → askable asked ≡ b → Foretold asked y (decodedOf q y)
-      go true a = formed-foretold (formOf (q .address) (readingCode (q .reading)) (q .parameter) (6 + dataBytes asked) y) a refl
+      go true a = reply-foretold came a refl
       go false a = rw a (λ n. absurd (omega arith))

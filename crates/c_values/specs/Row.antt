@@ -12,10 +12,9 @@ use Rattle.wire_values.specs.declared.telemetry.Telemetry.{Telemetry}
 use Rattle.parameters.specs.Table.{figureCount}
 use Rattle.request.specs.declared.subject.Subject.{Subject}
 use Rattle.request.specs.declared.subject.Subject.the-variants.{Figures, Nothing}
-use Rattle.reader.specs.Rows.{replyData, sixOf}
+use Rattle.reader.specs.Rows.{replyData, fourOf, sixOf}
 use Rattle.reader.specs.declared.reply.Decoded.{Decoded}
 use Rattle.reader.specs.declared.reply.Decoded.the-variants as decoded
-use Rattle.reader.specs.declared.reply.Slice.{Slice}
 
 -- how many figures a reply has that is done; a request that asks for nothing has none
 abbrev pub figuresFor : Subject → ℕ
@@ -37,10 +36,6 @@ maskRow m = m .parameters ∷ m .tariffs ∷ m .directions ∷ []
 -- "detail 0 answers the total and A, B, C": each as the bits of its float
 unfoldable pub powersRow : Powers → List ℕ
 powersRow p = bitsOf (p .total) ∷ bitsOf (p .phases .a) ∷ bitsOf (p .phases .b) ∷ bitsOf (p .phases .c) ∷ []
-
--- "E+, E-, R+, R-"
-unfoldable pub sliceRow : Slice → List ℕ
-sliceRow s = s .«e_plus» .0 ∷ s .«e_minus» .0 ∷ s .«r_plus» .0 ∷ s .«r_minus» .0 ∷ []
 
 -- "four 32-bit floats in kilowatt-hours" (document 02, request 3): each as the bits of its float
 unfoldable pub energiesRow : Energies → List ℕ
@@ -69,6 +64,6 @@ figureRow (decoded.DateTime t) y = timeRow t
 figureRow (decoded.DisplayMask m) y = maskRow m
 figureRow (decoded.Powers p) y = powersRow p
 figureRow (decoded.OnePower p) y = bitsOf p ∷ []
-figureRow (decoded.Slice s) y = sliceRow s
+figureRow (decoded.Slice s) y = fourOf s
 figureRow decoded.SixSlices y = sixRow (sixOf (replyData y))
 figureRow (decoded.Displayed e) y = energiesRow e

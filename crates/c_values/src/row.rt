@@ -4,13 +4,14 @@
 use calendar::DateTime;
 use parameters::table;
 use reader::Decoded;
-use reader::Slice;
 use request::Subject;
 use wire_values::Energies;
 use wire_values::Powers;
+use wire_values::Row;
 ghost use mathlib.Core.Path.{_≡_};
 ghost use Rattle.byte_numbers.specs.Place.{written};
-ghost use Rattle.c_values.specs.Row.{figuresFor, timeRow, powersRow, sliceRow, sixRow, countsRow, energiesRow, figureRow};
+ghost use Rattle.reader.specs.Rows.{fourOf};
+ghost use Rattle.c_values.specs.Row.{figuresFor, timeRow, powersRow, sixRow, countsRow, energiesRow, figureRow};
 
 // How many figures a reply has that is done.
 pub fn figures_for(subject: Subject) -> usize
@@ -83,14 +84,19 @@ fn put_powers(row: &mut [u32], p: Powers)
     );
 }
 
-fn put_slice(row: &mut [u32], s: Slice)
-    ensures { λ _. ⌜ now (row .exit) ≡ written (now (row .entry)) 0 (sliceRow s) ⌝ }
+fn put_slice(row: &mut [u32], s: Row)
+    ensures { λ _. ⌜ now (row .exit) ≡ written (now (row .entry)) 0 (fourOf s) ⌝ }
 {
-    let e_plus = s.e_plus;
-    let e_minus = s.e_minus;
-    let r_plus = s.r_plus;
-    let r_minus = s.r_minus;
-    put_run(row, 0, &[e_plus.0, e_minus.0, r_plus.0, r_minus.0]);
+    put_run(
+        row,
+        0,
+        &[
+            s.e_plus as u32,
+            s.e_minus as u32,
+            s.r_plus as u32,
+            s.r_minus as u32,
+        ],
+    );
 }
 
 // Each as the bits of its float.

@@ -34,7 +34,8 @@ use Rattle.report_page.specs.Page.{reportLine}
 use Rattle.day_report.specs.declared.report.ReportAnswer.the-variants as report
 use Rattle.logger.specs.Book.{Call, ask, lapse, reply, Answer, Book, plain, faultAnswer, keptAnswer, First, none, counts, firstOf, alike, isZero, placeOf}
 use Rattle.logger.specs.Book.{countsIn, keepReply, bookReply, bookAsk, bookLapse, bookStep, bookRun, runOf, AllBytes}
-use Rattle.logger.specs.Reply.{sliceForm, resultOf, Row}
+use Rattle.logger.specs.Reply.{sliceForm, resultOf}
+use Rattle.wire_values.specs.declared.row.Row.{Row}
 use Rattle.logger.specs.Run.{State}
 use Rattle.logger.proofs.FigureLaws.{Faithful, run-faithful}
 use Rattle.logger.proofs.TakeLaws.{by-none, by-open, by-form, by-ok}

@@ -5,7 +5,7 @@ use Rattle.crc16.specs.Crc.{crcOf, crcFrom, byteStep, eightBits, times, bitStep
 use Rattle.byte_numbers.specs.Number.{bytesOf, number}
 use Rattle.byte_numbers.specs.Place.{numberAt, written}
 use Rattle.frame.specs.Sealing.{framed, crcFits}
-use Rattle.reader.specs.Form.{formOf, lengthFor, functionFor, headOf}
+use Rattle.reader.specs.Form.{replyOf, formOf, lengthFor, functionFor, headOf}
 use Rattle.request.specs.Request.{requestFrame}
 use Rattle.log_cell.specs.Cell.{noCounts, kindFits, cellBy, kindCell}
 use Rattle.log.specs.Fresh.{gaps, freshImage}
@@ -21,7 +21,7 @@ use Rattle.day_rows.specs.Tallies.{talliesIn}
 use Rattle.day_rows.specs.Rows.{figuresOf, rowAt, putRow}
 use Rattle.day_rows.specs.Put.{cellRow, netFits, rowFits, netRow, movedBy, changeOf}
 use Rattle.logger.specs.Ask as Ask
-use Rattle.logger.specs.Reply.{rowOf}
+use Rattle.wire_values.specs.Row as row
 use Rattle.logger.specs.Take as Take
 use Rattle.logger.specs.Book.{runOf}
 use Rattle.logger.specs.Run.{step}
@@ -41,7 +41,8 @@ use Rattle.claims.specs.Examples.{all, examples}
 
 pub together : all examples ≡ true
 unfolding all examples framed bytesOf requestFrame crcOf crcFrom byteStep eightBits times bitStep lastSunday dateOf dateAt countOff dayNumber starts
-    lengthOf daysInMonth monthLengths leap runOf step Ask.asked Take.taken Take.decided Take.updated Take.putWith Take.updateOf Take.sameCounts rowOf formOf lengthFor functionFor headOf
+    lengthOf daysInMonth monthLengths leap runOf step Ask.asked Take.taken Take.decided Take.updated Take.putWith Take.updateOf
+    row.rowAt row.isZero row.alike replyOf formOf lengthFor functionFor headOf
     crcFits numberAt number written isDate isMinutes slotsOf cellsOf log.lengthOf daysRight isHeader dateBytes headerBytesAs headerAt markRight
     versionRight fieldsRight headerOf fittedTo soundOf noCounts kindFits cellBy kindCell pairOf packed putPair cellsAt readAmong cellAt putKind putCounts putCellAmong putCell
     applied kindsBytes columnBytes lapsesBytes cellsBytes imageOf

@@ -26,14 +26,14 @@ use Rattle.request.specs.declared.subject.Subject.{Subject}
 use Rattle.request.specs.declared.subject.Subject.the-variants as subject
 use Rattle.reader.specs.Form.{formOf}
 use Rattle.reader.specs.Rows.{replyData}
-use Rattle.reader.specs.Reply.{powersFigure, powerFigure, energiesFigure, phaseFigures, readFigures, readAs, figuresOf, repliedOf, decodedOf}
+use Rattle.reader.specs.Reply.{powersFigure, powerFigure, energiesFigure, phaseFigures, readFigures, readAs, figuresOf, decodedOf}
 use Rattle.reader.specs.declared.form.Fault.{Fault}
 use Rattle.reader.specs.declared.form.Fault.the-variants as fault
 use Rattle.reader.specs.declared.form.Form.{Form}
 use Rattle.reader.specs.declared.form.Form.the-variants.{WellFormed, Faulty}
 use Rattle.reader.specs.declared.reply.Decoded.{Decoded}
 use Rattle.reader.specs.declared.reply.Decoded.the-variants as decoded
-use Rattle.reader.proofs.FormLaws.{length-told}
+use Rattle.reader.proofs.FormLaws.{length-told, by-reply}
 use Rattle.log_header.specs.Interval.{comesTwice}
 use Rattle.log.specs.View.{viewOf}
 use Rattle.day_rows.specs.LogAndRows.{LogAndRows}
@@ -133,23 +133,21 @@ unfolding toldDecoded
 subject-silent other (subject.Figures x p detail) bs = as-silent other x p detail bs
 subject-silent other subject.Nothing bs = refl
 
-replied-silent : (other : ℕ) (s : Subject) (y : List ℕ) → Silent other (repliedOf s y)
-unfolding repliedOf toldDecoded
-replied-silent other s y = either (Silent other) (eqb (byteAt y 3) 0) (subject-silent other s (replyData y)) refl
-
 module _ (q : Request) (y : List ℕ) where
   decoded-told : toldDecoded (length y) (decodedOf q y) ≡ length y
   unfolding decodedOf toldDecoded
-  decoded-told = go (askable s) refl (formOf (q .address) (readingCode (q .reading)) (q .parameter) (6 + dataBytes s) y) refl
+  decoded-told = go (askable s) refl
     where
       s : Subject
       s = subjectOf q mostSlots
 
-      go : (b : Bool) → askable s ≡ b → (f : Form) → formOf (q .address) (readingCode (q .reading)) (q .parameter) (6 + dataBytes s) y ≡ f
-          → toldDecoded (length y) (decodedOf q y) ≡ length y
-      go false a f e = rw a refl
-      go true a WellFormed e = rw (a, e) (replied-silent (length y) s y)
-      go true a (Faulty f) e = rw (a, e) (form-told (q .address) (readingCode (q .reading)) (q .parameter) (6 + dataBytes s) y f e)
+      go : (b : Bool) → askable s ≡ b → toldDecoded (length y) (decodedOf q y) ≡ length y
+      go false a = rw a refl
+      go true a =
+          let function = readingCode (q .reading) in
+          let full = 6 + dataBytes s in
+          rw a (by-reply (Silent (length y)) (q .address) function (q .parameter) full y decoded.MeterRefused
+          (form-told (q .address) function (q .parameter) full y) (λ e n. refl) (λ e z. subject-silent (length y) s (replyData y)))
 
   pub decode-length : (n : ℕ) → decodedOf q y ≡ decoded.Malformed (fault.Length n) → n ≡ length y
   unfolding toldDecoded told

@@ -31,7 +31,8 @@ use Rattle.meter_record.proofs.RangeLaws.{Within}
 use Rattle.meter_record.specs.Widths.{FitsRecord}
 use Rattle.meter_record.specs.declared.record.Record.{Record}
 use Rattle.meter_reply_data.specs.Reading.{phase, powerData, summerShown, winterShown, figuresOf, figuresAs}
-use Rattle.reader.specs.Reply.{countsOf, powersFigure, powerFigure, phaseFigures, readFigures, readAs, figuresOf as figuresIn}
+use Rattle.wire_values.specs.Row.{rowAt}
+use Rattle.reader.specs.Reply.{powersFigure, powerFigure, phaseFigures, readFigures, readAs, figuresOf as figuresIn}
 use Rattle.reader.specs.declared.reply.Decoded.{Decoded}
 use Rattle.reader.specs.declared.reply.Decoded.the-variants as decoded
 use Rattle.claims.specs.Figures.{ownPower, fourCounts, ownFigures, ownAs}
@@ -44,8 +45,8 @@ same-size p q slots h = ap dataBytes (asked p q slots h .subject)
 
 -- ---- the figures again
 
-pub row-again : (row rest : List ℕ) → RowFits row → countsOf (rowBytes row ++ rest) ≡ fourCounts row
-unfolding countsOf fourCounts rowBytes
+pub row-again : (row rest : List ℕ) → RowFits row → rowAt (rowBytes row ++ rest) 0 ≡ fourCounts row
+unfolding rowAt fourCounts rowBytes
 row-again row rest h =
     let A = bytesOf 2 (countAt row 0) in
     let B = bytesOf 2 (countAt row 1) in

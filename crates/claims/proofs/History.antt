@@ -33,6 +33,7 @@ use Rattle.log_cell.specs.declared.cell.CellAnswer.{CellAnswer}
 use Rattle.log_header.specs.declared.header.Header.{Header}
 use Rattle.log_header.specs.declared.header.LogHeader.the-variants.{Sound}
 use Rattle.day_rows.specs.LogAndRows.{LogAndRows, logAndRows}
+use Rattle.wire_values.specs.Row.{row}
 use Rattle.day_rows.specs.Fresh.{freshWith}
 use Rattle.day_rows.specs.Rows.{figuresOf, Right, allFigures, allGaps}
 use Rattle.day_rows.proofs.FreshLaws.{fresh-made, fresh-both}
@@ -91,7 +92,7 @@ afresh-first Empty e = refl
 afresh-first (Measured a b c d) e = go (noCounts a b c d) e
   where
     go : (z : Bool) → not z ≡ true
-        → byFirst (cond z (firstOf []) (counts (record { e+ = a; e- = b; r+ = c; r- = d }))) (record { e+ = a; e- = b; r+ = c; r- = d } ∷ [])
+        → byFirst (cond z (firstOf []) (counts (row a b c d))) (row a b c d ∷ [])
         ≡ Measured a b c d
     go true e = absurd (false≢true e)
     go false e = refl

@@ -25,7 +25,7 @@ use Rattle.reader.specs.declared.form.Fault.the-variants as fault
 use Rattle.reader.specs.declared.form.Form.{Form}
 use Rattle.reader.specs.declared.form.Form.the-variants.{WellFormed, Faulty}
 use Rattle.byte_numbers.proofs.ByteLaws.{run as bytesFrom, take-run, low-of, high-of}
-use Rattle.log_cell.specs.Cell.{noCounts, CountsFit, IsCell}
+use Rattle.log_cell.specs.Cell.{CountsFit, IsCell}
 use Rattle.log_header.proofs.HeaderLaws.{by-sound, sound-log, header-ranges}
 use Rattle.log_header.specs.Header.{isHeader, cellsOf, soundOf}
 use Rattle.log_header.specs.Interval.{intervalOf}
@@ -42,7 +42,9 @@ use Rattle.log.specs.declared.image.Change.the-variants as change
 use Rattle.log_header.specs.declared.interval.Interval.the-variants.{At}
 use Rattle.day_rows.specs.LogAndRows.{LogAndRows, logAndRows}
 use Rattle.logger.specs.Ask as Ask
-use Rattle.logger.specs.Reply.{sliceForm, resultOf, Row, row, rowOf}
+use Rattle.logger.specs.Reply.{sliceForm, resultOf, rowOf}
+use Rattle.wire_values.specs.Row.{row, rowAt, isZero, alike}
+use Rattle.wire_values.specs.declared.row.Row.{Row}
 use Rattle.logger.specs.Take as Take
 use Rattle.logger.specs.Lapse as Lapse
 use Rattle.logger.specs.Book.{Call, ask, lapse, reply, Book, startBook, bookStep, bookRun, runOf, workedOut, lapsesOut, CallBytes, AllBytes}
@@ -204,16 +206,16 @@ formed address y p z =
 
 heard-is : (address : ℕ) (y : List ℕ) (e+ e- r+ r- : ℕ) → Bytes y → sliceForm address y ≡ WellFormed → resultOf y ≡ 0 → rowOf y ≡ row e+ e- r+ r-
     → y ≡ sliceAnswer address (e+ ∷ e- ∷ r+ ∷ r- ∷ [])
-unfolding sliceAnswer rowOf bytesFrom bytesOf
+unfolding sliceAnswer rowAt bytesFrom bytesOf
 heard-is address y e+ e- r+ r- b p z q =
     let f = formed address y p z in
     let n : length y ≡ 14 = f .size in
     let part : take 12 y ≡ bytesFrom y 0 12 = take-run 12 0 y (omega (arith, n)) in
     let at : (i n : ℕ) → numberAt y i 2 ≡ n → (byteAt y i ≡ n % 256) × (byteAt y (i + 1) ≡ n / 256 % 256) = λ i n e. (low-of y i n b e, high-of y i n b e) in
-    let w = at 4 e+ (ap (λ (x : Row). x .e+) q) in
-    let x = at 6 e- (ap (λ (x : Row). x .e-) q) in
-    let u = at 8 r+ (ap (λ (x : Row). x .r+) q) in
-    let v = at 10 r- (ap (λ (x : Row). x .r-) q) in
+    let w = at 4 e+ (ap (λ (x : Row). x .«e_plus») q) in
+    let x = at 6 e- (ap (λ (x : Row). x .«e_minus») q) in
+    let u = at 8 r+ (ap (λ (x : Row). x .«r_plus») q) in
+    let v = at 10 r- (ap (λ (x : Row). x .«r_minus») q) in
     framed-of-fits y b (f .crc)
     ∙ ap framed (ap (λ (k : ℕ). take (k - 2) y) n ∙ part ∙ rw (f .address-is, f .function-is, f .parameter-is, z, w .0, w .1, x .0, x .1, u .0, u .1, v .0, v .1) refl)
 
@@ -235,13 +237,13 @@ puts-row : (c : Cell) (r : Row) (e+ e- r+ r- : ℕ) → Take.updateOf c r ≡ Pu
 unfolding Take.updateOf
 puts-row c r e+ e- r+ r- p = go c p
   where
-    fills : (b : Bool) → cond b (Put Empty) (Put (Measured (r .e+) (r .e-) (r .r+) (r .r-))) ≡ Put (Measured e+ e- r+ r-) → r ≡ row e+ e- r+ r-
+    fills : (b : Bool) → cond b (Put Empty) (Put (Measured (r .«e_plus») (r .«e_minus») (r .«r_plus») (r .«r_minus»))) ≡ Put (Measured e+ e- r+ r-) → r ≡ row e+ e- r+ r-
     fills true q = let z : _≡_ {A = ℕ} 0 1 = cc in absurd (omega arith)
     fills false q =
-        let a : r .e+ ≡ e+ = cc in
-        let b : r .e- ≡ e- = cc in
-        let c : r .r+ ≡ r+ = cc in
-        let d : r .r- ≡ r- = cc in
+        let a : r .«e_plus» ≡ e+ = cc in
+        let b : r .«e_minus» ≡ e- = cc in
+        let c : r .«r_plus» ≡ r+ = cc in
+        let d : r .«r_minus» ≡ r- = cc in
         rw (← a, ← b, ← c, ← d) refl
 
     stays : (a b : Bool) → cond a Keep (cond b Keep Conflict) ≡ Put (Measured e+ e- r+ r-) → r ≡ row e+ e- r+ r-
@@ -250,9 +252,9 @@ puts-row c r e+ e- r+ r- p = go c p
     stays false false q = let z : _≡_ {A = ℕ} 0 1 = cc in absurd (omega arith)
 
     go : (c : Cell) → Take.updateOf c r ≡ Put (Measured e+ e- r+ r-) → r ≡ row e+ e- r+ r-
-    go Gap q = fills (noCounts (r .e+) (r .e-) (r .r+) (r .r-)) q
-    go Empty q = fills (noCounts (r .e+) (r .e-) (r .r+) (r .r-)) q
-    go (Measured a b c d) q = stays (noCounts (r .e+) (r .e-) (r .r+) (r .r-)) (Take.sameCounts a b c d (r .e+) (r .e-) (r .r+) (r .r-)) q
+    go Gap q = fills (isZero r) q
+    go Empty q = fills (isZero r) q
+    go (Measured a b c d) q = stays (isZero r) (alike (row a b c d) r) q
 
 module _ (h : Header) (s : State) (y : List ℕ) (i e+ e- r+ r- : ℕ) (sound : soundOf (s .log) ≡ Sound h) (bytes : Bytes y) where
   abbrev v : View
@@ -564,7 +566,7 @@ by-meters b start calls k meters i e+ e- r+ r- gap p =
     let rows : counts xs ≡ counts slice =
     sym (answer-row (m .address) xs fits) ∙ ap rowOf same
     ∙ answer-row (m .address) slice (slice-fits (w .store) (keyOf (m .date .month) (m .date .day) (m .slot)) (w .store-bytes)) in
-    (m, ap (λ (k : Row). Measured (k .e+) (k .e-) (k .r+) (k .r-)) rows)
+    (m, ap (λ (k : Row). Measured (k .«e_plus») (k .«e_minus») (k .«r_plus») (k .«r_minus»)) rows)
 
 -- ---- what came is kept
 
@@ -572,7 +574,7 @@ by-meters b start calls k meters i e+ e- r+ r- gap p =
 module _ (s : State) (i e+ e- r+ r- : ℕ) (g : viewOf (s .log) .cell i ≡ Good (Measured e+ e- r+ r-)) where
   never-put : (r : Row) (c : Cell) → Take.updateOf (Measured e+ e- r+ r-) r ≡ Put c → ⊥
   unfolding Take.updateOf
-  never-put r c q = go (noCounts (r .e+) (r .e-) (r .r+) (r .r-)) (Take.sameCounts e+ e- r+ r- (r .e+) (r .e-) (r .r+) (r .r-)) q
+  never-put r c q = go (isZero r) (alike (row e+ e- r+ r-) r) q
     where
       go : (a b : Bool) → cond a Keep (cond b Keep Conflict) ≡ Put c → ⊥
       go true b p = let z : _≡_ {A = ℕ} 0 1 = cc in omega arith

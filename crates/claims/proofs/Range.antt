@@ -39,13 +39,13 @@ use Rattle.request.specs.Request.{requestFrame, requested}
 use Rattle.request.specs.Subject.{subjectOf, subjectFor, mostSlots, askable, dataBytes}
 use Rattle.request.specs.declared.request.Request.{Request}
 use Rattle.request.specs.declared.subject.Subject.{Subject}
-use Rattle.reader.specs.Form.{formOf}
+use Rattle.reader.specs.Form.{replyOf}
 use Rattle.reader.proofs.FormLaws.{fault-above}
 use Rattle.reader.specs.Reply as decoding
-use Rattle.reader.specs.Reply.{decodedOf, repliedOf, readFigures, readAs, phaseFigures, powersFigure, powerFigure, energiesFigure, figuresOf}
+use Rattle.reader.specs.Reply.{decodedOf, readFigures, readAs, phaseFigures, powersFigure, powerFigure, energiesFigure, figuresOf}
 use Rattle.reader.specs.Rows.{replyData}
-use Rattle.reader.specs.declared.form.Form.{Form}
-use Rattle.reader.specs.declared.form.Form.the-variants.{WellFormed, Faulty}
+use Rattle.reader.specs.declared.form.Reply.{Reply}
+use Rattle.reader.specs.declared.form.Reply.the-variants.{Malformed, Refused, Answered}
 use Rattle.reader.specs.declared.reply.Decoded.{Decoded}
 use Rattle.meter_clock.specs.Protection.{isProtection}
 use Rattle.meter_clock.specs.Season.{isFitting}
@@ -119,8 +119,8 @@ as-no-27 Stored p detail bs e = figures-no-27 p detail bs e
 as-no-27 Displayed p detail bs e = energies-no-27 (energiesOf bs)
 
 pub decoded-no-27 : (q : Request) (y : List ℕ) → askable (subjectOf q mostSlots) ≡ true → decoding.numberOf (decodedOf q y) ≡ 27 → ⊥
-unfolding No27 decodedOf repliedOf subjectOf
-decoded-no-27 q y a h = go (formOf (q .address) (readingCode (q .reading)) (q .parameter) (6 + dataBytes (subjectFor p q mostSlots)) y) refl (eqb (byteAt y 3) 0) refl
+unfolding No27 decodedOf subjectOf
+decoded-no-27 q y a h = go (replyOf (q .address) (readingCode (q .reading)) (q .parameter) (6 + dataBytes (subjectFor p q mostSlots)) y) refl
   where
     p : Parameter
     p = parameterOf (q .parameter)
@@ -128,11 +128,11 @@ decoded-no-27 q y a h = go (formOf (q .address) (readingCode (q .reading)) (q .p
     k : request.Asked p q mostSlots
     k = request.asked p q mostSlots a
 
-    go : (f : Form) → formOf (q .address) (readingCode (q .reading)) (q .parameter) (6 + dataBytes (subjectFor p q mostSlots)) y ≡ f → (b : Bool) → eqb (byteAt y 3) 0 ≡ b → ⊥
-    go (Faulty fault) e b c = omega (arith, simp (a, e) at h, fault-above fault)
-    go WellFormed e false c = omega (arith, simp (a, e, c) at h)
-    go WellFormed e true c =
-        let n : decoding.numberOf (figuresOf (subjectFor p q mostSlots) (replyData y)) ≡ 27 = simp (a, e, c) at h in
+    go : (r : Reply) → replyOf (q .address) (readingCode (q .reading)) (q .parameter) (6 + dataBytes (subjectFor p q mostSlots)) y ≡ r → ⊥
+    go (Malformed fault) e = omega (arith, simp (a, e) at h, fault-above fault)
+    go (Refused result) e = omega (arith, simp (a, e) at h)
+    go Answered e =
+        let n : decoding.numberOf (figuresOf (subjectFor p q mostSlots) (replyData y)) ≡ 27 = simp (a, e) at h in
         as-no-27 (q .reading) p (q .detail) (replyData y) (k .open-to)
         (ap (λ (s : Subject). decoding.numberOf (figuresOf s (replyData y))) (sym (k .subject)) ∙ n)
 

@@ -38,11 +38,8 @@ use Rattle.meter_record.specs.declared.record.Record.{Record}
 use Rattle.meter_command.specs.Parts.{parameterByte, requestIn}
 use Rattle.meter_reply_data.specs.Reading.{dataOf}
 use Rattle.meter.specs.Reply.{Outcome, answerOf}
-use Rattle.reader.specs.Reply.{countsOf}
 use Rattle.reader.specs.declared.form.Form.the-variants.{WellFormed}
-use Rattle.reader.specs.declared.reply.Slice.{Slice as FourCounts}
 use Rattle.byte_numbers.proofs.ByteLaws.{bytes-append}
-use Rattle.log_cell.specs.Cell.{noCounts}
 use Rattle.log_header.specs.Header.{isHeader, soundOf}
 use Rattle.log_header.proofs.HeaderLaws.{header-ranges, sound-log}
 use Rattle.log_header.specs.Interval as log
@@ -58,7 +55,9 @@ use Rattle.log_header.specs.declared.interval.Interval.the-variants.{At}
 use Rattle.day_rows.specs.LogAndRows.{LogAndRows}
 use Rattle.log_file.proofs.FileLaws.{written-front}
 use Rattle.logger.specs.Ask as Ask
-use Rattle.logger.specs.Reply.{sliceForm, resultOf, Row, row, rowOf}
+use Rattle.logger.specs.Reply.{sliceForm, resultOf, rowOf}
+use Rattle.wire_values.specs.Row.{row, rowAt, isZero, alike}
+use Rattle.wire_values.specs.declared.row.Row.{Row}
 use Rattle.logger.specs.Take as Take
 use Rattle.logger.specs.declared.ask.Asked.{Asked}
 use Rattle.logger.specs.declared.ask.AskAnswer.the-variants as ask
@@ -261,9 +260,8 @@ abbrev pub counts : List ℕ → Row
 counts xs = row (countAt xs 0) (countAt xs 1) (countAt xs 2) (countAt xs 3)
 
 pub answer-row : (address : ℕ) (xs : List ℕ) → RowFits xs → rowOf (sliceAnswer address xs) ≡ counts xs
-unfolding sliceAnswer framed rowBytes rowOf numberAt countsOf fourCounts
-answer-row address xs f =
-    ap (λ (k : FourCounts). row (k .«e_plus» .0) (k .«e_minus» .0) (k .«r_plus» .0) (k .«r_minus» .0)) (row-again xs (bytesOf 2 (crcOf (body address xs))) f)
+unfolding sliceAnswer framed rowBytes rowAt numberAt fourCounts
+answer-row address xs f = row-again xs (bytesOf 2 (crcOf (body address xs))) f
 
 -- what such a reply is, of a meter that answers the frame with 0
 module _ (r : Record) (store : List ℕ) (address : ℕ) (d : Date) (slot : ℕ) (out : List ℕ) where
@@ -322,13 +320,13 @@ module _ (xs : List ℕ) where
   kept-number false false = refl
 
   cell-after : (c : Cell) → effect (Take.updateOf c (counts xs)) c ≡ cellAfter c xs
-  unfolding Take.updateOf Take.sameCounts noCounts cellAfter allZero areCounts
+  unfolding Take.updateOf isZero alike cellAfter allZero areCounts
   cell-after Gap = filled-cell (allZero xs) Gap
   cell-after Empty = filled-cell (allZero xs) Empty
   cell-after (Measured e+ e- r+ r-) = kept-cell (allZero xs) (areCounts e+ e- r+ r- xs) (Measured e+ e- r+ r-)
 
   number-after : (c : Cell) → updateNumber (Take.updateOf c (counts xs)) ≡ numberAfter c xs
-  unfolding Take.updateOf Take.sameCounts noCounts numberAfter allZero areCounts
+  unfolding Take.updateOf isZero alike numberAfter allZero areCounts
   number-after Gap = filled-number (allZero xs)
   number-after Empty = filled-number (allZero xs)
   number-after (Measured e+ e- r+ r-) = kept-number (allZero xs) (areCounts e+ e- r+ r- xs)

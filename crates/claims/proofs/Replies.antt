@@ -47,9 +47,10 @@ use Rattle.meter.specs.Reply as meter
 use Rattle.meter.specs.Reply.{isSound, met, heard, verdictOn, functionFor, headOf, done, replied, answerOf}
 use Rattle.meter.proofs.ReplyLaws.{length-as, length-head}
 use Rattle.reader.specs.Form as form
-use Rattle.reader.specs.Form.{lengthFor, formOf}
+use Rattle.reader.specs.Form.{lengthFor, formOf, replyOf}
+use Rattle.reader.proofs.FormLaws.{formed-answers}
 use Rattle.reader.specs.Rows.{replyData, sixOf as sixIn}
-use Rattle.reader.specs.Reply.{decodedOf, repliedOf}
+use Rattle.reader.specs.Reply.{decodedOf}
 use Rattle.reader.specs.declared.reply.Decoded.the-variants as decoded
 use Rattle.claims.specs.Demand1.{answerNumber}
 use Rattle.claims.specs.Figures.{ownAs}
@@ -155,7 +156,7 @@ decoded-is : (r : Record) (s : List ℕ) (q : Request) → Within r → FitsReco
     → askable (subjectOf q (slotsOf (r .minutes))) ≡ true
     → decodedOf q (framed (replyBody q (figuresAs (q .reading) (parameterOf (q .parameter)) r s q)))
     ≡ ownAs (q .reading) (parameterOf (q .parameter)) r s q
-unfolding decodedOf repliedOf framed subjectOf
+unfolding decodedOf framed subjectOf
 decoded-is r s q w f b k h =
     let p = parameterOf (q .parameter) in
     let slots = slotsOf (r .minutes) in
@@ -166,7 +167,8 @@ decoded-is r s q w f b k h =
     bytes-cons (q .address) (k .address) (bytes-cons (readingCode (q .reading)) (code-byte (q .reading))
     (bytes-cons (q .parameter) (k .parameter) (bytes-cons 0 (lit≤ tt) (as-bytes (q .reading) p r s q w f)))) in
     let formed = reply-formed q figures (dataBytes (subjectFor p q slots)) bytes size in
-    rw (subject-wider q slots (slots-at-most (r .minutes)) h, h, formed)
+    let answers = formed-answers (q .address) (readingCode (q .reading)) (q .parameter) (6 + dataBytes (subjectFor p q slots)) y formed refl in
+    rw (subject-wider q slots (slots-at-most (r .minutes)) h, h, answers)
     (found-again p r s q slots (bytesOf 2 (crcOf (replyBody q figures))) w f (slice-fits s (keyOf q) b) h)
 
 pub read : (r : Record) (s : List ℕ) (q : Request) (out : List ℕ) → FitsRecord r → Bytes s → FitsRequest q
@@ -230,7 +232,7 @@ refusalBody q k = q .address ∷ (128 + readingCode (q .reading)) ∷ q .paramet
 
 refusal-decoded : (q : Request) (k : ℕ) → k < 256 → eqb k 0 ≡ false → FitsRequest q → askable (subjectOf q mostSlots) ≡ true
     → decodedOf q (framed (refusalBody q k)) ≡ decoded.MeterRefused k
-unfolding decodedOf repliedOf formOf lengthFor form.functionFor form.headOf framed bytesOf
+unfolding decodedOf replyOf formOf lengthFor form.functionFor form.headOf framed bytesOf
 refusal-decoded q k small n f h =
     let code = 128 + readingCode (q .reading) in
     let bytes : OfBytes (refusalBody q k) =

@@ -10,22 +10,25 @@ use Rattle.slots.specs.declared.key.Key.{Key}
 use Rattle.meter_store.specs.Store.{sliceOf, later, sixOf, rowBytes}
 use Rattle.meter_reply_data.specs.Reading.{sixBytes}
 use Rattle.meter.proofs.ReplyLaws.{length-row}
-use Rattle.reader.specs.Reply.{countsOf}
-use Rattle.reader.specs.declared.reply.Slice.{Slice as FourCounts}
-use Rattle.reader.specs.Rows.{countsRow, sixOf as sixIn}
+use Rattle.wire_values.specs.Row.{rowAt}
+use Rattle.reader.specs.Rows.{fourOf, sixOf as sixIn}
 use Rattle.claims.specs.Figures.{fourCounts}
 use Rattle.claims.proofs.Figures.{row-again}
 use Rattle.claims.proofs.Wire.{four-counts, slice-fits}
 
+-- the row at a place, as an array
+abbrev countsRow : List ℕ → ℕ → List ℕ
+countsRow bs i = fourOf (rowAt bs i)
+
 -- the row at the front, and those behind it
 front : (s : List ℕ) (k : Key) (rest : List ℕ) → Bytes s → countsRow (rowBytes (sliceOf s k) ++ rest) 0 ≡ sliceOf s k
-unfolding countsRow countsOf fourCounts
+unfolding fourCounts
 front s k rest b =
     let e = row-again (sliceOf s k) rest (slice-fits s k b) in
-    ap (λ (c : FourCounts). c .«e_plus» .0 ∷ c .«e_minus» .0 ∷ c .«r_plus» .0 ∷ c .«r_minus» .0 ∷ []) e ∙ four-counts s k
+    ap fourOf e ∙ four-counts s k
 
 behind : (row rest : List ℕ) (i : ℕ) → countsRow (rowBytes row ++ rest) (8 + i) ≡ countsRow rest i
-unfolding countsRow
+unfolding rowAt
 behind row rest i =
     let at : (j : ℕ) → numberAt (rowBytes row ++ rest) (8 + j) 2 ≡ numberAt rest j 2 =
     λ j. ap (λ (n : ℕ). numberAt (rowBytes row ++ rest) (n + j) 2) (sym (length-row row)) ∙ numberAt-behind (rowBytes row) rest j 2 in

@@ -7,6 +7,7 @@ use Rattle.wire_values.specs.Power.{totalOf}
 use Rattle.wire_values.specs.declared.displayed.Energies.{Energies}
 use Rattle.wire_values.specs.declared.displayed.KilowattHours.{KilowattHours}
 use Rattle.wire_values.specs.declared.power.Phases.{Phases}
+use Rattle.wire_values.specs.declared.row.Row.{Row}
 use Rattle.parameters.specs.declared.code.Parameter.{Parameter}
 use Rattle.parameters.specs.declared.code.Parameter.the-variants as parameter
 use Rattle.parameters.specs.declared.code.Reading.{Reading}
@@ -20,20 +21,14 @@ use Rattle.meter_record.specs.declared.record.Record.{Record}
 use Rattle.meter_reply_data.specs.Reading.{phase, summerShown, winterShown}
 use Rattle.reader.specs.declared.reply.Decoded.{Decoded}
 use Rattle.reader.specs.declared.reply.Decoded.the-variants as decoded
-use Rattle.reader.specs.declared.reply.Slice.{Slice as FourCounts}
 
 -- "detail 0 answers the total and A, B, C, details 1 to 3 one phase"
 unfoldable pub ownPower : Phases → ℕ → Decoded
 ownPower p detail = cond (eqb detail 0) (decoded.Powers (record { total = totalOf p; phases = p })) (decoded.OnePower (phase p detail))
 
 -- a row of the store as four counts
-unfoldable pub fourCounts : List ℕ → FourCounts
-fourCounts row = record {
-  «e_plus» = record { 0 = countAt row 0 };
-  «e_minus» = record { 0 = countAt row 1 };
-  «r_plus» = record { 0 = countAt row 2 };
-  «r_minus» = record { 0 = countAt row 3 };
-}
+unfoldable pub fourCounts : List ℕ → Row
+fourCounts row = record { «e_plus» = countAt row 0; «e_minus» = countAt row 1; «r_plus» = countAt row 2; «r_minus» = countAt row 3 }
 
 -- document 02, request 3: "the exact figure is N x Ke x KI x KU / 1,000,000. The float must be the one nearest to that fraction, ties to even, zero as
 -- plus zero": its bits (that they are so, `nearest` and `zero` of `Function4` say)

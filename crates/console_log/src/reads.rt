@@ -120,10 +120,10 @@ pub fn say_figures(decoded: Decoded, reply: &[u8]) {
         }
         Decoded::OnePower(x) => say::float(x),
         Decoded::Slice(c) => {
-            say::number(c.e_plus.0 as u64);
-            say::number(c.e_minus.0 as u64);
-            say::number(c.r_plus.0 as u64);
-            say::number(c.r_minus.0 as u64);
+            say::number(c.e_plus as u64);
+            say::number(c.e_minus as u64);
+            say::number(c.r_plus as u64);
+            say::number(c.r_minus as u64);
         }
         Decoded::SixSlices => say_rows(reader::six_slices(reply)),
         Decoded::Displayed(e) => say_energies(e),

@@ -14,9 +14,12 @@ use Rattle.log_cell.specs.Cell.{noCounts, isCell, IsCell}
 use Rattle.log_cell.proofs.CellLaws.{gap-is-cell, empty-is-cell}
 use Rattle.log_cell.specs.declared.cell.Cell.{Cell}
 use Rattle.log_cell.specs.declared.cell.Cell.the-variants.{Gap, Empty, Measured}
-use Rattle.logger.specs.Take.{updateOf, sameCounts}
+use Rattle.wire_values.specs.Row as row
+use Rattle.wire_values.specs.Row.{rowAt}
+use Rattle.logger.specs.Take.{updateOf}
 use Rattle.logger.proofs.TakeLaws.{RowFits}
-use Rattle.logger.specs.Reply.{Row, rowOf}
+use Rattle.logger.specs.Reply.{rowOf}
+use Rattle.wire_values.specs.declared.row.Row.{Row}
 use Rattle.logger.specs.Book.{countsIn, isZero, alike, First, none, counts, firstOf, byFirst, afresh, keptAnswer, keptWith, workedOut}
 use Rattle.logger.specs.declared.take.Update.{Update}
 use Rattle.logger.specs.declared.take.Update.the-variants.{Put, Keep, Conflict}
@@ -25,7 +28,7 @@ use Rattle.logger.specs.declared.take.Update.the-variants.{Put, Keep, Co
 
 -- those that the book finds in its bytes are those that the log takes
 pub counts-in : (y : List ℕ) → countsIn y ≡ rowOf y
-unfolding countsIn rowOf
+unfolding countsIn rowAt
 counts-in y =
     let count : (i : ℕ) → byteAt y i + 256 * byteAt y (i + 1) ≡ numberAt y i 2 = λ i. omega (arith, two y i) in
     cc (count 4, count 6, count 8, count 10)
@@ -61,12 +64,12 @@ firstOf-more (q ∷ rows) r = go (isZero q) (firstOf-more rows r)
 
 -- by the first nonzero reply: where there is none the row fills the cell, else the cell stays
 fills : (b : Bool) (r x : Row) (xs : List Row) (c : Cell)
-    → effect (cond b (Put Empty) (Put (Measured (r .e+) (r .e-) (r .r+) (r .r-)))) c ≡ byFirst (cond b none (counts r)) (x ∷ xs)
+    → effect (cond b (Put Empty) (Put (Measured (r .«e_plus») (r .«e_minus») (r .«r_plus») (r .«r_minus»)))) c ≡ byFirst (cond b none (counts r)) (x ∷ xs)
 unfolding effect byFirst
 fills true r x xs c = refl
 fills false r x xs c = refl
 
-fills-number : (b : Bool) (r : Row) → updateNumber (cond b (Put Empty) (Put (Measured (r .e+) (r .e-) (r .r+) (r .r-)))) ≡ 0
+fills-number : (b : Bool) (r : Row) → updateNumber (cond b (Put Empty) (Put (Measured (r .«e_plus») (r .«e_minus») (r .«r_plus») (r .«r_minus»)))) ≡ 0
 unfolding updateNumber
 fills-number true r = refl
 fills-number false r = refl
@@ -85,14 +88,14 @@ stays-number false false = refl
 
 cell-by : (f : First) (rows : List Row) (r : Row)
     → effect (updateOf (byFirst f rows) r) (byFirst f rows) ≡ byFirst (orElse f r) (rows ++ (r ∷ []))
-unfolding byFirst orElse updateOf isZero noCounts
+unfolding byFirst orElse updateOf isZero row.isZero
 cell-by none [] r = fills (isZero r) r r [] Gap
 cell-by none (q ∷ rows) r = fills (isZero r) r q (rows ++ (r ∷ [])) Empty
 cell-by (counts q) rows r =
-    stays (isZero r) (sameCounts (q .e+) (q .e-) (q .r+) (q .r-) (r .e+) (r .e-) (r .r+) (r .r-)) (Measured (q .e+) (q .e-) (q .r+) (q .r-))
+    stays (isZero r) (row.alike q r) (Measured (q .«e_plus») (q .«e_minus») (q .«r_plus») (q .«r_minus»))
 
 number-by : (f : First) (rows : List Row) (r : Row) → updateNumber (updateOf (byFirst f rows) r) ≡ keptAnswer f r
-unfolding byFirst updateOf isZero noCounts alike sameCounts
+unfolding byFirst updateOf isZero row.isZero alike row.alike
 number-by none [] r = fills-number (isZero r) r
 number-by none (q ∷ rows) r = fills-number (isZero r) r
 number-by (counts q) rows r = stays-number (isZero r) (alike q r)

@@ -5,6 +5,9 @@ use mathlib.Core.List.{List}
 use Prim.Native.Nat.{ℕ}
 use borrow.Author.Tests.{eq-eqb}
 use Rattle.byte_numbers.specs.Number.{Bytes}
+use Rattle.parameters.specs.Code.{read, slice}
+use Rattle.frame.specs.Layout.{sliceReply}
+use Rattle.reader.proofs.FormLaws.{formed-answers}
 use Rattle.reader.specs.declared.form.Form.the-variants.{WellFormed}
 use Rattle.log_header.specs.Header.{soundOf}
 use Rattle.log.specs.View.{View, viewOf}
@@ -72,7 +75,7 @@ decided-heard : (v : View) (figs : List ℕ) (h : Header) (address day slot i : 
     → intervalOf h day slot ≡ At i → sliceForm address y ≡ WellFormed → resultOf y ≡ 0 → v .cell i ≡ Good c
     → decided v figs (Open address day slot) y ≡ updated (updateOf c (rowOf y)) (comesTwice h day slot) (Open address day slot) day i c figs
 unfolding decided
-decided-heard v figs h address day slot i y c p e n f z g = rw (p, e, n, f, z, g) refl
+decided-heard v figs h address day slot i y c p e n f z g = rw (p, e, n, formed-answers address read slice sliceReply y f z, g) refl
 
 updated-is : (u : Update) (twice : Bool) (held : OpenAsk) (day i : ℕ) (old : Cell) (figs : List ℕ)
     → ((new : Cell) → u ≡ Put new → changeOf day twice old new figs .result ≡ figure.Done)

@@ -34,7 +34,8 @@ use Rattle.reader.specs.declared.form.Fault.{Fault}
 use Rattle.reader.specs.declared.form.Fault.the-variants as fault
 use Rattle.logger.specs.declared.take.TakeAnswer.the-variants.{Malformed}
 use Rattle.logger.specs.Held.{ifNone, OpenFor}
-use Rattle.logger.specs.Reply.{sliceForm, resultOf, Row, rowOf}
+use Rattle.logger.specs.Reply.{sliceForm, resultOf, rowOf}
+use Rattle.wire_values.specs.declared.row.Row.{Row}
 use Rattle.day_rows.specs.Rows.{Right}
 use Rattle.day_rows.specs.Put.{changeOf}
 use Rattle.day_rows.proofs.PutLaws.{change-right}

@@ -3,16 +3,21 @@
 use mathlib.Core.Path.{_≡_, refl, sym, ap, subst}
 use mathlib.Core.Bool.{Bool, true, false, cond, not}
 use mathlib.Core.List.{List}
-use Prim.Native.Nat.{ℕ}
+use Prim.Native.Nat.{ℕ, _+_, _<_}
 use native.Mathlib.Omega.{arith}
 use lib.Dec.{eqb}
 use Rattle.byte_numbers.specs.Number.{Bytes}
+use Rattle.byte_numbers.specs.Place.{numberAt}
+use Rattle.parameters.specs.Code.{read, slice}
+use Rattle.frame.specs.Layout.{sliceReply}
+use Rattle.reader.proofs.FormLaws.{by-reply}
 use Rattle.reader.specs.declared.form.Fault.{Fault}
 use Rattle.reader.specs.declared.form.Form.{Form}
 use Rattle.reader.specs.declared.form.Form.the-variants.{WellFormed, Faulty}
 use Rattle.byte_numbers.proofs.ByteLaws.{two}
 use Rattle.log_header.proofs.HeaderLaws.{by-sound}
 use Rattle.log_cell.specs.Cell.{noCounts, isCell, CountsFit, IsCell}
+use Rattle.wire_values.specs.Row.{row, rowAt, isZero, alike}
 use Rattle.log_cell.proofs.CellLaws.{empty-is-cell, by-good}
 use Rattle.log.specs.View.{View, viewOf}
 use Rattle.log.proofs.ViewLaws.{changed, Within, Holds, view-applied}
@@ -33,8 +38,9 @@ use Rattle.day_rows.proofs.PutLaws.{unfit-leaves}
 use Rattle.day_rows.specs.declared.put.FigureAnswer.{FigureAnswer}
 use Rattle.day_rows.specs.declared.put.FigureAnswer.the-variants as figure
 use Rattle.logger.specs.Held.{ifNone, ifOpen, OpenFor}
-use Rattle.logger.specs.Reply.{sliceForm, ifFormed, resultOf, ifOk, Row, rowOf}
-use Rattle.logger.specs.Take.{sameCounts, updateOf, stays, takeCloses, putWith, updated, decided, taken}
+use Rattle.logger.specs.Reply.{sliceForm, ifFormed, resultOf, ifOk, rowOf}
+use Rattle.wire_values.specs.declared.row.Row.{Row}
+use Rattle.logger.specs.Take.{updateOf, stays, takeCloses, putWith, updated, decided, taken}
 use Rattle.logger.specs.declared.take.Decision.{Decision}
 use Rattle.logger.specs.declared.take.TakeAnswer.{TakeAnswer}
 use Rattle.logger.specs.declared.take.TakeAnswer.the-variants.{Done, TooShort, NoAskOpen, NotInLog, Malformed, MeterRefused, OtherCounts, Unsound}
@@ -107,10 +113,10 @@ module _ (P : Step → Type 0) (v : View) (figs : List ℕ) (held : OpenAsk) (y 
       by-open P held (k .no-ask) (λ a d t o.
       by-at P (intervalOf h d t) (k .outside a d t o) (λ i n.
       let ask : OpenFor h held i = record { address = a; day = d; slot = t; open-ask = o; interval = n } in
-      by-form P (sliceForm a y) (k .malformed i ask) (λ formed.
-      let heard : Heard h held y i = record { ask = ask; formed = formed } in
-      by-ok P (resultOf y) (k .refused i heard) (λ ok.
-      by-good P (v .cell i) (k .bad-cell i heard) (k .counted i heard ok)))))))
+      let heard : sliceForm a y ≡ WellFormed → Heard h held y i = λ formed. record { ask = ask; formed = formed } in
+      by-reply P a read slice sliceReply y (λ result. outcome (takeCloses (MeterRefused result) change.None) figs) (k .malformed i ask)
+      (λ formed. k .refused i (heard formed)) (λ formed ok.
+      by-good P (v .cell i) (k .bad-cell i (heard formed)) (k .counted i (heard formed) ok))))))
 
 -- ---- a cell's update
 
@@ -132,16 +138,13 @@ module _ (P : Step → Type 0) (twice : Bool) (held : OpenAsk) (day i : ℕ) (ol
 
 -- counts that fit two bytes, as those of a reply's bytes do
 abbrev pub RowFits : Row → Type 0
-RowFits r = CountsFit (r .e+) (r .e-) (r .r+) (r .r-)
+RowFits r = CountsFit (r .«e_plus») (r .«e_minus») (r .«r_plus») (r .«r_minus»)
 
 pub row-fits : (y : List ℕ) → Bytes y → RowFits (rowOf y)
-unfolding rowOf
-row-fits y k = record {
-  e-plus = omega (arith, two y 4, k 4, k 5);
-  e-minus = omega (arith, two y 6, k 6, k 7);
-  r-plus = omega (arith, two y 8, k 8, k 9);
-  r-minus = omega (arith, two y 10, k 10, k 11);
-}
+unfolding rowAt
+row-fits y k =
+    let fits : (i : ℕ) → numberAt y i 2 < 65536 = λ i. omega (arith, two y i, k i, k (i + 1)) in
+    record { e-plus = fits _; e-minus = fits _; r-plus = fits _; r-minus = fits _ }
 
 -- they put a cell
 abbrev pub PutsCell : Update → Type 0
@@ -150,9 +153,8 @@ PutsCell Keep = Unit
 PutsCell Conflict = Unit
 
 module _ (r : Row) (f : RowFits r) where
-  filled-cell : (b : Bool) → noCounts (r .e+) (r .e-) (r .r+) (r .r-) ≡ b
-      → PutsCell (cond b (Put cell.Empty) (Put (cell.Measured (r .e+) (r .e-) (r .r+) (r .r-))))
-  unfolding isCell
+  filled-cell : (b : Bool) → isZero r ≡ b → PutsCell (cond b (Put cell.Empty) (Put (cell.Measured (r .«e_plus») (r .«e_minus») (r .«r_plus») (r .«r_minus»))))
+  unfolding isCell noCounts isZero
   filled-cell true e = empty-is-cell
   filled-cell false e = record { right = ap not e; fits = f }
 
@@ -163,10 +165,9 @@ module _ (r : Row) (f : RowFits r) where
 
   pub update-cell : (c : Cell) → PutsCell (updateOf c r)
   unfolding updateOf
-  update-cell cell.Gap = filled-cell (noCounts (r .e+) (r .e-) (r .r+) (r .r-)) refl
-  update-cell cell.Empty = filled-cell (noCounts (r .e+) (r .e-) (r .r+) (r .r-)) refl
-  update-cell (cell.Measured a b c d) =
-      compared-cell (noCounts (r .e+) (r .e-) (r .r+) (r .r-)) (sameCounts a b c d (r .e+) (r .e-) (r .r+) (r .r-))
+  update-cell cell.Gap = filled-cell (isZero r) refl
+  update-cell cell.Empty = filled-cell (isZero r) refl
+  update-cell (cell.Measured a b c d) = compared-cell (isZero r) (alike (row a b c d) r)
 
 -- ---- what a reply comes to
 

@@ -17,10 +17,12 @@ use Rattle.log_cell.specs.declared.cell.Cell.{Cell}
 use Rattle.log_cell.specs.declared.cell.Cell.the-variants.{Gap, Empty, Measured}
 use Rattle.byte_numbers.specs.Number.{Bytes}
 use Rattle.byte_numbers.specs.Place.{byteAt}
+use Rattle.wire_values.specs.Row.{row}
+use Rattle.wire_values.specs.declared.row.Row.{Row}
 use Rattle.reader.specs.declared.form.Fault.{Fault}
 use Rattle.reader.specs.declared.form.Fault.the-variants as fault
 use Rattle.logger.specs.Held.{ifNone, ifOpen}
-use Rattle.logger.specs.Reply.{sliceForm, ifFormed, resultOf, ifOk, Row}
+use Rattle.logger.specs.Reply.{sliceForm, ifFormed, resultOf, ifOk}
 use Rattle.logger.specs.declared.held.OpenAsk.{OpenAsk}
 use Rattle.logger.specs.declared.held.OpenAsk.the-variants.{Closed, Open}
 
@@ -51,18 +53,13 @@ faultAnswer fault.Parameter = plain 54
 -- function 3, lowest first
 unfoldable pub countsIn : List ℕ → Row
 countsIn y =
-    record {
-      e+ = byteAt y 4 + 256 * byteAt y 5;
-      e- = byteAt y 6 + 256 * byteAt y 7;
-      r+ = byteAt y 8 + 256 * byteAt y 9;
-      r- = byteAt y 10 + 256 * byteAt y 11;
-    }
+    row (byteAt y 4 + 256 * byteAt y 5) (byteAt y 6 + 256 * byteAt y 7) (byteAt y 8 + 256 * byteAt y 9) (byteAt y 10 + 256 * byteAt y 11)
 
 unfoldable pub isZero : Row → Bool
-isZero r = eqb (r .e+) 0 && eqb (r .e-) 0 && eqb (r .r+) 0 && eqb (r .r-) 0
+isZero r = eqb (r .«e_plus») 0 && eqb (r .«e_minus») 0 && eqb (r .«r_plus») 0 && eqb (r .«r_minus») 0
 
 unfoldable pub alike : Row → Row → Bool
-alike q r = eqb (q .e+) (r .e+) && eqb (q .e-) (r .e-) && eqb (q .r+) (r .r+) && eqb (q .r-) (r .r-)
+alike q r = eqb (q .«e_plus») (r .«e_plus») && eqb (q .«e_minus») (r .«e_minus») && eqb (q .«r_plus») (r .«r_plus») && eqb (q .«r_minus») (r .«r_minus»)
 
 -- ---- a cell, worked out afresh from an interval's replies
 
@@ -76,7 +73,7 @@ firstOf [] = none
 firstOf (r ∷ rs) = cond (isZero r) (firstOf rs) (counts r)
 
 unfoldable pub byFirst : First → List Row → Cell
-byFirst (counts r) rows = Measured (r .e+) (r .e-) (r .r+) (r .r-)
+byFirst (counts r) rows = Measured (r .«e_plus») (r .«e_minus») (r .«r_plus») (r .«r_minus»)
 byFirst none [] = Gap
 byFirst none (r ∷ rows) = Empty
 
@@ -101,8 +98,8 @@ placeOf h day slot = day * slotsOf (h .minutes) + slot
 -- a cell as the replies that came first: "Measured and empty cells read from a file count as replies that came first" (demand 3)
 unfoldable pub cameFirst : Cell → List Row
 cameFirst Gap = []
-cameFirst Empty = record { e+ = 0; e- = 0; r+ = 0; r- = 0 } ∷ []
-cameFirst (Measured a b c d) = record { e+ = a; e- = b; r+ = c; r- = d } ∷ []
+cameFirst Empty = row 0 0 0 0 ∷ []
+cameFirst (Measured a b c d) = row a b c d ∷ []
 
 -- the book of a start: no ask open, the cells that are no gaps as replies, and the lapses that the file held
 unfoldable pub startBook : List Cell → (ℕ → ℕ) → Book

@@ -1,19 +1,26 @@
 -- A reply about a slice: whether it is well formed, its result, its four counts. Source: document 01, "The reader and the log".
 use mathlib.Core.Bool.{cond}
 use mathlib.Core.List.{List}
-use Prim.Native.Nat.{ℕ, _+_}
+use Prim.Native.Nat.{ℕ}
 use lib.Dec.{eqb}
-use Rattle.byte_numbers.specs.Place.{byteAt, numberAt}
+use Rattle.byte_numbers.specs.Place.{byteAt}
 use Rattle.parameters.specs.Code.{read, slice}
 use Rattle.frame.specs.Layout.{resultPlace, dataPlace, sliceReply}
-use Rattle.reader.specs.Form.{formOf}
+use Rattle.wire_values.specs.Row.{rowAt}
+use Rattle.wire_values.specs.declared.row.Row.{Row}
+use Rattle.reader.specs.Form.{formOf, replyOf}
 use Rattle.reader.specs.declared.form.Fault.{Fault}
 use Rattle.reader.specs.declared.form.Form.{Form}
 use Rattle.reader.specs.declared.form.Form.the-variants.{WellFormed, Faulty}
+use Rattle.reader.specs.declared.form.Reply.{Reply}
 
 -- the form of a reply to an ask for a slice: "14 for a slice"
 abbrev pub sliceForm : ℕ → List ℕ → Form
 sliceForm address y = formOf address read slice sliceReply y
+
+-- what such a reply comes to
+abbrev pub sliceReplyOf : ℕ → List ℕ → Reply
+sliceReplyOf address y = replyOf address read slice sliceReply y
 
 -- one value by the fault of a reply that is not well formed, else another
 abbrev pub ifFormed : {A : Type 0} → Form → (Fault → A) → A → A
@@ -27,15 +34,6 @@ resultOf y = byteAt y resultPlace
 abbrev pub ifOk : {A : Type 0} → ℕ → A → A → A
 ifOk result refused ok = cond (eqb result 0) ok refused
 
-pub record Row : Type 0 where
-  pub e+ : ℕ
-  pub e- : ℕ
-  pub r+ : ℕ
-  pub r- : ℕ
-
-abbrev pub row : ℕ → ℕ → ℕ → ℕ → Row
-row e+ e- r+ r- = record { e+ = e+; e- = e-; r+ = r+; r- = r- }
-
 -- "Data: E+, E-, R+, R-, 2 bytes each", behind address, function, parameter and result
-unfoldable pub rowOf : List ℕ → Row
-rowOf y = row (numberAt y dataPlace 2) (numberAt y (dataPlace + 2) 2) (numberAt y (dataPlace + 4) 2) (numberAt y (dataPlace + 6) 2)
+abbrev pub rowOf : List ℕ → Row
+rowOf y = rowAt y dataPlace

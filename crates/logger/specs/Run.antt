@@ -3,7 +3,6 @@
 use mathlib.Core.List.{List}
 use Prim.Native.Nat.{ℕ}
 use Rattle.refusal.specs.Outcome.{Outcome, outcome}
-use Rattle.reader.specs.Form.{faultLength}
 use Rattle.log.specs.View.{viewOf}
 use Rattle.day_rows.specs.LogAndRows.{LogAndRows, logAndRows}
 use Rattle.logger.specs.Ask as Ask
@@ -12,7 +11,6 @@ use Rattle.logger.specs.Take as Take
 use Rattle.logger.specs.Book.{Call, ask, lapse, reply, Answer, plain, runOf}
 use Rattle.logger.specs.declared.held.OpenAsk.{OpenAsk}
 use Rattle.logger.specs.declared.take.TakeAnswer.{TakeAnswer}
-use Rattle.logger.specs.declared.take.TakeAnswer.the-variants.{Done, TooShort, NoAskOpen, NotInLog, Malformed, MeterRefused, OtherCounts, Unsound}
 
 -- what the calls hand on to each other
 pub record State : Type 0 where
@@ -22,14 +20,7 @@ pub record State : Type 0 where
 
 -- the number of a taken reply's answer, with the result that 24 returns and the length that 50 does
 abbrev pub takeAnswer : TakeAnswer → Answer
-takeAnswer Done = plain (Take.numberOf Done)
-takeAnswer TooShort = plain (Take.numberOf TooShort)
-takeAnswer NoAskOpen = plain (Take.numberOf NoAskOpen)
-takeAnswer NotInLog = plain (Take.numberOf NotInLog)
-takeAnswer (Malformed fault) = record { number = Take.numberOf (Malformed fault); result = 0; length = faultLength fault }
-takeAnswer (MeterRefused result) = record { number = Take.numberOf (MeterRefused result); result = result; length = 0 }
-takeAnswer OtherCounts = plain (Take.numberOf OtherCounts)
-takeAnswer Unsound = plain (Take.numberOf Unsound)
+takeAnswer a = record { number = Take.numberOf a; result = Take.resultOr a 0; length = Take.lengthOr a 0 }
 
 -- a log and its figures with an ask that is held
 abbrev pub state : LogAndRows → OpenAsk → State

@@ -3,14 +3,16 @@
 -- 22, 23, 24, 25", 28 right at the start for header and length and "for a cell: just before it is used". Document 02, request 2: "23 goes
 -- ..; in its place and this order 50 length, 51 CRC, 52 address, 53 function, or a top bit that belies the result, 54 parameter". CR 8: "1, right after
 -- a lent log's header and length, if fewer are lent; 28, last, where a figure would fall below 0 or pass 32 bits".
-use mathlib.Core.Bool.{Bool, cond, _&&_}
+use mathlib.Core.Bool.{Bool, cond}
 use mathlib.Core.List.{List}
 use Prim.Native.Nat.{ℕ}
-use lib.Dec.{eqb}
 use Rattle.refusal.specs.Outcome.{Outcome, outcome, check}
-use Rattle.reader.specs.Form.{faultNumber}
+use Rattle.wire_values.specs.Row.{row, isZero, alike}
+use Rattle.wire_values.specs.declared.row.Row.{Row}
+use Rattle.reader.specs.Form as form
+use Rattle.reader.specs.Form.{ifReply, faultNumber}
 use Rattle.log_header.specs.Header.{ifSound}
-use Rattle.log_cell.specs.Cell.{noCounts, ifGood}
+use Rattle.log_cell.specs.Cell.{ifGood}
 use Rattle.log.specs.Image.{applied}
 use Rattle.log.specs.View.{View, viewOf}
 use Rattle.log_header.specs.Interval.{intervalOf, comesTwice, ifAt}
@@ -23,7 +25,7 @@ use Rattle.day_rows.specs.Put.{changeOf}
 use Rattle.day_rows.specs.declared.put.FigureAnswer.{FigureAnswer}
 use Rattle.day_rows.specs.declared.put.FigureAnswer.the-variants as figure
 use Rattle.logger.specs.Held.{ifOpen}
-use Rattle.logger.specs.Reply.{sliceForm, ifFormed, resultOf, ifOk, Row, rowOf}
+use Rattle.logger.specs.Reply.{sliceReplyOf, rowOf}
 use Rattle.logger.specs.declared.take.Decision.{Decision}
 use Rattle.logger.specs.declared.take.TakeAnswer.{TakeAnswer}
 use Rattle.logger.specs.declared.take.TakeAnswer.the-variants.{Done, TooShort, NoAskOpen, NotInLog, Malformed, MeterRefused, OtherCounts, Unsound}
@@ -35,22 +37,18 @@ use Rattle.logger.specs.declared.held.OpenAsk.the-variants.{Closed}
 
 -- ---- what counts do to a cell
 
--- whether four counts are those of another four
-unfoldable pub sameCounts : ℕ → ℕ → ℕ → ℕ → ℕ → ℕ → ℕ → ℕ → Bool
-sameCounts a b c d e+ e- r+ r- = eqb a e+ && eqb b e- && eqb c r+ && eqb d r-
-
 -- "turns a gap or empty cell into empty (all zeros) or measured"
-abbrev pub filled : ℕ → ℕ → ℕ → ℕ → Update
-filled e+ e- r+ r- = cond (noCounts e+ e- r+ r-) (Put cell.Empty) (Put (cell.Measured e+ e- r+ r-))
+abbrev pub filled : Row → Update
+filled r = cond (isZero r) (Put cell.Empty) (Put (cell.Measured (r .«e_plus») (r .«e_minus») (r .«r_plus») (r .«r_minus»)))
 
 -- "On a measured cell, zeros or equal counts leave it, answer 0; other nonzero counts answer 25"
-abbrev pub compared : ℕ → ℕ → ℕ → ℕ → ℕ → ℕ → ℕ → ℕ → Update
-compared a b c d e+ e- r+ r- = cond (noCounts e+ e- r+ r-) Keep (cond (sameCounts a b c d e+ e- r+ r-) Keep Conflict)
+abbrev pub compared : Row → Row → Update
+compared held r = cond (isZero r) Keep (cond (alike held r) Keep Conflict)
 
 unfoldable pub updateOf : Cell → Row → Update
-updateOf cell.Gap r = filled (r .e+) (r .e-) (r .r+) (r .r-)
-updateOf cell.Empty r = filled (r .e+) (r .e-) (r .r+) (r .r-)
-updateOf (cell.Measured a b c d) r = compared a b c d (r .e+) (r .e-) (r .r+) (r .r-)
+updateOf cell.Gap r = filled r
+updateOf cell.Empty r = filled r
+updateOf (cell.Measured e+ e- r+ r-) r = compared (row e+ e- r+ r-) r
 
 -- ---- what a reply comes to: the answer, the ask left open, and what it does to the log
 
@@ -78,16 +76,16 @@ updated Conflict twice held day i old figs = outcome (takeCloses OtherCounts cha
 
 -- the checks, one below the other: 28 (header, length), 1 (figures), 20, 22, 50 to 54, 24, 28 (the cell), 25, 28 (a figure), and then 0
 unfoldable pub decided : View → List ℕ → OpenAsk → List ℕ → Outcome Decision (List ℕ)
-unfolding updateOf updated rowOf
+unfolding updateOf updated
 decided v figs held y =
     ifSound (v .lent) (outcome (stays Unsound held) figs) (λ h.
     check (enough h figs) (outcome (stays TooShort held) figs) (
     ifOpen held (outcome (stays NoAskOpen held) figs) (λ address day slot.
     ifAt (intervalOf h day slot) (outcome (stays NotInLog held) figs) (λ i.
-    ifFormed (sliceForm address y) (λ fault. outcome (stays (Malformed fault) held) figs) (
-    ifOk (resultOf y) (outcome (takeCloses (MeterRefused (resultOf y)) change.None) figs) (
+    ifReply (sliceReplyOf address y) (λ fault. outcome (stays (Malformed fault) held) figs)
+    (λ result. outcome (takeCloses (MeterRefused result) change.None) figs) (
     ifGood (v .cell i) (outcome (stays Unsound held) figs) (λ c.
-    updated (updateOf c (rowOf y)) (comesTwice h day slot) held day i c figs)))))))
+    updated (updateOf c (rowOf y)) (comesTwice h day slot) held day i c figs))))))
 
 -- what was decided, done to the log, with the figures after it
 abbrev pub done : Outcome Decision (List ℕ) → List ℕ → Outcome Taken LogAndRows
@@ -108,3 +106,25 @@ numberOf (Malformed fault) = faultNumber fault
 numberOf (MeterRefused result) = 24
 numberOf OtherCounts = 25
 numberOf Unsound = 28
+
+-- 24 is "meter's result not 0; returned"
+abbrev pub resultOr : TakeAnswer → ℕ → ℕ
+resultOr (MeterRefused result) other = result
+resultOr Done other = other
+resultOr TooShort other = other
+resultOr NoAskOpen other = other
+resultOr NotInLog other = other
+resultOr (Malformed fault) other = other
+resultOr OtherCounts other = other
+resultOr Unsound other = other
+
+-- "For a wrong length also return the length received."
+abbrev pub lengthOr : TakeAnswer → ℕ → ℕ
+lengthOr (Malformed fault) other = form.lengthOr fault other
+lengthOr Done other = other
+lengthOr TooShort other = other
+lengthOr NoAskOpen other = other
+lengthOr NotInLog other = other
+lengthOr (MeterRefused result) other = other
+lengthOr OtherCounts other = other
+lengthOr Unsound other = other

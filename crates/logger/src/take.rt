@@ -9,16 +9,16 @@ use log_header::Interval;
 use log_header::LogHeader;
 use parameters::code;
 use reader::Fault;
-use reader::Form;
+use reader::Reply;
+use wire_values::Row;
 ghost use mathlib.Core.Path.{_≡_};
 ghost use Rattle.refusal.specs.Outcome.{outcome};
 ghost use Rattle.log.specs.View.{viewOf};
 ghost use Rattle.log_cell.specs.Cell.{ifGood};
 ghost use Rattle.log.specs.Image.{cellAt};
 ghost use Rattle.day_rows.specs.LogAndRows.{logAndRows};
-ghost use Rattle.logger.specs.Reply.{row, rowOf};
 ghost use Rattle.logger.specs.declared.take.TakeAnswer.the-variants.{Unsound};
-ghost use Rattle.logger.specs.Take.{taken, decided, stays, takeCloses, putWith, updated, updateOf, filled, compared, sameCounts, numberOf};
+ghost use Rattle.logger.specs.Take.{taken, decided, stays, takeCloses, putWith, updated, updateOf, filled, compared, numberOf, resultOr, lengthOr};
 
 pub enum TakeAnswer {
     Done,
@@ -70,6 +70,38 @@ impl TakeAnswer {
             TakeAnswer::Unsound => refusal::UNSOUND,
         }
     }
+
+    // The meter's result, which 24 alone returns.
+    pub fn result_or(self, other: u8) -> u8
+        ensures { λ r. ⌜ r ≡ resultOr self other ⌝ }
+    {
+        match self {
+            TakeAnswer::MeterRefused(result) => result,
+            TakeAnswer::Done => other,
+            TakeAnswer::TooShort => other,
+            TakeAnswer::NoAskOpen => other,
+            TakeAnswer::NotInLog => other,
+            TakeAnswer::Malformed(_) => other,
+            TakeAnswer::OtherCounts => other,
+            TakeAnswer::Unsound => other,
+        }
+    }
+
+    // The length received, which 50 alone returns.
+    pub fn length_or(self, other: usize) -> usize
+        ensures { λ r. ⌜ r ≡ lengthOr self other ⌝ }
+    {
+        match self {
+            TakeAnswer::Malformed(fault) => fault.length_or(other),
+            TakeAnswer::Done => other,
+            TakeAnswer::TooShort => other,
+            TakeAnswer::NoAskOpen => other,
+            TakeAnswer::NotInLog => other,
+            TakeAnswer::MeterRefused(_) => other,
+            TakeAnswer::OtherCounts => other,
+            TakeAnswer::Unsound => other,
+        }
+    }
 }
 
 // Takes a reply for the open ask into the log, and keeps its day's figures right.
@@ -102,20 +134,14 @@ fn decided(log: &[u8], figures: &mut [u32], held: OpenAsk, reply: &[u8]) -> Deci
     };
     // Early, where the header still lies in registers.
     let twice = day_rows::comes_twice(h, day, slot);
-    if let Form::Faulty(fault) = reader::form_of(
-        address,
-        code::READ,
-        code::SLICE,
-        layout::SLICE_REPLY,
-        reply,
-    ) {
-        return stays(TakeAnswer::Malformed(fault), held);
+    match reader::reply_of(address, code::READ, code::SLICE, layout::SLICE_REPLY, reply) {
+        Reply::Malformed(fault) => stays(TakeAnswer::Malformed(fault), held),
+        Reply::Refused(result) => closes(TakeAnswer::MeterRefused(result), Change::None),
+        Reply::Answered => {
+            let row = wire_values::row_at(reply, layout::DATA);
+            into_cell(log, figures, twice, held, day, i, row)
+        }
     }
-    let result = byte_numbers::byte_at(reply, layout::RESULT);
-    if result != code::OK {
-        return closes(TakeAnswer::MeterRefused(result), Change::None);
-    }
-    into_cell(log, figures, twice, held, day, i, reply)
 }
 
 // What a well-formed reply with result 0 comes to: the cell, its update and its day's figures.
@@ -126,27 +152,16 @@ fn into_cell(
     held: OpenAsk,
     day: u8,
     i: usize,
-    reply: &[u8],
+    row: Row,
 ) -> Decision
     ensures { λ r. ⌜ outcome r (now (figures .exit)) ≡ ifGood (cellAt (now (log .entry)) i) (outcome (stays Unsound held) (now (figures .entry)))
-        (λ c. updated (updateOf c (rowOf (now (reply .entry)))) twice held day i c (now (figures .entry))) ⌝ }
+        (λ c. updated (updateOf c row) twice held day i c (now (figures .entry))) ⌝ }
 {
     let CellAnswer::Good(cell) = log::cell_at(log, i) else {
         return stays(TakeAnswer::Unsound, held);
     };
-    let ep = byte_numbers::u16_at(reply, layout::DATA);
-    let em = byte_numbers::u16_at(reply, layout::DATA + 2);
-    let rp = byte_numbers::u16_at(reply, layout::DATA + 4);
-    let rm = byte_numbers::u16_at(reply, layout::DATA + 6);
-    updated(
-        update_of(cell, ep, em, rp, rm),
-        figures,
-        twice,
-        held,
-        day,
-        i,
-        cell,
-    )
+    let update = update_of(cell, row);
+    updated(update, figures, twice, held, day, i, cell)
 }
 
 // Refused, and all stays as it was.
@@ -206,52 +221,39 @@ fn put_with(answer: FigureAnswer, held: OpenAsk, i: usize, new: Cell) -> Decisio
     }
 }
 
-fn update_of(cell: Cell, ep: u16, em: u16, rp: u16, rm: u16) -> Update
-    ensures { λ r. ⌜ r ≡ updateOf cell (row ep em rp rm) ⌝ }
+fn update_of(cell: Cell, row: Row) -> Update
+    ensures { λ r. ⌜ r ≡ updateOf cell row ⌝ }
 {
     match cell {
-        Cell::Gap => filled_with(ep, em, rp, rm),
-        Cell::Empty => filled_with(ep, em, rp, rm),
-        Cell::Measured(a, b, c, d) => compared_with(a, b, c, d, ep, em, rp, rm),
+        Cell::Gap => filled_with(row),
+        Cell::Empty => filled_with(row),
+        Cell::Measured(e_plus, e_minus, r_plus, r_minus) => {
+            compared_with(wire_values::row_of(e_plus, e_minus, r_plus, r_minus), row)
+        }
     }
 }
 
 // A cell without counts takes what came.
-fn filled_with(ep: u16, em: u16, rp: u16, rm: u16) -> Update
-    ensures { λ r. ⌜ r ≡ filled ep em rp rm ⌝ }
+fn filled_with(row: Row) -> Update
+    ensures { λ r. ⌜ r ≡ filled row ⌝ }
 {
-    if log_cell::no_counts(ep, em, rp, rm) {
+    if row.is_zero() {
         Update::Put(Cell::Empty)
     } else {
-        Update::Put(Cell::Measured(ep, em, rp, rm))
+        Update::Put(Cell::Measured(row.e_plus, row.e_minus, row.r_plus, row.r_minus))
     }
 }
 
 // A measured cell stays as it is: late zeros and the same counts again agree with it, others do not.
-fn compared_with(a: u16, b: u16, c: u16, d: u16, ep: u16, em: u16, rp: u16, rm: u16) -> Update
-    ensures { λ r. ⌜ r ≡ compared a b c d ep em rp rm ⌝ }
+fn compared_with(held: Row, row: Row) -> Update
+    ensures { λ r. ⌜ r ≡ compared held row ⌝ }
 {
-    if log_cell::no_counts(ep, em, rp, rm) {
+    if row.is_zero() {
         return Update::Keep;
     }
-    if same_counts(a, b, c, d, ep, em, rp, rm) {
+    if held.is_like(row) {
         Update::Keep
     } else {
         Update::Conflict
     }
-}
-
-fn same_counts(a: u16, b: u16, c: u16, d: u16, ep: u16, em: u16, rp: u16, rm: u16) -> bool
-    ensures { λ r. ⌜ r ≡ sameCounts a b c d ep em rp rm ⌝ }
-{
-    if a != ep {
-        return false;
-    }
-    if b != em {
-        return false;
-    }
-    if c != rp {
-        return false;
-    }
-    d == rm
 }

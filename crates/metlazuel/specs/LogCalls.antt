@@ -1,8 +1,6 @@
 -- What C is given of the log's calls. The open ask is four lent bytes; a log with its figures, lent together, is `LogAndRows` (document 02, CR 8).
-use mathlib.Core.Bool.{Bool, false, cond, _||_}
 use mathlib.Core.List.{List}
 use Prim.Native.Nat.{ℕ}
-use lib.Dec.{eqb}
 use lib.ListN.{length}
 use Rattle.refusal.specs.Outcome.{Outcome, outcome}
 use Rattle.byte_numbers.specs.Place.{written}
@@ -27,7 +25,7 @@ use Rattle.logger.specs.declared.held.OpenAsk.the-variants.{Closed, Open}
 use Rattle.c_values.specs.Ask.{askBytes}
 use Rattle.c_values.specs.declared.ask.AskRead.{AskRead}
 use Rattle.c_values.specs.declared.ask.AskRead.the-variants.{Read, Unreadable}
-use Rattle.metlazuel.specs.Calls.{unreadNumber, resultAfter, receivedAfter}
+use Rattle.metlazuel.specs.Calls.{unreadNumber}
 
 -- the numbers that C hands over, as a log's header
 abbrev pub headerFrom : ℕ → ℕ → ℕ → ℕ → ℕ → ℕ → ℕ → Header
@@ -51,47 +49,37 @@ lengthAfter read before = ifRead read before (λ n. n)
 
 -- ---- asks, lapses and replies
 
--- the ask's bytes: those of the ask that is held after the call where it was opened or closed, else untouched
-unfoldable pub askLeft : Bool → OpenAsk → List ℕ → List ℕ
-askLeft moved held bs = cond moved (written bs 0 (askBytes held)) bs
+-- the ask's bytes, by the ask that was open before a call and the one after it: written anew where it was opened or closed, else untouched
+unfoldable pub askLeft : OpenAsk → OpenAsk → List ℕ → List ℕ
+askLeft Closed Closed bs = bs
+askLeft Closed (Open address day slot) bs = written bs 0 (askBytes (Open address day slot))
+askLeft (Open address day slot) Closed bs = written bs 0 (askBytes Closed)
+askLeft (Open address day slot) (Open a d k) bs = bs
 
--- left: the ask's bytes and the output. An ask that gets 0 is opened.
-abbrev pub askedForC : Outcome Asked (List ℕ) → List ℕ → Outcome ℕ (List ℕ × List ℕ)
-askedForC o bs =
-    let n = ask.numberOf (o .result .answer) in
-    outcome n (askLeft (eqb n 0) (o .result .held) bs, o .left)
+-- left: the ask's bytes and the output
+abbrev pub askedForC : OpenAsk → Outcome Asked (List ℕ) → List ℕ → Outcome ℕ (List ℕ × List ℕ)
+askedForC held o bs = outcome (ask.numberOf (o .result .answer)) (askLeft held (o .result .held) bs, o .left)
 
 unfoldable pub askForC : AskRead → View → List ℕ → ℕ → ℕ → ℕ → List ℕ → Outcome ℕ (List ℕ × List ℕ)
-askForC (Read held) v bs address day slot out = askedForC (ask.asked v held address day slot out) bs
+askForC (Read held) v bs address day slot out = askedForC held (ask.asked v held address day slot out) bs
 askForC Unreadable v bs address day slot out = outcome (unreadNumber (length out) readSize) (bs, out)
-
--- "A lapse closes it; with nothing open a lapse does nothing and answers 0": whether it closes one, by its number
-unfoldable pub lapseCloses : OpenAsk → ℕ → Bool
-lapseCloses Closed n = false
-lapseCloses (Open address day slot) n = eqb n 0
 
 -- left: the log and the ask's bytes
 abbrev pub lapsedForC : OpenAsk → Outcome Lapsed (List ℕ) → List ℕ → Outcome ℕ (List ℕ × List ℕ)
-lapsedForC held o bs =
-    let n = lapse.numberOf (o .result .answer) in
-    outcome n (o .left, askLeft (lapseCloses held n) (o .result .held) bs)
+lapsedForC held o bs = outcome (lapse.numberOf (o .result .answer)) (o .left, askLeft held (o .result .held) bs)
 
 -- bytes that are no ask are 28, whatever the log is
 unfoldable pub lapseForC : AskRead → List ℕ → List ℕ → Outcome ℕ (List ℕ × List ℕ)
 lapseForC (Read held) log bs = lapsedForC held (lapse.lapsed log held) bs
 lapseForC Unreadable log bs = outcome 28 (log, bs)
 
--- the numbers with which a reply closes the ask: 0, and those with "ask closed"
-unfoldable pub closesAsk : ℕ → Bool
-closesAsk n = eqb n 0 || eqb n 24 || eqb n 25
-
 -- left: the meter's result, the length received, the log with its figures, and the ask's bytes
-abbrev pub takenForC : Outcome Taken LogAndRows → List ℕ → ℕ → ℕ → List ℕ → Outcome ℕ (ℕ × ℕ × LogAndRows × List ℕ)
-takenForC o y result size bs =
-    let n = take.numberOf (o .result .answer) in
-    outcome n (resultAfter n y result, receivedAfter n y size, o .left, askLeft (closesAsk n) (o .result .held) bs)
+abbrev pub takenForC : OpenAsk → Outcome Taken LogAndRows → ℕ → ℕ → List ℕ → Outcome ℕ (ℕ × ℕ × LogAndRows × List ℕ)
+takenForC held o result size bs =
+    let a = o .result .answer in
+    outcome (take.numberOf a) (take.resultOr a result, take.lengthOr a size, o .left, askLeft held (o .result .held) bs)
 
 -- bytes that are no ask are 28 too, as those of an unsound log are: before 1 for too few figures
 unfoldable pub takeForC : AskRead → LogAndRows → List ℕ → List ℕ → ℕ → ℕ → Outcome ℕ (ℕ × ℕ × LogAndRows × List ℕ)
-takeForC (Read held) b bs y result size = takenForC (take.taken b held y) y result size bs
+takeForC (Read held) b bs y result size = takenForC held (take.taken b held y) result size bs
 takeForC Unreadable b bs y result size = outcome 28 (result, size, b, bs)

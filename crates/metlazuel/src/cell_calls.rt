@@ -66,7 +66,7 @@ fn counts_of(c: Cell) -> [u16; 4]
     match c {
         Cell::Gap => [0, 0, 0, 0],
         Cell::Empty => [0, 0, 0, 0],
-        Cell::Measured(ep, em, rp, rm) => [ep, em, rp, rm],
+        Cell::Measured(e_plus, e_minus, r_plus, r_minus) => [e_plus, e_minus, r_plus, r_minus],
     }
 }
 

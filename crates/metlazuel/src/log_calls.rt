@@ -18,7 +18,7 @@ ghost use Rattle.day_rows.specs.Fresh.{freshWith};
 ghost use Rattle.log_file.specs.Write.{writtenFile, writeNumber};
 ghost use Rattle.c_values.specs.Ask.{askOf};
 ghost use Rattle.metlazuel.specs.Calls.{sized};
-ghost use Rattle.metlazuel.specs.LogCalls.{headerFrom, imageLength, fileLength, askLeft, askForC, lapseCloses, lapseForC, closesAsk, takeForC};
+ghost use Rattle.metlazuel.specs.LogCalls.{headerFrom, imageLength, fileLength, askLeft, askForC, lapseForC, takeForC};
 
 // uint8_t metlazuel_log_fresh(uint8_t *log, size_t room, uint32_t *figures, size_t numbers, uint8_t year, uint8_t month, uint8_t day,
 //     uint8_t days, uint8_t minutes, uint16_t ke, uint8_t seasons, size_t *length)
@@ -115,17 +115,23 @@ pub extern "C" fn metlazuel_ask(
     let asked = logger::put_ask(log, held, address, day, slot, out);
     let answer = asked.answer;
     let left = asked.held;
-    let number = answer.number();
-    put_left(ask, number == refusal::DONE, left);
-    number
+    put_left(ask, held, left);
+    answer.number()
 }
 
-// The bytes of the ask that is held after a call that opened or closed it.
-fn put_left(ask: &mut [u8], moved: bool, held: OpenAsk)
-    ensures { λ _. ⌜ now (ask .exit) ≡ askLeft moved held (now (ask .entry)) ⌝ }
+// The bytes of the ask, where a call opened or closed one.
+fn put_left(ask: &mut [u8], before: OpenAsk, after: OpenAsk)
+    ensures { λ _. ⌜ now (ask .exit) ≡ askLeft before after (now (ask .entry)) ⌝ }
 {
-    if moved {
-        c_values::put_ask(ask, held);
+    match before {
+        OpenAsk::Closed => match after {
+            OpenAsk::Closed => {}
+            OpenAsk::Open(_, _, _) => c_values::put_ask(ask, after),
+        },
+        OpenAsk::Open(_, _, _) => match after {
+            OpenAsk::Closed => c_values::put_ask(ask, after),
+            OpenAsk::Open(_, _, _) => {}
+        },
     }
 }
 
@@ -143,19 +149,8 @@ pub extern "C" fn metlazuel_lapse(log: &mut [u8], ask: &mut [u8]) -> u8
     let lapsed = logger::lapse(log, held);
     let answer = lapsed.answer;
     let left = lapsed.held;
-    let number = answer.number();
-    put_left(ask, lapse_closes(held, number), left);
-    number
-}
-
-// Whether a lapse that got the number closed an ask.
-fn lapse_closes(held: OpenAsk, number: u8) -> bool
-    ensures { λ r. ⌜ r ≡ lapseCloses held number ⌝ }
-{
-    match held {
-        OpenAsk::Closed => false,
-        OpenAsk::Open(_, _, _) => number == refusal::DONE,
-    }
+    put_left(ask, held, left);
+    answer.number()
 }
 
 // uint8_t metlazuel_take(uint8_t *log, size_t n, uint32_t *figures, size_t numbers, uint8_t *ask, size_t size, const uint8_t *reply,
@@ -182,22 +177,8 @@ pub extern "C" fn metlazuel_take(
     let taken = logger::take_reply(log, figures, held, reply);
     let answer = taken.answer;
     let left = taken.held;
-    let number = answer.number();
-    put_left(ask, closes(number), left);
-    *result = given::result_after(number, reply, *result);
-    *length = given::received_after(number, reply, *length);
-    number
-}
-
-// Whether a reply that got the number closed the ask.
-fn closes(number: u8) -> bool
-    ensures { λ r. ⌜ r ≡ closesAsk number ⌝ }
-{
-    if number == refusal::DONE {
-        return true;
-    }
-    if number == refusal::METER_REFUSED {
-        return true;
-    }
-    number == refusal::OTHER_COUNTS
+    put_left(ask, held, left);
+    *result = answer.result_or(*result);
+    *length = answer.length_or(*length);
+    answer.number()
 }

@@ -19,8 +19,8 @@ use Rattle.logger.specs.Book.{Call, ask, lapse, reply, Answer, runOf, CallBytes
 use Rattle.c_values.specs.Ask.{askOf}
 use Rattle.c_values.specs.declared.ask.AskRead.{AskRead}
 use Rattle.c_values.specs.declared.ask.AskRead.the-variants.{Read, Unreadable}
-use Rattle.metlazuel.specs.Calls.{sized, resultAfter, receivedAfter}
-use Rattle.metlazuel.specs.LogCalls.{imageLength, lengthAfter, askLeft, askForC, lapseCloses, closesAsk}
+use Rattle.metlazuel.specs.Calls.{sized}
+use Rattle.metlazuel.specs.LogCalls.{imageLength, lengthAfter, askLeft, askForC}
 use Rattle.c_claims.specs.Demand3.{Lent, told}
 use Rattle.c_claims.proofs.Ends.{image-kept, length-kept}
 use Rattle.old_log.specs.Layout.{rows, columns}
@@ -38,7 +38,7 @@ same-lapse s t e (Read held) bs =
     record {
       answer = λ i. Lapse.numberOf (w .answer i .answer);
       seen = w .seen;
-      ask = λ i. askLeft (lapseCloses held (Lapse.numberOf (w .answer i .answer))) (w .answer i .held) bs;
+      ask = λ i. askLeft held (w .answer i .held) bs;
     }
 same-lapse s t e Unreadable bs = record { answer = refl; seen = e; ask = refl }
 
@@ -49,11 +49,11 @@ same-take b c e q (Read held) bs y result size bytes =
     let w = same.same-take b c held held y e q refl bytes in
     record {
       answer = λ i. Take.numberOf (w .answer i .answer);
-      result = λ i. resultAfter (Take.numberOf (w .answer i .answer)) y result;
-      size = λ i. receivedAfter (Take.numberOf (w .answer i .answer)) y size;
+      result = λ i. Take.resultOr (w .answer i .answer) result;
+      size = λ i. Take.lengthOr (w .answer i .answer) size;
       seen = w .seen;
       figures = w .figures;
-      ask = λ i. askLeft (closesAsk (Take.numberOf (w .answer i .answer))) (w .answer i .held) bs;
+      ask = λ i. askLeft held (w .answer i .held) bs;
     }
 same-take b c e q Unreadable bs y result size bytes = record { answer = refl; result = refl; size = refl; seen = e; figures = q; ask = refl }
 

@@ -34,7 +34,7 @@ lapseForCIn l (Read held) log bs = lapsedForC held (lapsedIn l log held) bs
 lapseForCIn l Unreadable log bs = outcome 28 (log, bs)
 
 unfoldable pub takeForCIn : Layout → AskRead → LogAndRows → List ℕ → List ℕ → ℕ → ℕ → Outcome ℕ (ℕ × ℕ × LogAndRows × List ℕ)
-takeForCIn l (Read held) b bs y result size = takenForC (takenIn l b held y) y result size bs
+takeForCIn l (Read held) b bs y result size = takenForC held (takenIn l b held y) result size bs
 takeForCIn l Unreadable b bs y result size = outcome 28 (result, size, b, bs)
 
 -- what `metlazuel_log_fresh` and `metlazuel_read_file` promise

@@ -1,21 +1,18 @@
 -- What a poll asks a meter before the log's intervals. Source: document 01, Appendix A's parameters 32 (clock), 24 (telemetry, with Ke) and 36
 -- (a slice); "Every day has 48 or 96 slots": a meter of 30 minutes refuses slice number 48, and one of 15 minutes answers.
 use Prim.Native.Nat.{ℕ, _+_}
-use mathlib.Core.Bool.{Bool, true, false, cond}
+use mathlib.Core.Bool.{Bool, true, false}
 use mathlib.Core.List.{List}
 use lib.Dec.{eqb}
-use lib.ListN.{drop}
-use Rattle.byte_numbers.specs.Place.{byteAt}
 use Rattle.parameters.specs.Code.{read}
 use Rattle.parameters.specs.declared.code.Reading.the-variants.{Stored}
-use Rattle.frame.specs.Layout.{resultPlace, dataPlace, bareSize}
+use Rattle.frame.specs.Layout.{bareSize}
 use Rattle.request.specs.Subject.{subjectOf, dataBytes, mostSlots}
 use Rattle.request.specs.declared.request.Request.{Request}
 use Rattle.wire_values.specs.Clock.{dateTimeOf}
 use Rattle.wire_values.specs.Telemetry.{telemetryOf}
-use Rattle.reader.specs.Form.{formOf}
-use Rattle.reader.specs.declared.form.Form.{Form}
-use Rattle.reader.specs.declared.form.Form.the-variants.{WellFormed, Faulty}
+use Rattle.reader.specs.Form.{replyOf, ifReply}
+use Rattle.reader.specs.Rows.{replyData}
 use Rattle.log_header.specs.declared.header.Header.{Header}
 use Rattle.polling.specs.declared.question.Question.{Question}
 use Rattle.polling.specs.declared.question.Question.the-variants as question
@@ -44,16 +41,11 @@ refusalOf question.Clock result = learned.Refused result
 refusalOf question.Weight result = learned.Refused result
 refusalOf question.Interval result = learned.Minutes 30
 
--- what a reply y tells, by its form
-unfoldable pub toldBy : Question → Form → List ℕ → Learned
-toldBy q (Faulty fault) y = learned.Malformed fault
-toldBy q WellFormed y = cond (eqb (byteAt y resultPlace) 0) (figureOf q (drop dataPlace y)) (refusalOf q (byteAt y resultPlace))
-
--- what a reply y to a question tells; it is well formed or not by the reader's one test
+-- what a reply y to a question tells, by the reader's one test
 unfoldable pub learnedOf : Question → ℕ → List ℕ → Learned
 learnedOf q a y =
     let r = questionOf q a in
-    toldBy q (formOf a read (r .parameter) (fullSize r) y) y
+    ifReply (replyOf a read (r .parameter) (fullSize r) y) learned.Malformed (refusalOf q) (figureOf q (replyData y))
 
 -- whether what was learned is the log's
 unfoldable pub fitsLog : Header → Learned → Bool

@@ -10,7 +10,7 @@ use log_header::Header;
 use parameters::code;
 use parameters::code::Reading;
 use reader::Fault;
-use reader::Form;
+use reader::Reply;
 use request::Request;
 use request::RequestAnswer;
 
@@ -62,15 +62,10 @@ pub fn learned_from(question: Question, address: u8, reply: &[u8]) -> Learned
     ensures { λ r. ⌜ r ≡ learnedOf question address (now (reply .entry)) ⌝ }
 {
     let q = request_of(question, address);
-    match reader::form_of(address, code::READ, q.parameter, full_bytes(q), reply) {
-        Form::WellFormed => {
-            let result = byte_numbers::byte_at(reply, layout::RESULT);
-            if result == code::OK {
-                return figure_of(question, byte_numbers::tail(reply, layout::DATA));
-            }
-            refusal_of(question, result)
-        }
-        Form::Faulty(fault) => Learned::Malformed(fault),
+    match reader::reply_of(address, code::READ, q.parameter, full_bytes(q), reply) {
+        Reply::Malformed(fault) => Learned::Malformed(fault),
+        Reply::Refused(result) => refusal_of(question, result),
+        Reply::Answered => figure_of(question, byte_numbers::tail(reply, layout::DATA)),
     }
 }
 

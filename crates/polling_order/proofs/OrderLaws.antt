@@ -10,7 +10,7 @@ use native.Mathlib.Omega.{arith}
 use lib.Dec.{eqb}
 use Rattle.log_cell.specs.declared.cell.Cell.the-variants.{Measured}
 use Rattle.logger.specs.Book.{isZero, First, none, counts, firstOf, byFirst, afresh}
-use Rattle.logger.specs.Reply.{Row}
+use Rattle.wire_values.specs.declared.row.Row.{Row}
 use Rattle.polling_order.specs.Completed.{Ending, counted, refused, lapsed, Completed, rowsWith, rowsAt}
 use Rattle.polling_order.specs.Order.{Reordered, OneReply}
 
@@ -53,7 +53,7 @@ same-by none none xs ys one k l p q = no-first xs ys k l
 same-by none (counts r) xs ys one k l p q = absurd (false≢true (sym (q .1) ∙ p r (l r (q .0))))
 same-by (counts r) none xs ys one k l p q = absurd (false≢true (sym (p .1) ∙ q r (k r (p .0))))
 same-by (counts r) (counts t) xs ys one k l p q =
-    ap (λ (v : Row). Measured (v .e+) (v .e-) (v .r+) (v .r-)) (one r t (p .0) (l t (q .0)) (p .1) (q .1))
+    ap (λ (v : Row). Measured (v .«e_plus») (v .«e_minus») (v .«r_plus») (v .«r_minus»)) (one r t (p .0) (l t (q .0)) (p .1) (q .1))
 
 -- the cell of an interval goes by which replies it has
 pub afresh-members : (xs ys : List Row) → OneReply xs → Within xs ys → Within ys xs → afresh xs ≡ afresh ys

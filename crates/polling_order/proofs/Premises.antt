@@ -32,7 +32,8 @@ use Rattle.day_rows.specs.LogAndRows.{LogAndRows}
 use Rattle.reader.specs.Form.{formOf, lengthFor, functionFor, headOf}
 use Rattle.reader.specs.declared.form.Form.the-variants.{WellFormed}
 use Rattle.logger.specs.Book.{countsIn, isZero, firstOf, byFirst, afresh, placeOf, cameFirst, AllBytes}
-use Rattle.logger.specs.Reply.{sliceForm, Row}
+use Rattle.logger.specs.Reply.{sliceForm}
+use Rattle.wire_values.specs.declared.row.Row.{Row}
 use Rattle.claims.specs.Demand3.{Start, ran}
 use Rattle.claims.proofs.History.{start-seen}
 use Rattle.polling_order.specs.Completed.{Ending, counted, refused, lapsed, Completed, endingOf, asksIn, rowsWith, rowsAt, repliesAt}
@@ -47,21 +48,21 @@ use Rattle.polling_order.proofs.History.{asks-are, seen-cell, kept-are,
 -- ---- a reply's frame
 
 abbrev body : ℕ → Row → List ℕ
-body address r = address ∷ read ∷ slice ∷ 0 ∷ (bytesOf 2 (r .e+) ++ (bytesOf 2 (r .e-) ++ (bytesOf 2 (r .r+) ++ bytesOf 2 (r .r-))))
+body address r = address ∷ read ∷ slice ∷ 0 ∷ (bytesOf 2 (r .«e_plus») ++ (bytesOf 2 (r .«e_minus») ++ (bytesOf 2 (r .«r_plus») ++ bytesOf 2 (r .«r_minus»))))
 
 body-bytes : (address : ℕ) (r : Row) → address < 256 → Bytes (body address r)
 body-bytes address r l =
-    let d = bytesOf 2 (r .r-) in
-    let c = bytesOf 2 (r .r+) ++ d in
-    let b = bytesOf 2 (r .e-) ++ c in
-    let a = bytesOf 2 (r .e+) ++ b in
+    let d = bytesOf 2 (r .«r_minus») in
+    let c = bytesOf 2 (r .«r_plus») ++ d in
+    let b = bytesOf 2 (r .«e_minus») ++ c in
+    let a = bytesOf 2 (r .«e_plus») ++ b in
     bytes-cons address (read ∷ slice ∷ 0 ∷ a) l (
     bytes-cons read (slice ∷ 0 ∷ a) (omega arith) (
     bytes-cons slice (0 ∷ a) (omega arith) (
     bytes-cons 0 a (omega arith) (
-    bytes-append (bytesOf 2 (r .e+)) b (bytes-bytesOf 2 (r .e+)) (
-    bytes-append (bytesOf 2 (r .e-)) c (bytes-bytesOf 2 (r .e-)) (
-    bytes-append (bytesOf 2 (r .r+)) d (bytes-bytesOf 2 (r .r+)) (bytes-bytesOf 2 (r .r-))))))))
+    bytes-append (bytesOf 2 (r .«e_plus»)) b (bytes-bytesOf 2 (r .«e_plus»)) (
+    bytes-append (bytesOf 2 (r .«e_minus»)) c (bytes-bytesOf 2 (r .«e_minus»)) (
+    bytes-append (bytesOf 2 (r .«r_plus»)) d (bytes-bytesOf 2 (r .«r_plus»)) (bytes-bytesOf 2 (r .«r_minus»))))))))
 
 reply-bytes : (address : ℕ) (r : Row) → address < 256 → Bytes (replyWith address r)
 unfolding replyWith framed
@@ -89,10 +90,10 @@ well-formed address r l =
 counted-with : (address : ℕ) (r : Row) → RowFits r → endingOf (replyWith address r) ≡ counted r
 unfolding endingOf replyWith framed countsIn bytesOf
 counted-with address r f = λ t. counted (record {
-  e+ = two (r .e+) (f .e-plus) t;
-  e- = two (r .e-) (f .e-minus) t;
-  r+ = two (r .r+) (f .r-plus) t;
-  r- = two (r .r-) (f .r-minus) t;
+  «e_plus» = two (r .«e_plus») (f .e-plus) t;
+  «e_minus» = two (r .«e_minus») (f .e-minus) t;
+  «r_plus» = two (r .«r_plus») (f .r-plus) t;
+  «r_minus» = two (r .«r_minus») (f .r-minus) t;
 })
   where
     two : (n : ℕ) → n < 65536 → n % 256 + 256 * (n / 256 % 256) ≡ n
@@ -200,17 +201,17 @@ held b start rounds c = (calls-bytes (start .header) rounds c, asks-are b start 
 -- ---- two different replies for one gap
 
 -- the first of two that are not all zeros is measured
-first-measured : (q r : Row) → isZero q ≡ false → afresh (q ∷ r ∷ []) ≡ Measured (q .e+) (q .e-) (q .r+) (q .r-)
+first-measured : (q r : Row) → isZero q ≡ false → afresh (q ∷ r ∷ []) ≡ Measured (q .«e_plus») (q .«e_minus») (q .«r_plus») (q .«r_minus»)
 unfolding afresh firstOf byFirst
 first-measured q r z = simp z
 
-same-row : (q r : Row) → Good (Measured (q .e+) (q .e-) (q .r+) (q .r-)) ≡ Good (Measured (r .e+) (r .e-) (r .r+) (r .r-)) → q ≡ r
+same-row : (q r : Row) → Good (Measured (q .«e_plus») (q .«e_minus») (q .«r_plus») (q .«r_minus»)) ≡ Good (Measured (r .«e_plus») (r .«e_minus») (r .«r_plus») (r .«r_minus»)) → q ≡ r
 same-row q r e =
-    let a : q .e+ ≡ r .e+ = cc in
-    let b : q .e- ≡ r .e- = cc in
-    let c : q .r+ ≡ r .r+ = cc in
-    let d : q .r- ≡ r .r- = cc in
-    λ t. record { e+ = a t; e- = b t; r+ = c t; r- = d t }
+    let a : q .«e_plus» ≡ r .«e_plus» = cc in
+    let b : q .«e_minus» ≡ r .«e_minus» = cc in
+    let c : q .«r_plus» ≡ r .«r_plus» = cc in
+    let d : q .«r_minus» ≡ r .«r_minus» = cc in
+    λ t. record { «e_plus» = a t; «e_minus» = b t; «r_plus» = c t; «r_minus» = d t }
 
 module _ (b : LogAndRows) (start : Start b) (day slot i : ℕ) (at : intervalOf (start .header) day slot ≡ At i) (seen : viewOf (b .log) .cell i ≡ Good Gap) where
   -- what is seen as a gap is one of the start's
@@ -238,7 +239,7 @@ module _ (b : LogAndRows) (start : Start b) (day slot i : ℕ) (at : intervalOf 
   rows-are q r f g = rw (counted-with 1 q f, counted-with 1 r g, in-log (start .header) day slot i at .index, eq-eqb i i refl) refl
 
   first-holds : (q r : Row) → RowFits q → RowFits r → isZero q ≡ false
-      → viewOf (ran b (callsOf (reading q ∷ reading r ∷ [])) .left .log) .cell i ≡ Good (Measured (q .e+) (q .e-) (q .r+) (q .r-))
+      → viewOf (ran b (callsOf (reading q ∷ reading r ∷ [])) .left .log) .cell i ≡ Good (Measured (q .«e_plus») (q .«e_minus») (q .«r_plus») (q .«r_minus»))
   unfolding cameFirst
   first-holds q r f g z =
       let both = read-both q r f g in

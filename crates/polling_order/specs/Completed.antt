@@ -9,7 +9,8 @@ use Rattle.log_header.specs.declared.header.Header.{Header}
 use Rattle.day_rows.specs.LogAndRows.{LogAndRows}
 use Rattle.logger.specs.Book.{Call, ask, lapse, reply, Book, countsIn, placeOf, cameFirst, startBook, bookStep}
 use Rattle.logger.specs.Held.{ifOpen}
-use Rattle.logger.specs.Reply.{sliceForm, ifFormed, resultOf, ifOk, Row}
+use Rattle.logger.specs.Reply.{sliceForm, ifFormed, resultOf, ifOk}
+use Rattle.wire_values.specs.declared.row.Row.{Row}
 use Rattle.logger.specs.declared.held.OpenAsk.{OpenAsk}
 use Rattle.claims.specs.Demand3.{Start}
 

@@ -7,7 +7,7 @@ use Prim.Native.Nat.{ℕ, _<_}
 use Rattle.log_header.specs.Header.{cellsOf}
 use Rattle.day_rows.specs.LogAndRows.{LogAndRows}
 use Rattle.logger.specs.Book.{isZero}
-use Rattle.logger.specs.Reply.{Row}
+use Rattle.wire_values.specs.declared.row.Row.{Row}
 use Rattle.claims.specs.Demand3.{Start}
 use Rattle.polling_order.specs.Completed.{Completed, repliesAt}
 

@@ -25,7 +25,7 @@ use Rattle.log_header.specs.declared.interval.Interval.the-variants.{At}
 use Rattle.day_rows.specs.LogAndRows.{LogAndRows, logAndRows}
 use Rattle.day_rows.specs.Rows.{rowAt}
 use Rattle.logger.specs.Book.{isZero, Call, AllBytes}
-use Rattle.logger.specs.Reply.{Row}
+use Rattle.wire_values.specs.declared.row.Row.{Row}
 use Rattle.claims.specs.Demand3.{Start, ran}
 use Rattle.polling_order.specs.Completed.{counted, Completed, endingOf, asksIn, repliesAt}
 use Rattle.polling_order.specs.Order.{Reordered, OneReply, OneReplyEach}

@@ -12,7 +12,7 @@ use Rattle.log_cell.specs.Cell.{CountsFit}
 use Rattle.log_cell.specs.declared.cell.Cell.the-variants.{Gap}
 use Rattle.day_rows.specs.LogAndRows.{LogAndRows}
 use Rattle.logger.specs.Book.{isZero, cameFirst}
-use Rattle.logger.specs.Reply.{Row}
+use Rattle.wire_values.specs.declared.row.Row.{Row}
 use Rattle.claims.specs.Demand3.{Start}
 use Rattle.polling_order.specs.Completed.{Completed}
 use Rattle.polling_order.specs.Rounds.{Closing, Round}
@@ -24,10 +24,10 @@ roundOf address day slot closing = record { address = address; day = day; slot =
 -- the frame of a reply with result 0 and four counts: "Data: E+, E-, R+, R-, 2 bytes each"
 unfoldable pub replyWith : ℕ → Row → List ℕ
 replyWith address r =
-    framed (address ∷ read ∷ slice ∷ 0 ∷ (bytesOf 2 (r .e+) ++ (bytesOf 2 (r .e-) ++ (bytesOf 2 (r .r+) ++ bytesOf 2 (r .r-)))))
+    framed (address ∷ read ∷ slice ∷ 0 ∷ (bytesOf 2 (r .«e_plus») ++ (bytesOf 2 (r .«e_minus») ++ (bytesOf 2 (r .«r_plus») ++ bytesOf 2 (r .«r_minus»)))))
 
 abbrev pub RowFits : Row → Type 0
-RowFits r = CountsFit (r .e+) (r .e-) (r .r+) (r .r-)
+RowFits r = CountsFit (r .«e_plus») (r .«e_minus») (r .«r_plus») (r .«r_minus»)
 
 -- of completed asks none is for the interval of another
 abbrev pub OnceEach : List Completed → Type 0

@@ -14,6 +14,8 @@ use Rattle.reader.specs.declared.form.Form.{Form}
 use Rattle.reader.specs.declared.form.Form.the-variants.{WellFormed, Faulty}
 use Rattle.reader.specs.declared.form.Fault.{Fault}
 use Rattle.reader.specs.declared.form.Fault.the-variants as fault
+use Rattle.reader.specs.declared.form.Reply.{Reply}
+use Rattle.reader.specs.declared.form.Reply.the-variants.{Malformed, Refused, Answered}
 
 -- "6 with the function's top bit set, else that of its request"
 unfoldable pub lengthFor : ℕ → ℕ → ℕ
@@ -44,6 +46,21 @@ formOf address function parameter full y =
     (cond (crcFits y) (headOf address function parameter y) (Faulty fault.Crc))
     (Faulty (fault.Length (length y)))
 
+-- by its form and its result: 24 is "meter's result not 0; returned"
+abbrev pub byForm : Form → ℕ → Reply
+byForm (Faulty fault) result = Malformed fault
+byForm WellFormed result = cond (eqb result 0) Answered (Refused result)
+
+-- what a reply y comes to, before its figures are looked at
+unfoldable pub replyOf : ℕ → ℕ → ℕ → ℕ → List ℕ → Reply
+replyOf address function parameter full y = byForm (formOf address function parameter full y) (byteAt y resultPlace)
+
+-- one value by what is wrong with a reply, one by a result that is not 0, else another
+abbrev pub ifReply : {A : Type 0} → Reply → (Fault → A) → (ℕ → A) → A → A
+ifReply (Malformed fault) f g other = f fault
+ifReply (Refused result) f g other = g result
+ifReply Answered f g other = other
+
 -- "50 length, 51 CRC, 52 address, 53 function, or a top bit that belies the result, 54 parameter"
 abbrev pub faultNumber : Fault → ℕ
 faultNumber (fault.Length n) = 50
@@ -52,10 +69,10 @@ faultNumber fault.Address = 52
 faultNumber fault.Function = 53
 faultNumber fault.Parameter = 54
 
--- the length received, which 50 alone tells; 0 with the others
-abbrev pub faultLength : Fault → ℕ
-faultLength (fault.Length n) = n
-faultLength fault.Crc = 0
-faultLength fault.Address = 0
-faultLength fault.Function = 0
-faultLength fault.Parameter = 0
+-- the length received, which 50 alone tells; another with the others
+abbrev pub lengthOr : Fault → ℕ → ℕ
+lengthOr (fault.Length n) other = n
+lengthOr fault.Crc other = other
+lengthOr fault.Address other = other
+lengthOr fault.Function other = other
+lengthOr fault.Parameter other = other

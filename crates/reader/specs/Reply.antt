@@ -5,9 +5,9 @@ use mathlib.Core.Bool.{cond}
 use mathlib.Core.List.{List}
 use Prim.Native.Nat.{ℕ, _+_}
 use lib.Dec.{eqb}
-use Rattle.byte_numbers.specs.Place.{byteAt, numberAt}
+use Rattle.byte_numbers.specs.Place.{byteAt}
 use Rattle.parameters.specs.Code.{readingCode}
-use Rattle.frame.specs.Layout.{resultPlace, bareSize}
+use Rattle.frame.specs.Layout.{bareSize}
 use Rattle.parameters.specs.declared.code.Parameter.{Parameter}
 use Rattle.parameters.specs.declared.code.Parameter.the-variants as parameter
 use Rattle.parameters.specs.declared.code.Reading.{Reading}
@@ -20,6 +20,7 @@ use Rattle.wire_values.specs.Clock.{dateTimeOf}
 use Rattle.wire_values.specs.Displayed.{energiesOf}
 use Rattle.wire_values.specs.Mask.{maskOf}
 use Rattle.wire_values.specs.Power.{powerOf, powersOf}
+use Rattle.wire_values.specs.Row.{rowAt}
 use Rattle.wire_values.specs.Telemetry.{telemetryOf}
 use Rattle.wire_values.specs.declared.displayed.EnergiesAnswer.{EnergiesAnswer}
 use Rattle.wire_values.specs.declared.displayed.EnergiesAnswer.the-variants as energies
@@ -27,23 +28,11 @@ use Rattle.wire_values.specs.declared.power.Power.{Power}
 use Rattle.wire_values.specs.declared.power.Power.the-variants as power
 use Rattle.wire_values.specs.declared.power.PowersAnswer.{PowersAnswer}
 use Rattle.wire_values.specs.declared.power.PowersAnswer.the-variants as powers
-use Rattle.reader.specs.Form.{formOf, faultNumber}
+use Rattle.reader.specs.Form.{replyOf, ifReply, faultNumber}
 use Rattle.reader.specs.Rows.{replyData}
-use Rattle.reader.specs.declared.form.Form.{Form}
-use Rattle.reader.specs.declared.form.Form.the-variants.{WellFormed, Faulty}
 use Rattle.reader.specs.declared.reply.Decoded.{Decoded}
 use Rattle.reader.specs.declared.reply.Decoded.the-variants.{OutOfRange, Malformed, MeterRefused, NotFinite, Address, Telemetry, DateTime}
 use Rattle.reader.specs.declared.reply.Decoded.the-variants.{DisplayMask, Powers, OnePower, Slice, SixSlices, Displayed}
-use Rattle.reader.specs.declared.reply.Slice.{Slice as FourCounts}
-
--- "E+, E-, R+, R-, 2 bytes each"
-unfoldable pub countsOf : List ℕ → FourCounts
-countsOf bs = record {
-  «e_plus» = record { 0 = numberAt bs 0 2 };
-  «e_minus» = record { 0 = numberAt bs 2 2 };
-  «r_plus» = record { 0 = numberAt bs 4 2 };
-  «r_minus» = record { 0 = numberAt bs 6 2 };
-}
 
 -- 26 is for "power reply with an infinity or no number"
 abbrev pub powersFigure : PowersAnswer → Decoded
@@ -65,7 +54,7 @@ phaseFigures detail bs = cond (eqb detail 0) (powersFigure (powersOf bs)) (power
 
 -- the figures that the data of a reply hold, as they are stored
 unfoldable pub readFigures : Parameter → ℕ → List ℕ → Decoded
-unfolding phaseFigures countsOf
+unfolding phaseFigures
 readFigures parameter.ActivePower detail bs = phaseFigures detail bs
 readFigures parameter.ReactivePower detail bs = phaseFigures detail bs
 readFigures parameter.Address detail bs = Address (byteAt bs 0)
@@ -74,7 +63,7 @@ readFigures parameter.SummerDate detail bs = DateTime (dateTimeOf bs)
 readFigures parameter.WinterDate detail bs = DateTime (dateTimeOf bs)
 readFigures parameter.Clock detail bs = DateTime (dateTimeOf bs)
 readFigures parameter.DisplayMask detail bs = DisplayMask (maskOf bs)
-readFigures parameter.Slice detail bs = Slice (countsOf bs)
+readFigures parameter.Slice detail bs = Slice (rowAt bs 0)
 readFigures parameter.SixSlices detail bs = SixSlices
 readFigures parameter.Password detail bs = OutOfRange
 readFigures parameter.Unknown detail bs = OutOfRange
@@ -89,21 +78,13 @@ abbrev pub figuresOf : Subject → List ℕ → Decoded
 figuresOf (Figures reading p detail) bs = readAs reading p detail bs
 figuresOf Nothing bs = OutOfRange
 
--- a well-formed reply: 24 with the meter's result, else its figures
-unfoldable pub repliedOf : Subject → List ℕ → Decoded
-repliedOf s y = cond (eqb (byteAt y resultPlace) 0) (figuresOf s (replyData y)) (MeterRefused (byteAt y resultPlace))
-
-formed : Form → Subject → List ℕ → Decoded
-unfolding repliedOf
-formed WellFormed s y = repliedOf s y
-formed (Faulty fault) s y = Malformed fault
-
 -- a reply y decoded against the request q: 27, 50 to 54, 24, 26
 unfoldable pub decodedOf : Request → List ℕ → Decoded
-unfolding formed
 decodedOf q y =
     let s = subjectOf q mostSlots in
-    cond (askable s) (formed (formOf (q .address) (readingCode (q .reading)) (q .parameter) (bareSize + dataBytes s) y) s y) OutOfRange
+    cond (askable s)
+    (ifReply (replyOf (q .address) (readingCode (q .reading)) (q .parameter) (bareSize + dataBytes s) y) Malformed MeterRefused (figuresOf s (replyData y)))
+    OutOfRange
 
 -- document 01's numbers, and document 02's of a reply that is not well formed
 abbrev pub numberOf : Decoded → ℕ

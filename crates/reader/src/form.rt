@@ -1,8 +1,8 @@
-// Whether a reply is well formed, and what is wrong with it first.
+// What a reply comes to, before its figures are looked at: whether it is well formed, what is wrong with it first, and the meter's result.
 use frame::layout;
 use parameters::code;
 ghost use mathlib.Core.Path.{_≡_};
-ghost use Rattle.reader.specs.Form.{formOf, headOf, lengthFor, functionFor, faultNumber};
+ghost use Rattle.reader.specs.Form.{replyOf, formOf, headOf, lengthFor, functionFor, faultNumber, lengthOr};
 
 // What is wrong with a reply, in the order in which it is looked for.
 pub enum Fault {
@@ -20,6 +20,14 @@ pub enum Form {
     Faulty(Fault),
 }
 
+pub enum Reply {
+    Malformed(Fault),
+    // The meter's result, which is not 0.
+    Refused(u8),
+    // Behind the result stand the figures.
+    Answered,
+}
+
 impl Fault {
     // Document 02's number.
     pub fn number(self) -> u8
@@ -33,10 +41,38 @@ impl Fault {
             Fault::Parameter => refusal::REPLY_PARAMETER,
         }
     }
+
+    // How many bytes came, which a wrong length alone tells.
+    pub fn length_or(self, other: usize) -> usize
+        ensures { λ r. ⌜ r ≡ lengthOr self other ⌝ }
+    {
+        match self {
+            Fault::Length(n) => n,
+            Fault::Crc => other,
+            Fault::Address => other,
+            Fault::Function => other,
+            Fault::Parameter => other,
+        }
+    }
 }
 
-// The form of a reply to a request with `function` and `parameter` sent to `address`, whose full reply has `full` bytes.
-pub fn form_of(address: u8, function: u8, parameter: u8, full: usize, reply: &[u8]) -> Form
+// What a reply comes to: one to a request with `function` and `parameter` sent to `address`, whose full reply has `full` bytes.
+pub fn reply_of(address: u8, function: u8, parameter: u8, full: usize, reply: &[u8]) -> Reply
+    ensures { λ r. ⌜ r ≡ replyOf address function parameter full (now (reply .entry)) ⌝ }
+{
+    if let Form::Faulty(fault) = form_of(address, function, parameter, full, reply) {
+        return Reply::Malformed(fault);
+    }
+    let result = byte_numbers::byte_at(reply, layout::RESULT);
+    if result == code::OK {
+        Reply::Answered
+    } else {
+        Reply::Refused(result)
+    }
+}
+
+// Its form.
+fn form_of(address: u8, function: u8, parameter: u8, full: usize, reply: &[u8]) -> Form
     ensures { λ r. ⌜ r ≡ formOf address function parameter full (now (reply .entry)) ⌝ }
 {
     let length = length_for(byte_numbers::byte_at(reply, layout::FUNCTION), full);

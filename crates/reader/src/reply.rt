@@ -1,9 +1,8 @@
 // Replies decoded against their request.
 use crate::form::Fault;
-use crate::form::Form;
-use crate::form::form_of;
+use crate::form::Reply;
+use crate::form::reply_of;
 use calendar::DateTime;
-use energy::Counts;
 use frame::layout;
 use parameters::code;
 use parameters::code::Parameter;
@@ -16,18 +15,11 @@ use wire_values::EnergiesAnswer;
 use wire_values::Power;
 use wire_values::Powers;
 use wire_values::PowersAnswer;
+use wire_values::Row;
 use wire_values::Telemetry;
 ghost use mathlib.Core.Path.{_≡_};
-ghost use Rattle.reader.specs.Reply.{countsOf, powersFigure, powerFigure, phaseFigures, energiesFigure};
-ghost use Rattle.reader.specs.Reply.{readFigures, readAs, figuresOf, repliedOf, decodedOf, numberOf};
-
-// The counts of one slice.
-pub struct Slice {
-    pub e_plus: Counts,
-    pub e_minus: Counts,
-    pub r_plus: Counts,
-    pub r_minus: Counts,
-}
+ghost use Rattle.reader.specs.Reply.{powersFigure, powerFigure, phaseFigures, energiesFigure};
+ghost use Rattle.reader.specs.Reply.{readFigures, readAs, figuresOf, decodedOf, numberOf};
 
 pub enum Decoded {
     // A request that no record would answer with 0.
@@ -43,7 +35,8 @@ pub enum Decoded {
     DisplayMask(DisplayMask),
     Powers(Powers),
     OnePower(f32),
-    Slice(Slice),
+    // The counts of one slice.
+    Slice(Row),
     // `six_slices` has the rows.
     SixSlices,
     // A slice as the display shows it.
@@ -80,29 +73,20 @@ pub fn decode(q: Request, reply: &[u8]) -> Decoded
     if request::is_askable(subject) {
         let full = layout::BARE_BYTES + request::data_bytes(subject);
         let reading = q.reading;
-        match form_of(
+        match reply_of(
             q.address,
             code::reading_code(reading),
             q.parameter,
             full,
             reply,
         ) {
-            Form::WellFormed => replied(subject, reply),
-            Form::Faulty(fault) => Decoded::Malformed(fault),
+            Reply::Malformed(fault) => Decoded::Malformed(fault),
+            Reply::Refused(result) => Decoded::MeterRefused(result),
+            Reply::Answered => figures_of(subject, byte_numbers::tail(reply, layout::DATA)),
         }
     } else {
         Decoded::OutOfRange
     }
-}
-
-fn replied(subject: Subject, reply: &[u8]) -> Decoded
-    ensures { λ r. ⌜ r ≡ repliedOf subject (now (reply .entry)) ⌝ }
-{
-    let result = byte_numbers::byte_at(reply, layout::RESULT);
-    if result != code::OK {
-        return Decoded::MeterRefused(result);
-    }
-    figures_of(subject, byte_numbers::tail(reply, layout::DATA))
 }
 
 fn figures_of(subject: Subject, bytes: &[u8]) -> Decoded
@@ -145,7 +129,7 @@ fn read_figures(p: Parameter, detail: u8, bytes: &[u8]) -> Decoded
         Parameter::WinterDate => Decoded::DateTime(wire_values::date_time_of(bytes)),
         Parameter::Clock => Decoded::DateTime(wire_values::date_time_of(bytes)),
         Parameter::DisplayMask => Decoded::DisplayMask(wire_values::display_mask(bytes)),
-        Parameter::Slice => Decoded::Slice(counts_of(bytes)),
+        Parameter::Slice => Decoded::Slice(wire_values::row_at(bytes, 0)),
         Parameter::SixSlices => Decoded::SixSlices,
         Parameter::Password => Decoded::OutOfRange,
         Parameter::Unknown => Decoded::OutOfRange,
@@ -177,16 +161,5 @@ fn power_figure(p: Power) -> Decoded
     match p {
         Power::Finite(power) => Decoded::OnePower(power),
         Power::NotFinite => Decoded::NotFinite,
-    }
-}
-
-fn counts_of(bytes: &[u8]) -> Slice
-    ensures { λ r. ⌜ r ≡ countsOf (now (bytes .entry)) ⌝ }
-{
-    Slice {
-        e_plus: Counts(byte_numbers::u16_at(bytes, 0) as u32),
-        e_minus: Counts(byte_numbers::u16_at(bytes, 2) as u32),
-        r_plus: Counts(byte_numbers::u16_at(bytes, 4) as u32),
-        r_minus: Counts(byte_numbers::u16_at(bytes, 6) as u32),
     }
 }

@@ -3,3 +3,4 @@ pub mod Telemetry
 pub mod Mask
 pub mod Power
 pub mod Displayed
+pub mod Row

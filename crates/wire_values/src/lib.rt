@@ -6,6 +6,7 @@ mod clock;
 mod displayed;
 mod mask;
 mod power;
+mod row;
 mod telemetry;
 
 pub use clock::date_time_of;
@@ -30,6 +31,10 @@ pub use power::powers_of;
 pub use power::put_phases;
 pub use power::put_power;
 pub use power::put_powers;
+pub use row::Row;
+pub use row::put_row;
+pub use row::row_at;
+pub use row::row_of;
 pub use telemetry::Telemetry;
 pub use telemetry::put_telemetry;
 pub use telemetry::telemetry_of;

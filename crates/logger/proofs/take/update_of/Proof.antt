@@ -19,6 +19,9 @@ filled-with-requires-2 c κs = search needs
 enum-known-cell : tie.Need-enum-known-cell
 enum-known-cell c = search needs
 
+row-of-requires : tie.Need-row-of-requires
+row-of-requires c κs = search needs
+
 compared-with-requires : tie.Need-compared-with-requires
 compared-with-requires c κs = search needs
 
@@ -33,8 +36,8 @@ returns-2 c = simp (c .before .enum-told2 .given .1, c .filled-with2 .ensures)
 returns-3 : tie.Need-returns-3
 unfolding updateOf
 returns-3 c =
-    let cell = c .before .before .cell in
-    simp (cell .given .1, c .compared-with .ensures)
+    let at-cell = c .before .before .before .cell in
+    simp (at-cell .given .1, c .compared-with .ensures, c .before .row-of .ensures)
 
 pub update-of-spec : {M : Type 1} → statement M
 update-of-spec =
@@ -45,6 +48,7 @@ update-of-spec =
     enum-told-2
     filled-with-requires-2
     enum-known-cell
+    row-of-requires
     compared-with-requires
     returns
     returns-2

@@ -1,11 +1,7 @@
 -- The bytes are an ask or none, and each case of `lapseForC` is what the callees leave (`lapse-read`).
 use Rattle.metlazuel.proofs.LogLaws.{lapse-read}
-use Rattle.metlazuel.specs.LogCalls.{lapseForC, lapsedForC}
-use Rattle.refusal.specs.Outcome.{Outcome}
-use Rattle.logger.specs.declared.no_reply.Lapsed.{Lapsed}
-use mathlib.Core.Path.{sym, ap, _∙_}
-use mathlib.Core.List.{List}
-use Prim.Native.Nat.{ℕ}
+use Rattle.metlazuel.specs.LogCalls.{lapseForC}
+use mathlib.Core.Path.{sym, _∙_}
 use borrow.Author.Needs.{needs}
 use Rattle.metlazuel.proofs.log_calls.metlazuel_lapse.Statement.{statement}
 use Rattle.metlazuel.proofs.log_calls.metlazuel_lapse.Tie as tie
@@ -29,14 +25,11 @@ returns c = simp (sym (c .before .before .ask-of .ensures) ∙ c .enum-told .giv
 lapse-requires : tie.Need-lapse-requires
 lapse-requires c κs = search needs
 
-number-requires : tie.Need-number-requires
-number-requires c κs = search needs
-
-lapse-closes-requires : tie.Need-lapse-closes-requires
-lapse-closes-requires c κs = search needs
-
 put-left-requires : tie.Need-put-left-requires
 put-left-requires c κs = search needs
+
+number-requires : tie.Need-number-requires
+number-requires c κs = search needs
 
 same-length-2 : tie.Need-same-length-2
 same-length-2 c = search needs
@@ -47,13 +40,11 @@ same-length-3 c = search needs
 returns-2 : tie.Need-returns-2
 unfolding lapseForC
 returns-2 c =
-    let at-ask-of = c .before .before .before .before .before .before .before .before .before .before .before .before .before .ask-of in
-    let at-held = c .before .before .before .before .before .before .before .before .before .before .before .held in
-    let at-lapse-closes = c .before .before .before .lapse-closes in
-    let at-number = c .before .before .before .before .before .number in
-    let at-lapse = c .before .before .before .before .before .before .before .before .lapse in
-    rw (sym (at-ask-of .ensures) ∙ at-held .given .1)
-    (lapse-read _ _ _ _ _ _ _ _ (at-lapse .ensures) (at-number .ensures) (at-lapse-closes .ensures) (c .before .before .put-left .ensures))
+    let at-ask-of = c .before .before .before .before .before .before .before .before .before .before .before .before .ask-of in
+    let at-held = c .before .before .before .before .before .before .before .before .before .before .held in
+    let at-lapse = c .before .before .before .before .before .before .before .lapse in
+    let at-put-left = c .before .before .before .put-left in
+    rw (sym (at-ask-of .ensures) ∙ at-held .given .1) (lapse-read _ _ _ _ _ _ _ (at-lapse .ensures) (c .number .ensures) (at-put-left .ensures))
 
 pub metlazuel-lapse-spec : {M : Type 1} → statement M
 metlazuel-lapse-spec =
@@ -65,9 +56,8 @@ metlazuel-lapse-spec =
     same-length
     returns
     lapse-requires
-    number-requires
-    lapse-closes-requires
     put-left-requires
+    number-requires
     same-length-2
     same-length-3
     returns-2)

@@ -55,8 +55,8 @@ display-mask-requires c κs = search needs
 enum-told-9 : tie.Need-enum-told-9
 enum-told-9 c = search needs
 
-counts-of-requires : tie.Need-counts-of-requires
-counts-of-requires c κs = search needs
+row-at-requires : tie.Need-row-at-requires
+row-at-requires c κs = search needs
 
 enum-told-10 : tie.Need-enum-told-10
 enum-told-10 c = search needs
@@ -101,7 +101,7 @@ returns-8 c = simp (c .before .enum-told8 .given .1, c .display-mask .ensures)
 
 returns-9 : tie.Need-returns-9
 unfolding readFigures
-returns-9 c = simp (c .before .enum-told9 .given .1, c .counts-of .ensures)
+returns-9 c = simp (c .before .enum-told9 .given .1, c .row-at .ensures)
 
 returns-10 : tie.Need-returns-10
 unfolding readFigures
@@ -136,7 +136,7 @@ read-figures-spec =
     enum-told-8
     display-mask-requires
     enum-told-9
-    counts-of-requires
+    row-at-requires
     enum-told-10
     enum-told-11
     enum-told-12
