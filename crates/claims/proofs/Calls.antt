@@ -1,10 +1,11 @@
 -- Demand 1, call by call: each definition ends in one of its answers, and all but 0 hand back what was lent.
-use mathlib.Core.Path.{_≡_, refl, _∙_}
+use mathlib.Core.Path.{_≡_, refl, ap₂, _∙_}
 use mathlib.Core.Bool.{Bool, true, false, cond, _&&_, false≢true}
 use mathlib.Core.List.{List}
 use Prim.Native.Nat.{ℕ, _-_}
 use lib.Dec.{eqb, leb, ltb}
 use lib.ListN.{length}
+use borrow.Author.Tests.{ne-eqb}
 use Rattle.test_laws.proofs.Test.{either}
 use Rattle.refusal.specs.Outcome.{Outcome, outcome, check}
 use Rattle.frame.specs.Layout.{readSize}
@@ -52,6 +53,7 @@ use Rattle.day_rows.specs.Fresh.{freshWith}
 use Rattle.day_rows.specs.Rows.{rowAt}
 use Rattle.day_report.specs.Report as report
 use Rattle.day_report.specs.Text as text
+use Rattle.day_report.specs.declared.answer.TextAnswer.{TextAnswer}
 use Rattle.day_report.specs.Day as day
 use Rattle.day_report.specs.Strip as strip
 use Rattle.log_file.specs.Row as file
@@ -59,7 +61,9 @@ use Rattle.log_file.specs.Row.{lapsesIn}
 use Rattle.log_file.specs.File.{isVersion, fileHeader, fileLengthAs, fileLength, cellsRight}
 use Rattle.log_file.specs.Read as reading
 use Rattle.log_file.specs.Write as writing
+use Rattle.log_file.specs.declared.read.ReadAnswer.{ReadAnswer}
 use Rattle.report_page.specs.Page as page
+use Rattle.report_page.specs.declared.page.Page.{Page}
 use Rattle.logger.specs.Ask as asking
 use Rattle.logger.specs.Book as book
 use Rattle.logger.specs.Run.{State, state, step}
@@ -217,20 +221,35 @@ write-file v out =
     by-check P (leb (fileLength h) (length out)) (stays 1 out refl) (
     by-check P (cellsRight h (v .cell) (v .lapses)) (stays 28 out refl) (done out _)))
 
--- ---- what is printed for a file, which is read into room of the call's own
+-- ---- what is printed for a file that was read
 
-pub put-page-line : (f : List ℕ) (i : ℕ) (out : List ℕ) → EndsBy text.textNumber out (page.pageLine f i out)
-unfolding page.pageLine page.readLine page.reportLine page.refusedLine inTable
-put-page-line f i out =
+read-line : (read : ReadAnswer) (given : LogAndRows) (i : ℕ) (out : List ℕ) → EndsBy text.textNumber out (page.readLine read given i out)
+unfolding page.readLine page.reportLine page.refusedLine inTable
+read-line read given i out =
     let P = EndsBy text.textNumber out in
-    let o = reading.readFile f page.room page.figuresRoom in
-    either P (eqb (reading.readNumber (o .result)) 0)
-    (either P (eqb i 0) (put-text _ out) (put-day _ (o .left .figures) (i - 1) out))
+    either P (eqb (reading.readNumber read) 0)
+    (either P (eqb i 0) (put-text _ out) (put-day _ (given .figures) (i - 1) out))
     (either P (eqb i 0) (put-text _ out) (stays 22 out refl))
 
-pub put-strip-line : (f : List ℕ) (d : ℕ) (out : List ℕ) → EndsBy text.textNumber out (page.stripLine f d out)
-unfolding page.stripLine
-put-strip-line f d out = put-strip _ d out
+-- a line that was not put leaves the page where it was
+same-page : (p : Page) (a : TextAnswer) → (text.textNumber a ≡ 0 → ⊥) → page.pageAfter a p ≡ p
+unfolding page.pageAfter
+same-page p a q = simp (ne-eqb _ _ q)
+
+goes-on : (p : Page) (out : List ℕ) (o : Outcome TextAnswer (List ℕ)) → EndsBy text.textNumber out o → let l = page.goesOn p o in
+    Ends {A = Page × List ℕ} (text.textNumber (l .result .answer)) (p, out) (l .result .after, l .left)
+goes-on p out o e =
+    record { in-table = e .in-table; unchanged = λ q. ap₂ (λ (x : Page) (y : List ℕ). (x, y)) (same-page p (o .result) q) (e .unchanged q) }
+
+pub put-next-line : (p : Page) (given : LogAndRows) (out : List ℕ) → let o = page.nextLine p given out in
+    Ends {A = Page × List ℕ} (text.textNumber (o .result .answer)) (p, out) (o .result .after, o .left)
+unfolding page.nextLine
+put-next-line p given out = goes-on p out (page.readLine (p .read) given (p .next) out) (read-line (p .read) given (p .next) out)
+
+pub put-next-strip : (p : Page) (log out : List ℕ) → let o = page.nextStrip p log out in
+    Ends {A = Page × List ℕ} (text.textNumber (o .result .answer)) (p, out) (o .result .after, o .left)
+unfolding page.nextStrip page.readStrip
+put-next-strip p log out = goes-on p out (page.readStrip (p .read) log (p .next) out) (put-strip _ (p .next) out)
 
 -- ---- asks, lapses and replies
 

@@ -30,7 +30,10 @@ use Rattle.day_rows.proofs.RowsLaws.{right-enough}
 use Rattle.day_report.specs.Day.{dayOnText, dayText}
 use Rattle.day_report.specs.Report.{reportOf}
 use Rattle.day_report.specs.Text.{lineText, putText}
-use Rattle.report_page.specs.Page.{reportLine}
+use Rattle.day_report.specs.declared.answer.TextAnswer.{TextAnswer}
+use Rattle.log_file.specs.declared.read.ReadAnswer.{ReadAnswer}
+use Rattle.report_page.specs.Page.{reportLine, ReadOf, pageAt, goesOn, nextLine, nextStrip, pageLine, stripLine}
+use Rattle.report_page.proofs.PageLaws.{line-of-file, strip-of-file}
 use Rattle.day_report.specs.declared.report.ReportAnswer.the-variants as report
 use Rattle.logger.specs.Book.{Call, ask, lapse, reply, Answer, Book, plain, faultAnswer, keptAnswer, First, none, counts, firstOf, alike, isZero, placeOf}
 use Rattle.logger.specs.Book.{countsIn, keepReply, bookReply, bookAsk, bookLapse, bookStep, bookRun, runOf, AllBytes}
@@ -114,6 +117,17 @@ pub page-line : (b : LogAndRows) (start : Start b) (calls : List Call) → AllBy
 page-line b start calls k d date out q =
     let s = ran b calls .left in
     by-day (s .log) (s .figures) d out ∙ line b start calls k d date out q
+
+-- what was read is the file's
+pub next-line : (f : List ℕ) (read : ReadAnswer) (given : LogAndRows) → ReadOf f read given → (i : ℕ) (out : List ℕ)
+    → nextLine (pageAt read i) given out ≡ goesOn (pageAt read i) (pageLine f i out)
+unfolding nextLine
+next-line f read given e i out = ap (λ (o : Outcome TextAnswer (List ℕ)). goesOn (pageAt read i) o) (line-of-file f read given i out e)
+
+pub next-strip : (f : List ℕ) (read : ReadAnswer) (given : LogAndRows) → ReadOf f read given → (d : ℕ) (out : List ℕ)
+    → nextStrip (pageAt read d) (given .log) out ≡ goesOn (pageAt read d) (stripLine f d out)
+unfolding nextStrip
+next-strip f read given e d out = ap (λ (o : Outcome TextAnswer (List ℕ)). goesOn (pageAt read d) o) (strip-of-file f read given d out e)
 
 pub polled : (b : LogAndRows) (start : Start b) (c : LogAndRows) → Polled b c → Right (start .header) (viewOf (c .log) .cell) (c .figures)
 polled b start c p =

@@ -25,7 +25,8 @@ use Rattle.day_report.specs.Day.{dayText}
 use Rattle.day_report.specs.Report.{reportOf}
 use Rattle.day_report.specs.Text.{lineText, putText}
 use Rattle.day_report.specs.declared.report.ReportAnswer.the-variants as report
-use Rattle.report_page.specs.Page.{reportLine}
+use Rattle.report_page.specs.Page.{reportLine, ReadOf, pageAt, goesOn, nextLine, nextStrip, pageLine, stripLine}
+use Rattle.log_file.specs.declared.read.ReadAnswer.{ReadAnswer}
 use Rattle.logger.specs.Book.{Call, plain, AllBytes}
 use Rattle.logger.specs.Held.{OpenFor}
 use Rattle.logger.specs.Run.{State, step}
@@ -54,6 +55,11 @@ pub record DayFigures : Type 0 where
   pub page-line : (b : LogAndRows) (start : Start b) (calls : List Call) → AllBytes calls → let s = ran b calls .left in
       (d : ℕ) (date : Date) (out : List ℕ) → dayDate (start .header) d ≡ On date
       → reportLine (s .log) (s .figures) (d + 1) out ≡ putText (lineText date (walked (start .header) (viewOf (s .log) .cell) d)) out
+  -- the page of a file is read once and goes on line by line: the next line, or strip, of what was read is that line of the file's bytes
+  pub next-line : (f : List ℕ) (read : ReadAnswer) (given : LogAndRows) → ReadOf f read given → (i : ℕ) (out : List ℕ)
+      → nextLine (pageAt read i) given out ≡ goesOn (pageAt read i) (pageLine f i out)
+  pub next-strip : (f : List ℕ) (read : ReadAnswer) (given : LogAndRows) → ReadOf f read given → (d : ℕ) (out : List ℕ)
+      → nextStrip (pageAt read d) (given .log) out ≡ goesOn (pageAt read d) (stripLine f d out)
   -- no call alters the figures of another day than that of the cell whose ask was open before it, or how many there are, whatever is lent
   pub other-days : (s : State) (c : Call) (d : ℕ) → OtherDay s d → rowAt (step s c .left .figures) d ≡ rowAt (s .figures) d
   pub as-many : (s : State) (c : Call) → length (step s c .left .figures) ≡ length (s .figures)

@@ -39,6 +39,7 @@ use Rattle.day_report.specs.Strip as strip
 use Rattle.log_file.specs.Read as reading
 use Rattle.log_file.specs.Write as writing
 use Rattle.report_page.specs.Page as page
+use Rattle.report_page.specs.declared.page.Page.{Page}
 use Rattle.logger.specs.Ask as asking
 use Rattle.logger.specs.Take as taking
 use Rattle.logger.specs.Book as book
@@ -103,8 +104,10 @@ pub record Demand1 : Type 0 where
   pub put-strip : (v : View) (d : ℕ) (out : List ℕ) → EndsBy text.textNumber out (strip.stripText v d out)
   pub read-file : (f out figs : List ℕ) → EndsBy reading.readNumber (logAndRows out figs) (reading.readFile f out figs)
   pub write-file : (v : View) (out : List ℕ) → EndsBy writing.writeNumber out (writing.writtenFile v out)
-  pub put-page-line : (f : List ℕ) (i : ℕ) (out : List ℕ) → EndsBy text.textNumber out (page.pageLine f i out)
-  pub put-strip-line : (f : List ℕ) (d : ℕ) (out : List ℕ) → EndsBy text.textNumber out (page.stripLine f d out)
+  pub put-next-line : (p : Page) (given : LogAndRows) (out : List ℕ) → let o = page.nextLine p given out in
+      Ends {A = Page × List ℕ} (text.textNumber (o .result .answer)) (p, out) (o .result .after, o .left)
+  pub put-next-strip : (p : Page) (log out : List ℕ) → let o = page.nextStrip p log out in
+      Ends {A = Page × List ℕ} (text.textNumber (o .result .answer)) (p, out) (o .result .after, o .left)
   -- "but the short refusal frame where the table gives one": what a refused command leaves in the output, how many bytes of it are the reply
   pub answer-output : (r : Record) (s f out : List ℕ) → let o = meter.answerOf r s f out in (answerNumber o ≡ 0 → ⊥)
       → o .out ≡ cond (givesFrame (answerNumber o)) (written out 0 (framed (meter.headOf (o .answer .verdict) f))) out

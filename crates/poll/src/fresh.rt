@@ -1,15 +1,14 @@
 // The file of a fresh log.
 use crate::arguments;
 use crate::arguments::Start;
-use crate::part::file_of;
-use crate::part::front;
-use crate::say;
 use day_rows::FIGURES_MOST;
 use log::FreshAnswer;
-use log_file::FILE_MOST;
-use log_file::WriteAnswer;
 use log_header::Header;
 use log_header::IMAGE_MOST;
+use paths_and_locks::front;
+use poll_days::SaveAnswer;
+use poll_days::Way;
+use poll_words::say;
 
 // Whether it was made; where not, that is said.
 pub fn make() -> bool {
@@ -32,13 +31,9 @@ fn made_of(path: &[u8], h: Header) -> bool {
 }
 
 fn put(path: &[u8], image: &[u8]) -> bool {
-    let mut file = [0u8; FILE_MOST];
-    let answer = log_file::write_file(image, &mut file);
-    let WriteAnswer::Done(n) = answer else {
-        return say::refused(path, answer.number());
-    };
-    if file_io::made(path, file_of(image, &file, n)) {
-        return true;
+    match poll_days::saved(Way::New, path, image) {
+        SaveAnswer::Done => true,
+        SaveAnswer::Refused(number) => say::refused(path, number),
+        SaveAnswer::Failed => say::failed(path),
     }
-    say::failed(path)
 }

@@ -1,8 +1,8 @@
 // One poll at a time: a lock for the log's file, beside it, and one for the line, by the custom of serial programs.
-use crate::part::front;
-use crate::say;
 use file_io::Lock;
 use file_io::PathAnswer;
+use paths_and_locks::front;
+use poll_words::say;
 
 // What a lock is for.
 pub enum Kind {

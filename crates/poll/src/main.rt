@@ -1,18 +1,16 @@
 // Polls a meter on a serial line for the intervals of a log that are still gaps, makes the file of a fresh log, or reads a Mercury 206.
 // What is asked, what a reply does to the log and what the report says are decided in the libraries.
 mod arguments;
-mod days;
 mod fresh;
 mod help;
 mod locks;
 mod mercury_meter;
 mod meter;
-mod part;
 mod reading;
 mod report;
-mod say;
 mod session;
-mod wire;
+
+use poll_words::say;
 
 // The arguments of each form, the program's own name among them.
 const NEW_WORDS: usize = 10;

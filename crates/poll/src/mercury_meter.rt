@@ -4,27 +4,15 @@ use crate::arguments::LongArgument;
 use crate::locks;
 use crate::locks::Kind;
 use crate::locks::Taken;
-use crate::part::front;
 use crate::reading;
-use crate::say;
-use crate::wire;
-use crate::wire::Heard;
-use crate::wire::Wire;
-use frame::layout::LONGEST;
 use libc::STDERR_FILENO;
-use mercury::Decoded;
 use mercury::command;
-use mercury::layout::BARE_BYTES;
-
-enum Told {
-    Decoded(Decoded),
-    // No byte came.
-    Silence,
-    // The device did, and that is said.
-    Failed,
-}
-
-const TRIES: u8 = 3;
+use paths_and_locks::front;
+use poll_line::Ask;
+use poll_line::Heard;
+use poll_line::REPLY_ROOM;
+use poll_line::Wire;
+use poll_words::say;
 
 // Whether all went well; where not, what did not is said.
 pub fn read() -> bool {
@@ -80,57 +68,14 @@ fn readings(wire: Wire, device: &[u8], address: u32) -> bool {
 }
 
 fn one(wire: Wire, device: &[u8], address: u32, code: u8) -> bool {
-    match asked(wire, device, address, code) {
-        Told::Decoded(d) => reading::show(device, d),
-        Told::Silence => say::silent_mercury(device, address),
-        Told::Failed => false,
-    }
-}
-
-// Silence and what is no reading are a reason to ask again.
-fn asked(wire: Wire, device: &[u8], address: u32, code: u8) -> Told {
-    let mut told = Told::Silence;
-    let mut turns = TRIES;
-    while 0 < turns {
-        told = asked_once(wire, device, address, code);
-        if is_settled(told) {
-            return told;
-        }
-        if !wire::silent_again(wire, device) {
-            return Told::Failed;
-        }
-        turns -= 1;
-    }
-    told
-}
-
-fn is_settled(told: Told) -> bool {
-    match told {
-        Told::Decoded(d) => d.number() == refusal::DONE,
-        Told::Silence => false,
-        Told::Failed => true,
-    }
-}
-
-fn asked_once(wire: Wire, device: &[u8], address: u32, code: u8) -> Told {
-    let mut frame = [0u8; BARE_BYTES];
-    mercury::put_request(address, code, &mut frame);
-    let mut reply = [0u8; LONGEST];
-    match wire::exchange(wire, device, &frame, reply_bytes(code), &mut reply) {
+    let mut reply = [0u8; REPLY_ROOM];
+    match poll_line::asked(wire, device, Ask::Mercury(address, code), &mut reply) {
         Heard::Bytes(n) => {
             if n == 0 {
-                return Told::Silence;
+                return say::silent_mercury(device, address);
             }
-            Told::Decoded(mercury::decode(address, code, front(&reply, n)))
+            reading::show(device, mercury::decode(address, code, front(&reply, n)))
         }
-        Heard::Failed => Told::Failed,
+        Heard::Failed => false,
     }
-}
-
-fn reply_bytes(code: u8) -> usize {
-    let n = command::data_bytes(command::command_of(code));
-    if n < LONGEST {
-        return BARE_BYTES + n;
-    }
-    BARE_BYTES
 }

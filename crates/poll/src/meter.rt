@@ -1,13 +1,12 @@
 // Whether the meter on the line is the log's, and what its clock shows: asked before the first interval.
-use crate::part::front;
-use crate::say;
-use crate::wire;
-use crate::wire::Heard;
-use crate::wire::Wire;
 use calendar::DateTime;
-use frame::layout::LONGEST;
-use frame::layout::READ_BYTES;
 use log_header::Header;
+use paths_and_locks::front;
+use poll_line::Ask;
+use poll_line::Heard;
+use poll_line::REPLY_ROOM;
+use poll_line::Wire;
+use poll_words::say;
 use polling::Learned;
 use polling::Moment;
 use polling::Question;
@@ -27,9 +26,7 @@ enum Told {
     Failed,
 }
 
-const TRIES: u8 = 3;
-
-// So many tries take a second each, at least, where reads wait.
+// The tries take a second each, at least, where reads wait.
 const LEAST_SECONDS: u64 = 2;
 
 pub fn met(wire: Wire, device: &[u8], h: Header, anyway: bool) -> Known {
@@ -118,45 +115,9 @@ fn have_waited(before: u64) -> bool {
     LEAST_SECONDS <= now - before
 }
 
-// Silence and malformed replies are a reason to ask again.
 fn asked(wire: Wire, device: &[u8], question: Question) -> Told {
-    let mut told = Told::Silence;
-    let mut turns = TRIES;
-    while 0 < turns {
-        told = asked_once(wire, device, question);
-        if is_settled(told) {
-            return told;
-        }
-        if !wire::silent_again(wire, device) {
-            return Told::Failed;
-        }
-        turns -= 1;
-    }
-    told
-}
-
-fn is_settled(told: Told) -> bool {
-    match told {
-        Told::Learned(l) => match l {
-            Learned::Malformed(_) => false,
-            _ => true,
-        },
-        Told::Silence => false,
-        Told::Failed => true,
-    }
-}
-
-fn asked_once(wire: Wire, device: &[u8], question: Question) -> Told {
-    let mut frame = [0u8; READ_BYTES];
-    polling::put_question(question, wire.address, &mut frame);
-    let mut reply = [0u8; LONGEST];
-    match wire::exchange(
-        wire,
-        device,
-        &frame,
-        polling::answer_bytes(question),
-        &mut reply,
-    ) {
+    let mut reply = [0u8; REPLY_ROOM];
+    match poll_line::asked(wire, device, Ask::Meter(question), &mut reply) {
         Heard::Bytes(n) => {
             if n == 0 {
                 return Told::Silence;

@@ -1,11 +1,11 @@
 // A Mercury 206's reading, on standard output.
-use crate::say;
 use libc::STDOUT_FILENO;
 use mercury::Decoded;
 use mercury::Frequency;
 use mercury::Load;
 use mercury::Tariffs;
 use mercury::units::TensOfWattHours;
+use poll_words::say;
 
 const TENTH: u64 = 10;
 

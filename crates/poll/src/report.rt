@@ -1,10 +1,11 @@
 // The day report, on standard output.
-use crate::part::front;
 use day_report::LINE_MOST;
 use day_report::STRIP_MOST;
 use day_report::TextAnswer;
 use libc::STDERR_FILENO;
 use libc::STDOUT_FILENO;
+use paths_and_locks::front;
+use poll_words::say;
 
 // A heading, and a line for each day from one on and before another. Where a person looks, the days' strips follow on standard error.
 pub fn show(terminal: bool, path: &[u8], image: &[u8], figures: &[u32], from: u8, end: u8) {
@@ -48,7 +49,7 @@ fn tell(path: &[u8], answer: TextAnswer, text: &[u8]) {
             io::write_all(STDOUT_FILENO, front(text, n));
         }
         _ => {
-            crate::say::refused(path, answer.number());
+            say::refused(path, answer.number());
         }
     }
 }

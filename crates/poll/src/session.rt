@@ -3,24 +3,23 @@ use crate::arguments;
 use crate::arguments::ByteArgument;
 use crate::arguments::Chosen;
 use crate::arguments::Options;
-use crate::days;
-use crate::days::End;
-use crate::days::Plan;
 use crate::locks;
 use crate::locks::Kind;
 use crate::locks::Taken;
 use crate::meter;
 use crate::meter::Known;
-use crate::part::front;
 use crate::report;
-use crate::say;
-use crate::wire::Wire;
 use day_rows::FIGURES_MOST;
 use file_io::FileAnswer;
 use libc::STDERR_FILENO;
 use log_file::ReadAnswer;
 use log_header::Header;
 use log_header::LogHeader;
+use paths_and_locks::front;
+use poll_days::End;
+use poll_days::Plan;
+use poll_line::Wire;
+use poll_words::say;
 
 // One byte more than the longest file has, so that a longer one shows.
 const FILE_ROOM: usize = log_file::FILE_MOST + 1;
@@ -211,7 +210,7 @@ fn polled(
     plan: Plan,
     span: Span,
 ) -> bool {
-    let course = days::poll(
+    let course = poll_days::poll(
         wire,
         plan,
         device,

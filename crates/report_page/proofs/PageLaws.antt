@@ -1,13 +1,14 @@
 -- What follows from the definition of a page: a refusal's line, its length, and its parts written one behind the other; that a file is never
--- refused for want of room; that past the last line there is none; and that each line has room. Assumes nothing.
-use mathlib.Core.Path.{_≡_, refl, sym, _∙_}
-use mathlib.Core.Bool.{true, false, _&&_}
+-- refused for want of room; that past the last line there is none; that the lines of what was read are those of the file; and that each line
+-- has room. Assumes nothing.
+use mathlib.Core.Path.{_≡_, refl, sym, ap, _∙_}
+use mathlib.Core.Bool.{Bool, true, false, _&&_}
 use mathlib.Core.List.{[], _∷_, List, _++_}
 use Prim.Native.Nat.{ℕ, zero, suc, _+_, _-_, _≤_, _<_}
 use native.Mathlib.Omega.{arith}
-use lib.Dec.{leb, eqb}
+use lib.Dec.{leb, ltb, eqb}
 use lib.ListN.{length, replicate, length-append, length-replicate}
-use borrow.Author.Tests.{le-leb, ne-eqb}
+use borrow.Author.Tests.{le-leb, ltb-true, ltb-false, ne-eqb}
 use Rattle.test_laws.proofs.Test.{either}
 use Rattle.refusal.specs.Outcome.{Outcome, outcome, check}
 use Rattle.text.specs.Ascii.{ascii}
@@ -32,12 +33,16 @@ use Rattle.log_file.proofs.FileLaws.{file-header-right}
 use Rattle.log_file.proofs.RowLaws.{read-is-cell}
 use Rattle.log_file.specs.declared.read.ReadAnswer.{ReadAnswer}
 use Rattle.log_file.specs.declared.read.ReadAnswer.the-variants.{Done, WrongMark, WrongVersion, WrongHeader, WrongLength, WrongCrc, WrongCell, TooShort}
-use Rattle.day_report.specs.Text.{lineFeed, headingText, lineMost}
+use Rattle.day_report.specs.Text.{lineFeed, headingText, lineMost, textNumber}
+use Rattle.day_report.specs.declared.answer.TextAnswer.{TextAnswer}
 use Rattle.day_report.proofs.TextLaws.{Never, text-fits}
 use Rattle.log.specs.View.{viewOf}
 use Rattle.day_report.proofs.DayLaws.{line-past, line-room}
 use Rattle.day_report.proofs.StripLaws.{stripMost, strip-past, strip-room}
-use Rattle.report_page.specs.Page.{refusedText, refusedLine, reportLine, imageIn, readLine, room, figuresRoom, pageLine, stripLine}
+use Rattle.report_page.specs.declared.page.Page.{Page}
+use Rattle.report_page.specs.declared.page.Line.{Line}
+use Rattle.report_page.specs.Page.{refusedText, refusedLine, reportLine, imageIn, readLine, readStrip, linesMost}
+use Rattle.report_page.specs.Page.{room, figuresRoom, ReadOf, pageAfter, nextLine, nextStrip, pageLine, stripLine}
 
 pub length-refused : (n : ℕ) → length (refusedText n) ≡ 9 + length (decimal n)
 unfolding refusedText ascii
@@ -136,23 +141,74 @@ module _ (f : List ℕ) (bytes : Bytes f) where
 
 -- ---- past the last line there is none
 
--- the heading, and the lines of the most days
-abbrev pub linesMost : ℕ
-linesMost = daysMost + 1
-
--- 63 lines are all that a page has
-pub page-past : (f : List ℕ) (i : ℕ) (out : List ℕ) → linesMost ≤ i → Never 0 (pageLine f i out)
-unfolding pageLine readLine reportLine refusedLine
-page-past f i out l =
-    let o = readFile f room figuresRoom in
+-- 63 lines are all that a page has, whatever was read
+pub read-past : (read : ReadAnswer) (given : LogAndRows) (i : ℕ) (out : List ℕ) → linesMost ≤ i → Never 0 (readLine read given i out)
+unfolding readLine reportLine refusedLine
+read-past read given i out l =
     let behind : eqb i 0 ≡ false = ne-eqb i 0 (λ e. omega (arith, e)) in
-    either (Never 0) (eqb (readNumber (o .result)) 0)
-    (rw behind (line-past (imageIn (o .result) (o .left .log)) (o .left .figures) (i - 1) out (omega arith))) (rw behind (λ e. omega (arith, e)))
+    either (Never 0) (eqb (readNumber read) 0)
+    (rw behind (line-past (imageIn read (given .log)) (given .figures) (i - 1) out (omega arith))) (rw behind (λ e. omega (arith, e)))
 
 -- 62 strips are all that there are
-pub strips-past : (f : List ℕ) (d : ℕ) (out : List ℕ) → daysMost ≤ d → Never 0 (stripLine f d out)
+pub strips-past : (read : ReadAnswer) (log : List ℕ) (d : ℕ) (out : List ℕ) → daysMost ≤ d → Never 0 (readStrip read log d out)
+unfolding readStrip
+strips-past read log d out l = strip-past (imageIn read log) d out l
+
+-- so a line that was put is below that
+below : (i most : ℕ) (o : Outcome TextAnswer (List ℕ)) → (most ≤ i → Never 0 o) → textNumber (o .result) ≡ 0 → i < most
+below i most o past e = go (ltb i most) refl
+  where
+    go : (b : Bool) → ltb i most ≡ b → i < most
+    go true f = ltb-true i most f
+    go false f = absurd (past (ltb-false i most f) e)
+
+-- for the number of the line behind one that was put
+pub line-below : (read : ReadAnswer) (given : LogAndRows) (i : ℕ) (out : List ℕ) → textNumber (readLine read given i out .result) ≡ 0 → i < linesMost
+line-below read given i out = below i linesMost (readLine read given i out) (read-past read given i out)
+
+-- and of the strip behind one
+pub strip-below : (read : ReadAnswer) (log : List ℕ) (d : ℕ) (out : List ℕ) → textNumber (readStrip read log d out .result) ≡ 0 → d < linesMost
+strip-below read log d out e = omega (arith, below d daysMost (readStrip read log d out) (strips-past read log d out) e)
+
+-- ---- a line of what was read of a file is that line of the file's page
+
+-- for the program, which reads its file once
+pub line-of-file : (f : List ℕ) (read : ReadAnswer) (given : LogAndRows) (i : ℕ) (out : List ℕ) → ReadOf f read given
+    → readLine read given i out ≡ pageLine f i out
+unfolding pageLine
+line-of-file f read given i out e = ap (λ (o : Outcome ReadAnswer LogAndRows). readLine (o .result) (o .left) i out) e
+
+-- and for its strips
+pub strip-of-file : (f : List ℕ) (read : ReadAnswer) (given : LogAndRows) (d : ℕ) (out : List ℕ) → ReadOf f read given
+    → readStrip read (given .log) d out ≡ stripLine f d out
 unfolding stripLine
-strips-past f d out l = let o = readFile f room figuresRoom in strip-past (imageIn (o .result) (o .left .log)) d out l
+strip-of-file f read given d out e = ap (λ (o : Outcome ReadAnswer LogAndRows). readStrip (o .result) (o .left .log) d out) e
+
+-- a page stays that of what was read
+after-read : (p : Page) (a : TextAnswer) → pageAfter a p .read ≡ p .read
+unfolding pageAfter
+after-read p a = either (λ (q : Page). q .read ≡ p .read) (eqb (textNumber a) 0) refl refl
+
+-- what is put into a buffer for a line of what was read is that line of the file's page
+module _ (f : List ℕ) (p : Page) (given : LogAndRows) (out : List ℕ) (l : Line) (text : List ℕ) where
+  -- for the program's lines, from one to the next
+  pub line-read : outcome l text ≡ nextLine p given out → l .after .read ≡ p .read
+  unfolding nextLine
+  line-read e = ap (λ (o : Outcome Line (List ℕ)). o .result .after .read) e ∙ after-read p (readLine (p .read) given (p .next) out .result)
+
+  -- for what it hands over to be printed
+  pub line-put : ReadOf f (p .read) given → outcome l text ≡ nextLine p given out → outcome (l .answer) text ≡ pageLine f (p .next) out
+  unfolding nextLine
+  line-put r e = ap (λ (o : Outcome Line (List ℕ)). outcome (o .result .answer) (o .left)) e ∙ line-of-file f (p .read) given (p .next) out r
+
+  -- the same two of its strips
+  pub strip-read : outcome l text ≡ nextStrip p (given .log) out → l .after .read ≡ p .read
+  unfolding nextStrip
+  strip-read e = ap (λ (o : Outcome Line (List ℕ)). o .result .after .read) e ∙ after-read p (readStrip (p .read) (given .log) (p .next) out .result)
+
+  pub strip-put : ReadOf f (p .read) given → outcome l text ≡ nextStrip p (given .log) out → outcome (l .answer) text ≡ stripLine f (p .next) out
+  unfolding nextStrip
+  strip-put r e = ap (λ (o : Outcome Line (List ℕ)). outcome (o .result .answer) (o .left)) e ∙ strip-of-file f (p .read) given (p .next) out r
 
 -- ---- the longest line's room is enough for each, and so is the longest strip's
 
@@ -186,5 +242,5 @@ page-room f i out bytes l =
     (λ e. omega (arith, e)))
 
 pub strips-room : (f : List ℕ) (d : ℕ) (out : List ℕ) → stripMost ≤ length out → Never 1 (stripLine f d out)
-unfolding stripLine
+unfolding stripLine readStrip
 strips-room f d out l = let o = readFile f room figuresRoom in strip-room (viewOf (imageIn (o .result) (o .left .log))) d out l

@@ -1,9 +1,11 @@
-// The lines of a file's page. A line that the page does not have answers 22.
+// The lines of the page of what was read of a file. A line that the page does not have answers 22.
 ghost use mathlib.Core.Path.{_≡_};
 ghost use lib.ListN.{take};
+ghost use Prim.Native.Nat.{_<_};
 ghost use Rattle.refusal.specs.Outcome.{outcome};
 ghost use Rattle.day_rows.specs.LogAndRows.{logAndRows};
-ghost use Rattle.report_page.specs.Page.{refusedLine, reportLine, readLine, pageLine, stripLine};
+ghost use Rattle.day_report.specs.Text.{textNumber};
+ghost use Rattle.report_page.specs.Page.{linesMost, refusedLine, reportLine, readLine, readStrip, pageAt, lineWith, nextLine, nextStrip};
 use day_report::TextAnswer;
 use log_file::ReadAnswer;
 
@@ -13,24 +15,47 @@ pub const DAYS_MOST: u8 = 62;
 // The heading, and those days' lines.
 pub const LINES_MOST: u8 = DAYS_MOST + 1;
 
-// Line i of what is printed for a file, to the front of out, whose rest stays as it was; a refusal leaves all of it so.
-pub fn put_page_line(file: &[u8], i: u8, out: &mut [u8]) -> TextAnswer
-    ensures { λ r. ⌜ outcome r (now (out .exit)) ≡ pageLine (now (file .entry)) i (now (out .entry)) ⌝ }
-{
-    let mut room = [0u8; log_header::IMAGE_MOST];
-    let mut figures = [0u32; day_rows::FIGURES_MOST];
-    let answer = log_file::read_file(file, &mut room, &mut figures);
-    put_read_line(answer, &room, &figures, i, out)
+// How far a page is: what was read of the file, and which line comes next, or which day's strip.
+pub struct Page {
+    pub read: ReadAnswer,
+    pub next: u8,
 }
 
-// The strip of a day of a file's log, likewise; 28 for a file that is refused.
-pub fn put_strip_line(file: &[u8], day: u8, out: &mut [u8]) -> TextAnswer
-    ensures { λ r. ⌜ outcome r (now (out .exit)) ≡ stripLine (now (file .entry)) day (now (out .entry)) ⌝ }
+// What became of a line, and the page behind it.
+pub struct Line {
+    pub answer: TextAnswer,
+    pub after: Page,
+}
+
+// The page of what was read, before its first line.
+pub fn page_of(read: ReadAnswer) -> Page
+    ensures { λ r. ⌜ r ≡ pageAt read 0 ⌝ }
 {
-    let mut room = [0u8; log_header::IMAGE_MOST];
-    let mut figures = [0u32; day_rows::FIGURES_MOST];
-    let answer = log_file::read_file(file, &mut room, &mut figures);
-    day_report::put_strip(front(&room, answer.length_or(0)), day, out)
+    Page {
+        read: read,
+        next: 0,
+    }
+}
+
+// The next line of what is printed for a file, which was read into room and figures, to the front of out, whose rest stays as it was; a
+// refusal leaves all of it so.
+pub fn put_next_line(page: Page, room: &[u8], figures: &[u32], out: &mut [u8]) -> Line
+    ensures { λ r. ⌜ outcome r (now (out .exit)) ≡ nextLine page (logAndRows (now (room .entry)) (now (figures .entry))) (now (out .entry)) ⌝ }
+{
+    let read = page.read;
+    let next = page.next;
+    let answer = put_read_line(read, room, figures, next, out);
+    behind(page, answer)
+}
+
+// The strip of the next day of a file's log, likewise; 28 for a file that was refused.
+pub fn put_next_strip(page: Page, room: &[u8], out: &mut [u8]) -> Line
+    ensures { λ r. ⌜ outcome r (now (out .exit)) ≡ nextStrip page (now (room .entry)) (now (out .entry)) ⌝ }
+{
+    let read = page.read;
+    let next = page.next;
+    let answer = put_read_strip(read, room, next, out);
+    behind(page, answer)
 }
 
 // The image that was read stands at the front of the room that it was given, and its figures at the front of theirs.
@@ -50,6 +75,13 @@ fn put_read_line(
     put_refused_line(number, i, out)
 }
 
+// The strip of a day of the image that was read.
+fn put_read_strip(read: ReadAnswer, room: &[u8], day: u8, out: &mut [u8]) -> TextAnswer
+    ensures { λ r. ⌜ outcome r (now (out .exit)) ≡ readStrip read (now (room .entry)) day (now (out .entry)) ⌝ }
+{
+    day_report::put_strip(front(room, read.length_or(0)), day, out)
+}
+
 // The heading, then the days.
 fn put_report_line(image: &[u8], figures: &[u32], i: u8, out: &mut [u8]) -> TextAnswer
     ensures { λ r. ⌜ outcome r (now (out .exit)) ≡ reportLine (now (image .entry)) (now (figures .entry)) i (now (out .entry)) ⌝ }
@@ -67,6 +99,28 @@ fn put_refused_line(number: u8, i: u8, out: &mut [u8]) -> TextAnswer
         return crate::refused::put_refused(number, out);
     }
     TextAnswer::NotInLog
+}
+
+// The page behind a line: where it was put, the next one is next.
+fn behind(page: Page, answer: TextAnswer) -> Line
+    requires { ⌜ (textNumber answer ≡ 0 → page .next < linesMost) ⌝ }
+    ensures { λ r. ⌜ r ≡ lineWith page answer ⌝ }
+{
+    if answer.number() == refusal::DONE {
+        let read = page.read;
+        let after = Page {
+            read: read,
+            next: page.next + 1,
+        };
+        return Line {
+            answer: answer,
+            after: after,
+        };
+    }
+    Line {
+        answer: answer,
+        after: page,
+    }
 }
 
 // The first n bytes; all of them where there are no more.

@@ -9,7 +9,10 @@ ghost use lib.ListN.{take};
 use day_report::LINE_MOST;
 use day_report::STRIP_MOST;
 use day_report::TextAnswer;
+use day_rows::FIGURES_MOST;
 use libc::STDOUT_FILENO;
+use log_header::IMAGE_MOST;
+use report_page::Page;
 
 // Where the file's version stands, the rows of the day's first slot and of that at 02:00, and the CRC. Rows have nine bytes before version 3.
 const VERSION: usize = 3;
@@ -75,8 +78,7 @@ fn show_last(header: &[u8], lapses: usize) {
     );
     byte_numbers::put_bytes(&mut file, lapses, b"\xFF");
     frame::seal(&mut file, LAST_CRC);
-    lines(&file);
-    strip(&file);
+    shown(&file);
 }
 
 // The file with this header, measured in the row at a place and empty in the next.
@@ -95,28 +97,44 @@ fn with(mut file: [u8; FILE], at: usize, bytes: &[u8]) -> [u8; FILE] {
 }
 
 fn show(file: [u8; FILE]) {
-    lines(&file);
-    strip(&file);
+    shown(&file);
 }
 
-fn lines(file: &[u8]) {
-    for i in 0..report_page::LINES_MOST {
-        line(file, i);
+// The file is read once: its page and, where it was not refused, the strip of its one day.
+fn shown(file: &[u8]) {
+    let mut room = [0u8; IMAGE_MOST];
+    let mut figures = [0u32; FIGURES_MOST];
+    let read = log_file::read_file(file, &mut room, &mut figures);
+    lines(report_page::page_of(read), &room, &figures);
+    strip(report_page::page_of(read), &room);
+}
+
+fn lines(first: Page, room: &[u8], figures: &[u32]) {
+    let mut page = first;
+    for _ in 0..report_page::LINES_MOST {
+        page = line(page, room, figures);
     }
 }
 
-fn line(file: &[u8], i: u8) {
+fn line(page: Page, room: &[u8], figures: &[u32]) -> Page {
     let mut text = [0u8; LINE_MOST];
-    if let TextAnswer::Done(n) = report_page::put_page_line(file, i, &mut text) {
-        say(front(&text, n));
-    }
+    let next = report_page::put_next_line(page, room, figures, &mut text);
+    let answer = next.answer;
+    put(answer, &text);
+    next.after
 }
 
-// The strip of the one day; a file that is refused has none.
-fn strip(file: &[u8]) {
+fn strip(first: Page, room: &[u8]) {
     let mut text = [0u8; STRIP_MOST];
-    if let TextAnswer::Done(n) = report_page::put_strip_line(file, 0, &mut text) {
-        say(front(&text, n));
+    let next = report_page::put_next_strip(first, room, &mut text);
+    let answer = next.answer;
+    put(answer, &text);
+}
+
+// A line that there is.
+fn put(answer: TextAnswer, text: &[u8]) {
+    if let TextAnswer::Done(n) = answer {
+        say(front(text, n));
     }
 }
 
