@@ -33,7 +33,7 @@ use Rattle.meter_record_bytes.specs.declared.time.SeasonRead.the-variants as se
 use Rattle.meter_record_bytes.proofs.RecordLaws.{read-size}
 use Rattle.meter_record_bytes.specs.declared.record.RecordRead.the-variants.{Read}
 use Rattle.meter_command.specs.Access.{changeAllowed}
-use Rattle.meter_command.specs.Parts.{functionIn, parameterIn}
+use Rattle.meter_command.specs.Command.{functionIn, parameterIn, commandOf}
 use Rattle.meter_command.specs.Verdict.{isDone}
 use Rattle.meter_command.specs.declared.verdict.Verdict.the-variants.{Silent, Unsound}
 use Rattle.meter_reply_data.specs.Reading.{isRead}
@@ -42,10 +42,11 @@ use Rattle.meter.specs.Effect.{afterBy, afterOf}
 use Rattle.meter.specs.Reply as reply
 use Rattle.meter.specs.Reply.{isSound, heard, verdictOn, replied, answerOf}
 use Rattle.meter.proofs.KeepLaws as keep
+use Rattle.claims.specs.Demand2Second.{recordAfter}
 use Rattle.claims.specs.Changes.{Permitted}
 use Rattle.claims.proofs.Claims as claims
 use Rattle.metlazuel.specs.MeterCalls.{phasesFrom, ratiosFrom, madeIn, secondIn, powersIn, ratiosIn, sliceIn, bytesAfter, makeForC, bytesLeft, answerForC}
-use Rattle.c_claims.specs.MeterRun.{MeterCall, make, second, powers, ratios, slice, frame, Meter, meter, Told, recordAfter, recordStep, bytesStep, meterRun}
+use Rattle.c_claims.specs.MeterRun.{MeterCall, make, second, powers, ratios, slice, frame, Meter, meter, Told, recordStep, bytesStep, meterRun}
 use Rattle.c_claims.specs.Demand2.{Holds, EndAlike, CallFits, AllFit}
 use Rattle.c_claims.proofs.WidthLaws.{fresh-fits, later-fits, from-fits, powers-fit, ratios-fit, place-fits, after-fits, read-back, read-again, read-fits}
 
@@ -125,7 +126,7 @@ put-fits r s k row f =
 
 -- ---- a frame answered
 
-read-leaves : (fn : Function) (r : Record) (f : List ℕ) → isRead fn ≡ true → afterBy fn r f ≡ r
+read-leaves : (fn : Function) (r : Record) (f : List ℕ) → isRead fn ≡ true → afterBy fn r (commandOf f) f ≡ r
 unfolding afterBy
 read-leaves (function.Read reading) r f e = refl
 read-leaves function.Unknown r f e = refl
@@ -143,14 +144,14 @@ module _ (bs : List ℕ) (r : Record) (s f out : List ℕ) (e : Reads bs r) (b :
   unfolding bytesLeft
   done-reads h d k = go (isRead (functionIn f)) refl
     where
-      fits : FitsRecord (afterOf r f)
+      fits : FitsRecord (afterOf r (commandOf f) f)
       fits = after-fits r f b (e .1)
 
-      go : (q : Bool) → isRead (functionIn f) ≡ q → Reads (bytesLeft (reply.done (verdictOn r f) r s f out .answer) f bs) (afterOf r f)
+      go : (q : Bool) → isRead (functionIn f) ≡ q → Reads (bytesLeft (reply.done (verdictOn r f) r s f out .answer) f bs) (afterOf r (commandOf f) f)
       go true q =
-          let same : afterOf r f ≡ r = unfold afterOf in read-leaves (functionIn f) r f q in
+          let same : afterOf r (commandOf f) f ≡ r = unfold afterOf in read-leaves (functionIn f) r f q in
           (rw (d, q, same) (e .0), fits)
-      go false q = (rw (d, q) (read-again bs r (afterOf r f) (e .0) fits (sound-within _ _ (k h))), fits)
+      go false q = (rw (d, q) (read-again bs r (afterOf r (commandOf f) f) (e .0) fits (sound-within _ _ (k h))), fits)
 
   heard-reads : isSound r s ≡ true → Left (replied (verdictOn r f) r s f out)
   unfolding replied bytesLeft

@@ -34,7 +34,7 @@ use Rattle.meter_record.specs.Widths.{FitsRecord}
 use Rattle.meter_record.specs.declared.record.Record.{Record}
 use Rattle.meter_record_bytes.specs.Record.{recordOf}
 use Rattle.meter_record_bytes.specs.declared.record.RecordRead.the-variants.{Read}
-use Rattle.meter_command.specs.Parts.{functionIn}
+use Rattle.meter_command.specs.Command.{functionIn}
 use Rattle.meter_command.specs.Verdict.{isDone}
 use Rattle.meter_reply_data.specs.Reading.{phase}
 use Rattle.meter.specs.Reply as reply

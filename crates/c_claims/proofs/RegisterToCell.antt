@@ -21,7 +21,7 @@ use Rattle.frame.specs.Sealing.{framed}
 use Rattle.parameters.specs.declared.code.Function.the-variants as function
 use Rattle.parameters.specs.declared.code.Reading.the-variants.{Stored}
 use Rattle.meter_record.specs.declared.record.Record.{Record}
-use Rattle.meter_command.specs.Parts.{functionIn}
+use Rattle.meter_command.specs.Command.{functionIn}
 use Rattle.meter.specs.Reply as reply
 use Rattle.log.specs.View.{View, viewOf}
 use Rattle.log_header.specs.Interval.{intervalOf}

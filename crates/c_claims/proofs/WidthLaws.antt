@@ -51,8 +51,9 @@ use Rattle.meter_record_bytes.specs.declared.time.TimeRead.{TimeRead}
 use Rattle.meter_record_bytes.specs.declared.time.TimeRead.the-variants as time
 use Rattle.meter_record_bytes.specs.declared.record.RecordRead.{RecordRead}
 use Rattle.meter_record_bytes.specs.declared.record.RecordRead.the-variants.{Read, Unreadable}
-use Rattle.meter_command.specs.Change.{passwordsAfter, changedTo, changed, zeroed}
-use Rattle.meter_command.specs.Parts.{functionIn, parameterIn, detailIn, dataIn}
+use Rattle.meter_command.specs.Change.{passwordsAfter, changedTo, zeroedTo}
+use Rattle.meter_command.proofs.KeepLaws.{zeroed}
+use Rattle.meter_command.specs.Command.{functionIn, parameterIn, detailIn, dataIn, commandOf}
 use Rattle.meter.specs.Effect.{afterBy, afterOf}
 use Rattle.metlazuel.specs.MeterCalls.{phasesFrom, ratiosFrom}
 
@@ -220,14 +221,14 @@ module _ (r : Record) (f : FitsRecord r) (detail : ℕ) (bs : List ℕ) (b : Byt
       (either FitsRecord (eqb code 37) (remade-fits r _ _ _ _ _ _ _ f (f .address) password-fits (f .telemetry) mask (f .next)) f))))))
 
 zero-fits : (p : Parameter) (r : Record) → FitsRecord r → FitsRecord (zeroed p r)
-unfolding zeroed
+unfolding zeroedTo
 zero-fits p r f =
     either FitsRecord (eqb (codeOf p) 27) (time-fits r f _)
     (either FitsRecord (eqb (codeOf p) 28) (time-fits r f _)
     (either FitsRecord (eqb (codeOf p) 36) (next-fits r f 0 (omega arith)) f))
 
-after-by : (fn : Function) (r : Record) (f : List ℕ) → Bytes f → FitsRecord r → FitsRecord (afterBy fn r f)
-unfolding afterBy changed
+after-by : (fn : Function) (r : Record) (f : List ℕ) → Bytes f → FitsRecord r → FitsRecord (afterBy fn r (commandOf f) f)
+unfolding afterBy
 after-by (function.Read reading) r f b w = w
 after-by function.Change r f b w = protection-fits _ _ (data-fits r w (detailIn f) (dataIn f) (bytes-behind 4 f b) (codeOf (parameterIn f)))
 after-by function.Zero r f b w = protection-fits _ _ (zero-fits (parameterIn f) r w)
@@ -235,7 +236,7 @@ after-by function.Unlock r f b w = protection-fits r _ w
 after-by function.Lock r f b w = protection-fits r _ w
 after-by function.Unknown r f b w = w
 
-pub after-fits : (r : Record) (f : List ℕ) → Bytes f → FitsRecord r → FitsRecord (afterOf r f)
+pub after-fits : (r : Record) (f : List ℕ) → Bytes f → FitsRecord r → FitsRecord (afterOf r (commandOf f) f)
 unfolding afterOf
 after-fits r f b w = after-by (functionIn f) r f b w
 

@@ -39,6 +39,7 @@ use Rattle.metlazuel.specs.CellCalls.{cellForC, nextGapForC}
 use Rattle.metlazuel.specs.WireCalls.{requestFrom, decodeForC}
 use Rattle.metlazuel.specs.MeterCalls.{telemetryFrom, clockFrom, phasesFrom, ratiosFrom, key, row, madeIn, secondIn, powersIn, ratiosIn, sliceIn}
 use Rattle.metlazuel.specs.MeterCalls.{benchForC, makeForC, putForC, answerForC}
+use Rattle.meter_command.specs.Command.{commandOf}
 
 -- how a function ends: its number is the table's, and a refused one leaves what it is lent as it stood
 abbrev pub EndsForC : {L : Type 0} → L → Outcome ℕ L → Type 0
@@ -48,7 +49,7 @@ EndsForC before o = Ends (o .result) before (o .left)
 pub record RefusedOutput (number : ℕ) (f before after : List ℕ) : Type 0 where
   pub verdict : Verdict
   pub its-number : numberOf verdict ≡ number
-  pub output : after ≡ cond (givesFrame number) (written before 0 (framed (headOf verdict f))) before
+  pub output : after ≡ cond (givesFrame number) (written before 0 (framed (headOf verdict (commandOf f)))) before
 
 pub record Demand1C : Type 0 where
   -- the log: length, image and figures; the row; length and file

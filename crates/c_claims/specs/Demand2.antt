@@ -19,7 +19,7 @@ use Rattle.meter_record.specs.declared.record.RecordAnswer.the-variants.{Done}
 use Rattle.meter_record_bytes.specs.Record.{recordSize, recordOf}
 use Rattle.meter_record_bytes.specs.declared.record.RecordRead.the-variants.{Read}
 use Rattle.meter_command.specs.Access.{changeAllowed}
-use Rattle.meter_command.specs.Parts.{functionIn, parameterIn}
+use Rattle.meter_command.specs.Command.{commandOf}
 use Rattle.meter.specs.Reply.{answerOf}
 use Rattle.claims.specs.Changes.{Permitted}
 use Rattle.metlazuel.specs.MeterCalls.{madeIn, makeForC}
@@ -61,7 +61,7 @@ pub record Demand2C : Type 0 where
   pub list : (m : Meter (List ℕ)) (x : Meter Record) (cs : List MeterCall) → Holds m x → AllFit cs
       → EndAlike (meterRun bytesStep m cs) (meterRun recordStep x cs)
   -- "changes the named parameter alone": the bytes after a change that is done are read as the record of which demand 2 says it
-  pub change : (m : Meter (List ℕ)) (x : Meter Record) (f out : List ℕ) (word : ℕ) → Holds m x → Bytes f → functionIn f ≡ function.Change
+  pub change : (m : Meter (List ℕ)) (x : Meter Record) (f out : List ℕ) (word : ℕ) → let c = commandOf f in Holds m x → Bytes f → c .function ≡ function.Change
       → bytesStep m (frame f out word) .result .number ≡ 0 → let o = answerOf (x .kept) (x .store) f out in
       (recordOf (bytesStep m (frame f out word) .left .kept) ≡ Read (o .answer .after))
-      × Permitted (changeAllowed (parameterIn f) (x .kept .protection .level)) f (x .kept) (x .store) o
+      × Permitted (changeAllowed (c .parameter) (x .kept .protection .level)) f (x .kept) (x .store) o

@@ -8,11 +8,11 @@ use Rattle.slots.specs.declared.key.Key.{Key}
 use Rattle.meter_record.specs.Record.{secondOf, setPowers, setRatios, numberOf}
 use Rattle.meter_record.specs.declared.record.Record.{Record}
 use Rattle.meter_record.specs.declared.record.RecordAnswer.{RecordAnswer}
-use Rattle.meter_record.specs.declared.record.RecordAnswer.the-variants as answer
 use Rattle.meter_record_bytes.specs.Record.{recordOf}
 use Rattle.meter_command.specs.Verdict as verdict
 use Rattle.meter.specs.Bench.{slicePut}
 use Rattle.meter.specs.Reply.{answerOf}
+use Rattle.claims.specs.Demand2Second.{recordAfter}
 use Rattle.metlazuel.specs.MeterCalls.{phasesFrom, ratiosFrom, madeIn, secondIn, powersIn, ratiosIn, sliceIn, benchForC, makeForC, putForC, sentLength, answerForC}
 
 -- a call's arguments, without record and store: a new meter's address, minutes, telemetry, clock and season; a power's parameter and the bits of
@@ -41,12 +41,6 @@ pub record Told : Type 0 where
 
 abbrev pub plain : ℕ → Told
 plain n = record { number = n; length = 0; output = [] }
-
--- the record after a bench call: a refused one leaves it
-abbrev pub recordAfter : RecordAnswer → Record → Record
-recordAfter (answer.Done r) before = r
-recordAfter answer.OutOfRange before = before
-recordAfter answer.Unsound before = before
 
 abbrev pub benched : RecordAnswer → Record → List ℕ → Outcome Told (Meter Record)
 benched a r s = outcome (plain (numberOf a)) (meter (recordAfter a r) s)

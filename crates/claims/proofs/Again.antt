@@ -10,7 +10,7 @@ use borrow.Author.Tests.{eq-eqb, le-leb, leb-true, ltb-true, eqb-true}
 use Rattle.test_laws.proofs.Test.{both, either}
 use Rattle.byte_numbers.specs.Number.{Bytes}
 use Rattle.wire_values.specs.declared.power.Phases.{Phases}
-use Rattle.parameters.specs.Table.{parameterRow, firstOf, parameterOf}
+use Rattle.parameters.specs.Table.{parameterRow, firstOf, parameterOf, codeOf}
 use Rattle.parameters.specs.declared.code.Function.the-variants as function
 use Rattle.parameters.specs.declared.code.Parameter.{Parameter}
 use Rattle.parameters.specs.declared.code.Parameter.the-variants as parameter
@@ -35,10 +35,11 @@ use Rattle.meter_record.specs.Widths.{FitsRecord}
 use Rattle.meter_record.specs.declared.record.Record.{Record}
 use Rattle.meter_record.specs.declared.record.RecordAnswer.{RecordAnswer}
 use Rattle.meter_record.specs.declared.record.RecordAnswer.the-variants.{Done, OutOfRange, Unsound}
-use Rattle.meter_command.specs.Change.{changedTo, changed, zeroed}
+use Rattle.meter_command.specs.Change.{changedTo, zeroedTo}
+use Rattle.meter_command.proofs.KeepLaws.{changed, zeroed}
 use Rattle.meter_command.specs.Judgement.{verdictBy}
 use Rattle.meter_command.proofs.JudgementLaws.{change-accepted}
-use Rattle.meter_command.specs.Parts.{functionIn, named, parameterByte, parameterIn, dataIn}
+use Rattle.meter_command.specs.Command.{functionIn, named, parameterByte, parameterIn, dataIn, commandOf}
 use Rattle.meter.specs.Bench.{slicePut}
 use Rattle.meter.specs.Effect.{renewed, afterBy, clearsBy}
 use Rattle.meter.specs.Reply.{isSound, met, answerOf}
@@ -152,7 +153,7 @@ fits-zeroed r s f out room e n = rw (after-done r s f out function.Zero e (n .ze
 bytes-zeroed : (r : Record) (s f out room : List ℕ) → functionIn f ≡ function.Zero → Next r s (answerOf r s f out) room
     → Bytes ((answerOf r s f out) .store)
 bytes-zeroed r s f out room e n =
-    rw (store-done r s f out function.Zero e (n .zero)) (either Bytes (clearsBy function.Zero (parameterIn f)) (cleared-bytes s) (n .bytes))
+    rw (store-done r s f out function.Zero e (n .zero)) (either Bytes (clearsBy function.Zero (codeOf (parameterIn f))) (cleared-bytes s) (n .bytes))
 
 zeroed-own : (r : Record) (s f out room : List ℕ) → functionIn f ≡ function.Zero → let o = answerOf r s f out in Next r s o room → (q : Request)
     → BytesRequest q → q .address ≡ (o .answer .after) .address → askable (subjectOf q (slotsOf ((o .answer .after) .minutes))) ≡ true
@@ -164,7 +165,7 @@ zeroed-own r s f out room e n q k a h =
 
 changed-figures : (p : Parameter) (r : Record) (s f : List ℕ) (q : Request) → (parameterRow p) .changeable ≡ true
     → ownFigures p (renewed (changed p r f)) s q ≡ readFigures p 0 (dataIn f)
-unfolding changed changedTo readFigures
+unfolding changedTo readFigures
 changed-figures parameter.ActivePower r s f q c = absurd (false≢true c)
 changed-figures parameter.ReactivePower r s f q c = absurd (false≢true c)
 changed-figures parameter.Address r s f q c = refl
@@ -192,7 +193,7 @@ change-read r s f out room b e w n =
     let o = answerOf r s f out in
     let y = o .answer .after in
     let q = readOf y (parameterByte f) 0 in
-    let c = change-accepted (met r f) r f (verdict-done r s f out function.Change e (n .zero)) .opens in
+    let c = change-accepted (met r f) r (commandOf f) f (verdict-done r s f out function.Change e (n .zero)) .opens in
     let fits = fits-changed r s f out room e b n in
     own y (o .store) q room fits (bytes-changed r s f out room e n) (read-bytes y (parameterByte f) 0 fits (parameter-small f b) (lit≤ tt)) (n .room)
     (after-sound r s f out room n) refl (plain-askable (parameterIn f) y (parameterByte f) (slotsOf (y .minutes)) c w)
@@ -215,7 +216,7 @@ date-askable p r n slots e c w = ap (λ (z : Parameter). askable (subjectFor z (
 pub summer-zeroed : (r : Record) (s f out room : List ℕ) → functionIn f ≡ function.Zero → parameterIn f ≡ parameter.SummerDate
     → let o = answerOf r s f out in Next r s o room
     → readBack (o .answer .after) (o .store) (readOf (o .answer .after) 27 0) room ≡ decoded.DateTime (onHour (sunday (r .time .clock .date .year) 3) 2)
-unfolding parameterOf firstOf zeroed
+unfolding parameterOf firstOf zeroedTo
 summer-zeroed r s f out room e g n =
     let o = answerOf r s f out in
     let y = o .answer .after in
@@ -227,7 +228,7 @@ summer-zeroed r s f out room e g n =
 pub winter-zeroed : (r : Record) (s f out room : List ℕ) → functionIn f ≡ function.Zero → parameterIn f ≡ parameter.WinterDate
     → let o = answerOf r s f out in Next r s o room
     → readBack (o .answer .after) (o .store) (readOf (o .answer .after) 28 0) room ≡ decoded.DateTime (onHour (sunday (r .time .clock .date .year) 10) 3)
-unfolding parameterOf firstOf zeroed
+unfolding parameterOf firstOf zeroedTo
 winter-zeroed r s f out room e g n =
     let o = answerOf r s f out in
     let y = o .answer .after in
@@ -244,14 +245,14 @@ slice-figures r s k row e = ap (λ (w : List ℕ). decoded.Slice (fourCounts w))
 -- what a zeroing of the slices leaves: the interval, and a store that is clear
 minutes-kept : (r : Record) (s f out room : List ℕ) → functionIn f ≡ function.Zero → parameterIn f ≡ parameter.Slice
     → let o = answerOf r s f out in Next r s o room → (o .answer .after) .minutes ≡ r .minutes
-unfolding zeroed
+unfolding zeroedTo
 minutes-kept r s f out room e g n = ap (λ (z : Record). z .minutes) (zeroed-is r s f out room parameter.Slice e g n)
 
 store-clear : (r : Record) (s f out room : List ℕ) → functionIn f ≡ function.Zero → parameterIn f ≡ parameter.Slice
     → let o = answerOf r s f out in Next r s o room → o .store ≡ cleared s
 unfolding clearsBy
 store-clear r s f out room e g n =
-    store-done r s f out function.Zero e (n .zero) ∙ ap (λ (z : Parameter). cond (clearsBy function.Zero z) (cleared s) s) g
+    store-done r s f out function.Zero e (n .zero) ∙ ap (λ (z : Parameter). cond (clearsBy function.Zero (codeOf z)) (cleared s) s) g
 
 pub slices-zeroed : (r : Record) (s f out room : List ℕ) (k : Key) → functionIn f ≡ function.Zero → parameterIn f ≡ parameter.Slice
     → isLegal k (slotsOf (r .minutes)) ≡ true → let o = answerOf r s f out in Next r s o room

@@ -17,7 +17,7 @@ use Rattle.crc16.specs.Crc.{crcOf}
 use Rattle.parameters.specs.Code.{functionOf}
 use Rattle.frame.specs.Sealing.{framed, isSealed}
 use Rattle.frame.proofs.SealingLaws.{length-framed, crcFits-framed}
-use Rattle.parameters.specs.Table.{parameterRow, opensTo, parameterOf, known}
+use Rattle.parameters.specs.Table.{parameterRow, opensTo, parameterOf, known, codeOf}
 use Rattle.parameters.specs.declared.code.Function.{Function}
 use Rattle.parameters.specs.declared.code.Function.the-variants as function
 use Rattle.parameters.specs.declared.code.Parameter.{Parameter}
@@ -27,9 +27,8 @@ use Rattle.parameters.specs.declared.code.Reading.the-variants.{Stored, Display
 use Rattle.parameters.specs.declared.table.Fields.{Fields}
 use Rattle.parameters.specs.declared.table.Fields.the-variants.{Unused, Phase, Slot, SixSlots}
 use Rattle.slots.specs.Day.{slotsOf}
-use Rattle.request.specs.Subject.{unused, isPhase, fieldsFit, subjectFor, subjectOf, askable}
+use Rattle.request.specs.Subject.{unused, isPhase, fieldsFit}
 use Rattle.request.specs.declared.request.Request.{Request}
-use Rattle.request.specs.declared.subject.Subject.the-variants.{Figures, Nothing}
 use Rattle.meter_clock.specs.Protection.{opened}
 use Rattle.meter_store.specs.Store.{cleared, storeBytes}
 use Rattle.meter_record.proofs.RangeLaws.{within}
@@ -40,7 +39,7 @@ use Rattle.meter_record.specs.declared.record.Record.{Record}
 use Rattle.meter_command.specs.Access.{passwordFor, levelFor, unlockVerdict, lockVerdict}
 use Rattle.meter_command.specs.Judgement.{passed, checked, readVerdict, verdictBy, verdictOf}
 use Rattle.meter_command.proofs.JudgementLaws.{read-accepted}
-use Rattle.meter_command.specs.Parts.{functionIn, named, parameterByte, parameterIn, readingOf, requestIn}
+use Rattle.meter_command.specs.Command.{functionIn, named, parameterByte, parameterIn, readingOf, requestIn, commandOf}
 use Rattle.meter_command.specs.Verdict.{resultOf, isDone}
 use Rattle.meter_command.specs.declared.access.Met.{Met}
 use Rattle.meter_command.specs.declared.access.Met.the-variants.{Own, Zero, Neither}
@@ -95,7 +94,7 @@ abbrev asks : Reading → ℕ → List ℕ → Request
 asks x a m = asking x a (byteAt m 0) (byteAt m 1) (byteAt m 2) (byteAt m 3)
 
 request-by : (a fn : ℕ) (m : List ℕ) → length m ≡ 4 → requestIn (frameBy a fn m) ≡ asks (reads fn) a m
-unfolding requestIn framed
+unfolding framed
 request-by a fn m h =
     let f = frameBy a fn m in
     ap₂ (λ (p o : ℕ). asking (reads fn) a p o (byteAt f 4) (byteAt f 5)) (byte-by a fn m 0 (omega (arith, h))) (byte-by a fn m 1 (omega (arith, h)))
@@ -107,12 +106,6 @@ fields-free Unused x a b m slots = refl
 fields-free Phase x a b m slots = refl
 fields-free Slot x a b m slots = refl
 fields-free SixSlots x a b m slots = refl
-
-ask-free : (x : Reading) (a b : ℕ) (m : List ℕ) (slots : ℕ) → askable (subjectOf (asks x a m) slots) ≡ askable (subjectOf (asks x b m) slots)
-unfolding subjectOf subjectFor
-ask-free x a b m slots =
-    let p = parameterOf (byteAt m 0) in
-    ap (λ (fit : Bool). askable (cond (opensTo x (parameterRow p) && fit) (Figures x p (byteAt m 3)) Nothing)) (fields-free ((parameterRow p) .fields) x a b m slots)
 
 figures-free : (p : Parameter) (r : Record) (s : List ℕ) (a b : ℕ) (m : List ℕ) → figuresOf p r s (asks Stored a m) ≡ figuresOf p r s (asks Stored b m)
 figures-free parameter.ActivePower r s a b m = refl
@@ -146,17 +139,18 @@ where-long : (l : Bool) (x y z : Verdict) → (l ≡ true → x ≡ y) → cond 
 where-long true x y z h = h refl
 where-long false x y z h = refl
 
-read-same : (r : Record) (a b fn : ℕ) (m : List ℕ) → readVerdict r (frameBy a fn m) ≡ readVerdict r (frameBy b fn m)
-unfolding readVerdict requestIn framed
+read-same : (r : Record) (a b fn : ℕ) (m : List ℕ) → readVerdict r (commandOf (frameBy a fn m)) ≡ readVerdict r (commandOf (frameBy b fn m))
+unfolding readVerdict framed
 read-same r a b fn m =
     let slots = slotsOf (r .minutes) in
     let f = frameBy a fn m in
     let g = frameBy b fn m in
-    let asked : Request → Bool = λ q. askable (subjectOf q slots) in
-    ap₂ (λ (p n : ℕ). checked (known (parameterRow (parameterOf p))) (opensTo (reads fn) (parameterRow (parameterOf p))) (eqb n 8) true true (asked (requestIn f)))
+    let w = parameterRow (parameterIn g) in
+    let fit : Request → Bool = λ q. fieldsFit (w .fields) q slots in
+    ap₂ (λ (p n : ℕ). let v = parameterRow (parameterOf p) in checked (known v) (opensTo (reads fn) v) (eqb n 8) true true (fieldsFit (v .fields) (requestIn f) slots))
     (same-parameter a b fn m) (same-length a b fn m)
-    ∙ cut (known (parameterRow (parameterIn g))) (opensTo (reads fn) (parameterRow (parameterIn g))) (eqb (length g) 8) (asked (requestIn f)) (asked (requestIn g))
-    (λ e. ap asked (request-by a fn m (long b fn m 4 e)) ∙ ask-free (reads fn) a b m slots ∙ sym (ap asked (request-by b fn m (long b fn m 4 e))))
+    ∙ cut (known w) (opensTo (reads fn) w) (eqb (length g) 8) (fit (requestIn f)) (fit (requestIn g))
+    (λ e. ap fit (request-by a fn m (long b fn m 4 e)) ∙ fields-free (w .fields) (reads fn) a b m slots ∙ sym (ap fit (request-by b fn m (long b fn m 4 e))))
 
 abbrev unlocked : Passwords → ℕ → ℕ → ℕ → Verdict
 unlocked p level n z = cond (leb level 1) (cond (eqb n (passwordFor p level)) (cond (eqb z 0) Done WrongArgument) NoAccess) WrongArgument
@@ -167,7 +161,7 @@ unlocked-by p a fn m h =
     ap₂ (λ (l n : ℕ). unlocked p l n (byteAt (frameBy a fn m) 2)) (byte-by a fn m 1 (omega (arith, h))) (number-by a fn m h)
     ∙ ap (λ (z : ℕ). unlocked p (byteAt m 1) (number (drop 2 m)) z) (byte-by a fn m 0 (omega (arith, h)))
 
-unlock-same : (p : Passwords) (a b fn : ℕ) (m : List ℕ) → unlockVerdict p (frameBy a fn m) ≡ unlockVerdict p (frameBy b fn m)
+unlock-same : (p : Passwords) (a b fn : ℕ) (m : List ℕ) → unlockVerdict p (commandOf (frameBy a fn m)) (frameBy a fn m) ≡ unlockVerdict p (commandOf (frameBy b fn m)) (frameBy b fn m)
 unfolding unlockVerdict
 unlock-same p a b fn m =
     let f = frameBy a fn m in
@@ -183,7 +177,7 @@ locked x y = cond (eqb x 0) (cond (eqb y 0) Done WrongArgument) WrongArgument
 locked-by : (a fn : ℕ) (m : List ℕ) → length m ≡ 2 → let f = frameBy a fn m in locked (byteAt f 2) (byteAt f 3) ≡ locked (byteAt m 0) (byteAt m 1)
 locked-by a fn m h = ap₂ locked (byte-by a fn m 0 (omega (arith, h))) (byte-by a fn m 1 (omega (arith, h)))
 
-lock-same : (a b fn : ℕ) (m : List ℕ) → lockVerdict (frameBy a fn m) ≡ lockVerdict (frameBy b fn m)
+lock-same : (a b fn : ℕ) (m : List ℕ) → lockVerdict (commandOf (frameBy a fn m)) ≡ lockVerdict (commandOf (frameBy b fn m))
 unfolding lockVerdict
 lock-same a b fn m =
     let f = frameBy a fn m in
@@ -194,7 +188,7 @@ lock-same a b fn m =
     (λ e. locked-by a fn m (long b fn m 2 e) ∙ sym (locked-by b fn m (long b fn m 2 e)))
 
 verdict-same : (g : Function) → changes g ≡ false → (r : Record) (a b fn : ℕ) (m : List ℕ)
-    → verdictBy g Zero r (frameBy a fn m) ≡ verdictBy g Own r (frameBy b fn m)
+    → verdictBy g Zero r (commandOf (frameBy a fn m)) (frameBy a fn m) ≡ verdictBy g Own r (commandOf (frameBy b fn m)) (frameBy b fn m)
 unfolding verdictBy
 verdict-same (function.Read reading) c r a b fn m = read-same r a b fn m
 verdict-same function.Unlock c r a b fn m = unlock-same (r .passwords) a b fn m
@@ -205,11 +199,11 @@ verdict-same function.Zero c r a b fn m = absurd (false≢true (sym c))
 
 -- ---- what one that is done reads and leaves
 
-data-same : (g : Function) (r : Record) (s : List ℕ) (a b fn : ℕ) (m : List ℕ) → isDone (verdictBy g Own r (frameBy b fn m)) ≡ true
+data-same : (g : Function) (r : Record) (s : List ℕ) (a b fn : ℕ) (m : List ℕ) → isDone (verdictBy g Own r (commandOf (frameBy b fn m)) (frameBy b fn m)) ≡ true
     → let part : ℕ → List ℕ = λ x. cond (isRead g) (figuresAs (reads fn) (parameterIn (frameBy x fn m)) r s (requestIn (frameBy x fn m))) [] in part a ≡ part b
 unfolding verdictBy
 data-same (function.Read reading) r s a b fn m d =
-    let h = long b fn m 4 (read-accepted r (frameBy b fn m) d .lengthFits) in
+    let h = long b fn m 4 (read-accepted r (commandOf (frameBy b fn m)) d .lengthFits) in
     let p = parameterIn (frameBy b fn m) in
     ap₂ (λ (n : ℕ) (q : Request). figuresAs (reads fn) (parameterOf n) r s q) (same-parameter a b fn m) (request-by a fn m h)
     ∙ figures-as (reads fn) p r s a b m
@@ -224,8 +218,8 @@ unlock-long : (l : Bool) (v : Verdict) → isDone (cond l v WrongLength) ≡ tru
 unlock-long true v h = refl
 unlock-long false v h = absurd (false≢true h)
 
-after-same : (g : Function) → changes g ≡ false → (r : Record) (a b fn : ℕ) (m : List ℕ) → isDone (verdictBy g Own r (frameBy b fn m)) ≡ true
-    → afterBy g r (frameBy a fn m) ≡ afterBy g r (frameBy b fn m)
+after-same : (g : Function) → changes g ≡ false → (r : Record) (a b fn : ℕ) (m : List ℕ) → isDone (verdictBy g Own r (commandOf (frameBy b fn m)) (frameBy b fn m)) ≡ true
+    → afterBy g r (commandOf (frameBy a fn m)) (frameBy a fn m) ≡ afterBy g r (commandOf (frameBy b fn m)) (frameBy b fn m)
 unfolding verdictBy afterBy unlockVerdict
 after-same (function.Read reading) c r a b fn m d = refl
 after-same function.Unlock c r a b fn m d =
@@ -237,7 +231,7 @@ after-same function.Unknown c r a b fn m d = refl
 after-same function.Change c r a b fn m d = absurd (false≢true (sym c))
 after-same function.Zero c r a b fn m d = absurd (false≢true (sym c))
 
-clears-none : (g : Function) → changes g ≡ false → (p : Parameter) → clearsBy g p ≡ false
+clears-none : (g : Function) → changes g ≡ false → (p : Parameter) → clearsBy g (codeOf p) ≡ false
 unfolding clearsBy
 clears-none (function.Read reading) c p = refl
 clears-none function.Unlock c p = refl
@@ -247,7 +241,7 @@ clears-none function.Change c p = absurd (false≢true (sym c))
 clears-none function.Zero c p = absurd (false≢true (sym c))
 
 -- the store stays
-store-by : (s : List ℕ) (a fn : ℕ) (m : List ℕ) → changes (functionOf fn) ≡ false → storeAfter s (frameBy a fn m) ≡ s
+store-by : (s : List ℕ) (a fn : ℕ) (m : List ℕ) → changes (functionOf fn) ≡ false → storeAfter s (commandOf (frameBy a fn m)) ≡ s
 unfolding storeAfter clears framed
 store-by s a fn m c =
     ap (λ (b : Bool). cond b (cleared s) s) (clears-none (functionOf fn) c (parameterIn (frameBy a fn m)))
@@ -274,23 +268,23 @@ met-by-own r fn m e n =
     ∙ ap₂ (λ (x y : Bool). cond x Zero (cond y Own Neither)) (ne-eqb own 0 n) (eq-eqb own own refl)
 
 pub answered-by : (r : Record) (s f out : List ℕ) (x : Met) → 64 ≤ length out → isSound r s ≡ true → met r f ≡ x → isHeard x ≡ true
-    → answerOf r s f out ≡ replied (verdictOf x r f) r s f out
+    → answerOf r s f out ≡ replied (verdictOf x r (commandOf f) f) r s f out
 unfolding answerOf heard
 answered-by r s f out x room sound e h = simp (le-ltb (length out) 64 room, sound, e, h)
 
 -- ---- the two replies
 
 module _ (r : Record) (s : List ℕ) (fn : ℕ) (m out : List ℕ) (c : changes (functionOf fn) ≡ false) (v : Verdict) where
-  done-alike : isDone (verdictBy (functionOf fn) Own r (frameBy (r .address) fn m)) ≡ true
+  done-alike : isDone (verdictBy (functionOf fn) Own r (commandOf (frameBy (r .address) fn m)) (frameBy (r .address) fn m)) ≡ true
       → Alike (r .address) out (reply.done v r s (frameBy 0 fn m) out) (reply.done v r s (frameBy (r .address) fn m) out)
-  unfolding headOf framed dataOf requestIn afterOf
+  unfolding headOf framed dataOf afterOf
   done-alike d =
       let own = r .address in
-      let parts : dataOf r s (frameBy 0 fn m) ≡ dataOf r s (frameBy own fn m) = data-same (functionOf fn) r s 0 own fn m d in
+      let parts : dataOf r s (commandOf (frameBy 0 fn m)) ≡ dataOf r s (commandOf (frameBy own fn m)) = data-same (functionOf fn) r s 0 own fn m d in
       record {
         answer = ap₂ (λ (n : ℕ) (x : Record). record { verdict = v; length = 6 + n; after = x }) (ap length parts) (after-same (functionOf fn) c r 0 own fn m d);
         slices = store-by s 0 fn m c ∙ sym (store-by s own fn m c);
-        rest = functionFor v fn ∷ parameterByte (frameBy 0 fn m) ∷ resultOf v ∷ dataOf r s (frameBy 0 fn m);
+        rest = functionFor v fn ∷ parameterByte (frameBy 0 fn m) ∷ resultOf v ∷ dataOf r s (commandOf (frameBy 0 fn m));
         by-zero = refl;
         by-own =
             ap₂ (λ (p : ℕ) (d : List ℕ). written out 0 (framed (own ∷ functionFor v fn ∷ p ∷ resultOf v ∷ d))) (sym (same-parameter 0 own fn m)) (sym parts);
@@ -308,7 +302,7 @@ module _ (r : Record) (s : List ℕ) (fn : ℕ) (m out : List ℕ) (c : changes 
         by-own = ap (λ (p : ℕ). written out 0 (framed (own ∷ functionFor v fn ∷ p ∷ resultOf v ∷ []))) (sym (same-parameter 0 own fn m));
       }
 
-  replied-alike : verdictBy (functionOf fn) Own r (frameBy (r .address) fn m) ≡ v
+  replied-alike : verdictBy (functionOf fn) Own r (commandOf (frameBy (r .address) fn m)) (frameBy (r .address) fn m) ≡ v
       → Alike (r .address) out (replied v r s (frameBy 0 fn m) out) (replied v r s (frameBy (r .address) fn m) out)
   unfolding replied
   replied-alike e = go (isDone v) refl
@@ -329,6 +323,6 @@ others-alike r s fn m out c hf hm l ha sound room =
     let w = leb-true 1 own (within r (both (eqb (length s) storeBytes) (isWithin r) sound .1) .address) in
     let zero = answered-by r s f out Zero room sound (met-by-zero r fn m (sealed-by 0 fn m (lit≤ tt) hf hm l)) refl in
     let mine = answered-by r s g out Own room sound (met-by-own r fn m (sealed-by own fn m ha hf hm l) (λ e. omega (arith, e, w))) refl in
-    let v = verdictOf Own r g in
-    let same : verdictOf Zero r f ≡ v = verdict-same (functionOf fn) c r 0 own fn m in
+    let v = verdictOf Own r (commandOf g) g in
+    let same : verdictOf Zero r (commandOf f) f ≡ v = verdict-same (functionOf fn) c r 0 own fn m in
     rw (zero ∙ ap (λ (x : Verdict). replied x r s f out) same, mine) (replied-alike r s fn m out c v refl)

@@ -17,11 +17,11 @@ use Rattle.parameters.specs.declared.code.Function.{Function}
 use Rattle.parameters.specs.declared.code.Function.the-variants as function
 use Rattle.parameters.specs.declared.code.Parameter.{Parameter}
 use Rattle.slots.specs.Day.{slotsOf}
-use Rattle.request.specs.Subject.{subjectOf, askable}
+use Rattle.request.specs.Subject.{fieldsFit}
 use Rattle.meter_record.specs.declared.record.Record.{Record}
 use Rattle.meter_command.specs.Access.{byOwn, isMain, changeAllowed, passwordFor, unlockVerdict, lockVerdict}
 use Rattle.meter_command.specs.Judgement.{passed, checked, argumentFits, readVerdict, changeVerdict, zeroVerdict, verdictBy, verdictOf}
-use Rattle.meter_command.specs.Parts.{functionIn, parameterIn, requestIn}
+use Rattle.meter_command.specs.Command.{functionIn, parameterIn, requestIn, commandOf, detailIn, dataIn}
 use Rattle.meter_command.specs.Verdict.{numberOf}
 use Rattle.meter_command.specs.declared.access.Met.{Met}
 use Rattle.meter_command.specs.declared.verdict.Verdict.{Verdict}
@@ -44,13 +44,14 @@ module _ (r : Record) (f : List ℕ) where
   p : Parameter
   p = parameterIn f
 
-  judged-by : (fn : Function) (m : Met) → Judged (verdictBy fn m r f)
+  judged-by : (fn : Function) (m : Met) → Judged (verdictBy fn m r (commandOf f) f)
   unfolding Judged p verdictBy readVerdict changeVerdict zeroVerdict unlockVerdict lockVerdict
   judged-by (function.Read reading) m =
-      checked-judged (known (parameterRow p)) (opensTo ((requestIn f) .reading) (parameterRow p)) (eqb (length f) 8) true true (askable (subjectOf (requestIn f) (slotsOf (r .minutes))))
+      checked-judged (known (parameterRow p)) (opensTo ((requestIn f) .reading) (parameterRow p)) (eqb (length f) 8) true true
+      (fieldsFit ((parameterRow p) .fields) (requestIn f) (slotsOf (r .minutes)))
   judged-by function.Change m =
       checked-judged (known (parameterRow p)) ((parameterRow p) .changeable) (eqb (length f) (6 + (parameterRow p) .«change_bytes»)) (byOwn m) (changeAllowed p (r .protection .level))
-      (argumentFits p r f)
+      (argumentFits (parameterRow p) (detailIn f) (r .telemetry) (dataIn f))
   judged-by function.Zero m =
       checked-judged (known (parameterRow p)) ((parameterRow p) .zeroable) (eqb (length f) 6) (byOwn m) (isMain (r .protection .level)) (eqb (byteAt f 3) 0)
   judged-by function.Unlock m =
@@ -71,7 +72,7 @@ module _ (r : Record) (f : List ℕ) where
 
 record AnswerEnds (r : Record) (s f out : List ℕ) (o : meter.Outcome) : Type 0 where
   ends : Ends {A = Record × List ℕ} (answerNumber o) (r, s) (o .answer .after, o .store)
-  output : (answerNumber o ≡ 0 → ⊥) → o .out ≡ cond (givesFrame (answerNumber o)) (written out 0 (framed (headOf (o .answer .verdict) f))) out
+  output : (answerNumber o ≡ 0 → ⊥) → o .out ≡ cond (givesFrame (answerNumber o)) (written out 0 (framed (headOf (o .answer .verdict) (commandOf f)))) out
   sent : (answerNumber o ≡ 0 → ⊥) → o .answer .length ≡ cond (givesFrame (answerNumber o)) bareSize 0
 
 module _ (r : Record) (s f out : List ℕ) where
@@ -108,7 +109,7 @@ module _ (r : Record) (s f out : List ℕ) where
   answer = answer-ends .ends
 
   pub answer-output : let o = answerOf r s f out in (answerNumber o ≡ 0 → ⊥)
-      → o .out ≡ cond (givesFrame (answerNumber o)) (written out 0 (framed (headOf (o .answer .verdict) f))) out
+      → o .out ≡ cond (givesFrame (answerNumber o)) (written out 0 (framed (headOf (o .answer .verdict) (commandOf f)))) out
   answer-output = answer-ends .output
 
   pub answer-length : let o = answerOf r s f out in (answerNumber o ≡ 0 → ⊥) → o .answer .length ≡ cond (givesFrame (answerNumber o)) bareSize 0
@@ -116,9 +117,9 @@ module _ (r : Record) (s f out : List ℕ) where
 
 -- ---- the refusal frame is short: six bytes, and the output past them is as it was
 
-pub frame-short : (v : Verdict) (f : List ℕ) → length (framed (headOf v f)) ≡ bareSize
+pub frame-short : (v : Verdict) (f : List ℕ) → length (framed (headOf v (commandOf f))) ≡ bareSize
 unfolding headOf
-frame-short v f = length-framed (headOf v f)
+frame-short v f = length-framed (headOf v (commandOf f))
 
-pub past-frame : (v : Verdict) (f out : List ℕ) → drop bareSize (written out 0 (framed (headOf v f))) ≡ drop bareSize out
-past-frame v f out = drop-written bareSize out 0 (framed (headOf v f)) (omega (arith, frame-short v f))
+pub past-frame : (v : Verdict) (f out : List ℕ) → drop bareSize (written out 0 (framed (headOf v (commandOf f)))) ≡ drop bareSize out
+past-frame v f out = drop-written bareSize out 0 (framed (headOf v (commandOf f))) (omega (arith, frame-short v f))

@@ -19,7 +19,7 @@ use Rattle.parameters.specs.declared.table.Row.{Row}
 use Rattle.meter_record.specs.declared.record.Record.{Record}
 use Rattle.meter_command.specs.Access.{byOwn, isMain, changeAllowed}
 use Rattle.meter_command.specs.Judgement.{passed, checked, argumentFits, changeVerdict, zeroVerdict, verdictBy, verdictOf}
-use Rattle.meter_command.specs.Parts.{functionIn, parameterIn}
+use Rattle.meter_command.specs.Command.{functionIn, parameterIn, commandOf, detailIn, dataIn}
 use Rattle.meter_command.specs.Verdict.{numberOf, resultOf}
 use Rattle.meter_command.specs.declared.access.Met.{Met}
 use Rattle.meter_command.specs.declared.access.Met.the-variants.{Own, Zero, Neither}
@@ -71,11 +71,11 @@ refused-by-zero : {k o l : Bool} (a f : Bool) → k ≡ true → o ≡ true → 
 unfolding checked passed
 refused-by-zero a f k o l = simp (k, o, l)
 
-zero-verdict : (fn : Function) (r : Record) (f : List ℕ) → changes fn ≡ true → formFits fn f ≡ true → verdictBy fn Zero r f ≡ ByAddressZero
+zero-verdict : (fn : Function) (r : Record) (f : List ℕ) → changes fn ≡ true → formFits fn f ≡ true → verdictBy fn Zero r (commandOf f) f ≡ ByAddressZero
 unfolding verdictBy changeVerdict zeroVerdict
 zero-verdict function.Change r f c h =
     let w = both ((parameterRow (parameterIn f)) .changeable) (eqb (length f) (6 + (parameterRow (parameterIn f)) .«change_bytes»)) h in
-    refused-by-zero (changeAllowed (parameterIn f) (r .protection .level)) (argumentFits (parameterIn f) r f)
+    refused-by-zero (changeAllowed (parameterIn f) (r .protection .level)) (argumentFits (parameterRow (parameterIn f)) (detailIn f) (r .telemetry) (dataIn f))
     (known-by (λ (x : Row). x .changeable) refl (parameterIn f) (w .0)) (w .0) (w .1)
 zero-verdict function.Zero r f c h =
     let w = both ((parameterRow (parameterIn f)) .zeroable) (eqb (length f) 6) h in
@@ -90,7 +90,7 @@ pub sixteen : (r : Record) (s f out : List ℕ) → Ready r s f out → met r f 
     → formFits (functionIn f) f ≡ true → answerNumber (answerOf r s f out) ≡ 16
 unfolding answerOf replied verdictOf
 sixteen r s f out y m c h =
-    let v : verdictOf (met r f) r f ≡ ByAddressZero = ap (λ (x : Met). verdictBy (functionIn f) x r f) m ∙ zero-verdict (functionIn f) r f c h in
+    let v : verdictOf (met r f) r (commandOf f) f ≡ ByAddressZero = ap (λ (x : Met). verdictBy (functionIn f) x r (commandOf f) f) m ∙ zero-verdict (functionIn f) r f c h in
     simp (le-ltb (length out) 64 (y .room), y .sound, y .hears, v)
 
 -- ---- the result byte
@@ -115,7 +115,7 @@ result r s f out room h =
     let o = answerOf r s f out in
     let v = o .answer .verdict in
     let w = four v h in
-    let frame = framed (headOf v f) in
+    let frame = framed (headOf v (commandOf f)) in
     let refused : answerNumber o ≡ 0 → ⊥ = λ z. false≢true (ap (λ (n : ℕ). eqb n 14 || eqb n 16) (sym z) ∙ h) in
     let n : length frame ≡ 6 = frame-short v f in
     ap (λ (x : List ℕ). byteAt x 3) (answer-output r s f out refused ∙ ap (λ (b : Bool). cond b (written out 0 frame) out) (w .1))

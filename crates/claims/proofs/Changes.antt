@@ -20,11 +20,11 @@ use Rattle.meter_record.specs.With.{withProtection, withPasswords}
 use Rattle.meter_record.specs.declared.record.Passwords.{Passwords}
 use Rattle.meter_record.specs.declared.record.Record.{Record}
 use Rattle.meter_command.specs.Access.{byOwn, isMain, changeAllowed, passwordFor, levelFor, unlockVerdict}
-use Rattle.meter_command.specs.Change.{passwordsAfter, changedTo, changed, zeroed}
+use Rattle.meter_command.specs.Change.{passwordsAfter, changedTo, zeroedTo}
 use Rattle.meter_command.specs.Judgement.{verdictOf, verdictBy}
 use Rattle.meter_command.proofs.JudgementLaws.{change-accepted, zero-accepted}
-use Rattle.meter_command.proofs.KeepLaws.{change-level, zero-level}
-use Rattle.meter_command.specs.Parts.{functionIn, parameterIn, detailIn, dataIn}
+use Rattle.meter_command.proofs.KeepLaws.{changed, zeroed, change-level, zero-level}
+use Rattle.meter_command.specs.Command.{functionIn, parameterIn, detailIn, dataIn, commandOf}
 use Rattle.meter_command.specs.Verdict.{isDone}
 use Rattle.meter_command.specs.declared.access.Met.{Met}
 use Rattle.meter_command.specs.declared.access.Met.the-variants.{Own, Zero, Neither}
@@ -35,22 +35,23 @@ use Rattle.claims.specs.Demand1.{answerNumber}
 use Rattle.claims.specs.Changes.{otherNamed, Alone, Permitted, Leaves}
 use Rattle.claims.proofs.Answer.{answer}
 use Rattle.claims.proofs.Replies.{passed}
+use Rattle.parameters.specs.Table.{codeOf}
 
 -- ---- a command that is done, by its function
 
 module _ (r : Record) (s f out : List ℕ) (fn : Function) (e : functionIn f ≡ fn) (h : answerNumber (answerOf r s f out) ≡ 0) where
-  pub after-done : (answerOf r s f out) .answer .after ≡ afterBy fn r f
+  pub after-done : (answerOf r s f out) .answer .after ≡ afterBy fn r (commandOf f) f
   unfolding afterOf
-  after-done = ap (λ (o : Outcome). o .answer .after) (passed r s f out h .whole) ∙ ap (λ (g : Function). afterBy g r f) e
+  after-done = ap (λ (o : Outcome). o .answer .after) (passed r s f out h .whole) ∙ ap (λ (g : Function). afterBy g r (commandOf f) f) e
 
-  pub store-done : (answerOf r s f out) .store ≡ cond (clearsBy fn (parameterIn f)) (cleared s) s
+  pub store-done : (answerOf r s f out) .store ≡ cond (clearsBy fn (codeOf (parameterIn f))) (cleared s) s
   unfolding storeAfter clears
   store-done =
-      ap (λ (o : Outcome). o .store) (passed r s f out h .whole) ∙ ap (λ (g : Function). cond (clearsBy g (parameterIn f)) (cleared s) s) e
+      ap (λ (o : Outcome). o .store) (passed r s f out h .whole) ∙ ap (λ (g : Function). cond (clearsBy g (codeOf (parameterIn f))) (cleared s) s) e
 
-  pub verdict-done : isDone (verdictBy fn (met r f) r f) ≡ true
+  pub verdict-done : isDone (verdictBy fn (met r f) r (commandOf f) f) ≡ true
   unfolding verdictOf
-  verdict-done = ap (λ (g : Function). isDone (verdictBy g (met r f) r f)) (sym e) ∙ ap isDone (passed r s f out h .verdict)
+  verdict-done = ap (λ (g : Function). isDone (verdictBy g (met r f) r (commandOf f) f)) (sym e) ∙ ap isDone (passed r s f out h .verdict)
 
 -- ---- changes
 
@@ -66,7 +67,7 @@ password-alone p detail n = go (eqb detail 1)
     go false = refl
 
 change-alone : (p : Parameter) (r : Record) (f : List ℕ) → Alone p (detailIn f) r (changed p r f)
-unfolding changed changedTo
+unfolding changedTo
 change-alone parameter.Address r f = refl
 change-alone parameter.Telemetry r f = refl
 change-alone parameter.SummerDate r f = refl
@@ -81,7 +82,7 @@ change-alone parameter.SixSlices r f = refl
 change-alone parameter.Unknown r f = refl
 
 zero-alone : (p : Parameter) (detail : ℕ) (r : Record) → Alone p detail r (zeroed p r)
-unfolding zeroed
+unfolding zeroedTo
 zero-alone parameter.Address detail r = refl
 zero-alone parameter.Telemetry detail r = refl
 zero-alone parameter.SummerDate detail r = refl
@@ -109,8 +110,8 @@ pub change : (r : Record) (s f out : List ℕ) → functionIn f ≡ function.Cha
     → Permitted (changeAllowed (parameterIn f) (r .protection .level)) f r s o
 unfolding verdictBy afterBy clearsBy
 change r s f out e h = record {
-  had = change-accepted (met r f) r f (verdict-done r s f out function.Change e h) .allowed;
-  by-own = own-only (met r f) (change-accepted (met r f) r f (verdict-done r s f out function.Change e h) .own);
+  had = change-accepted (met r f) r (commandOf f) f (verdict-done r s f out function.Change e h) .allowed;
+  by-own = own-only (met r f) (change-accepted (met r f) r (commandOf f) f (verdict-done r s f out function.Change e h) .own);
   before-renewal = changed (parameterIn f) r f;
   alone = change-alone (parameterIn f) r f;
   renewal = after-done r s f out function.Change e h ∙ renewal-of r (changed (parameterIn f) r f) (change-level (parameterIn f) r f);
@@ -121,8 +122,8 @@ pub zeroing : (r : Record) (s f out : List ℕ) → functionIn f ≡ function.Ze
     → Permitted (isMain (r .protection .level)) f r (cond (isSlice (parameterIn f)) (cleared s) s) o
 unfolding verdictBy afterBy clearsBy
 zeroing r s f out e h = record {
-  had = zero-accepted (met r f) r f (verdict-done r s f out function.Zero e h) .allowed;
-  by-own = own-only (met r f) (zero-accepted (met r f) r f (verdict-done r s f out function.Zero e h) .own);
+  had = zero-accepted (met r f) r (commandOf f) (verdict-done r s f out function.Zero e h) .allowed;
+  by-own = own-only (met r f) (zero-accepted (met r f) r (commandOf f) (verdict-done r s f out function.Zero e h) .own);
   before-renewal = zeroed (parameterIn f) r;
   alone = zero-alone (parameterIn f) (detailIn f) r;
   renewal = after-done r s f out function.Zero e h ∙ renewal-of r (zeroed (parameterIn f) r) (zero-level (parameterIn f) r);
@@ -153,7 +154,7 @@ zeroing-without-access r s f out e a = refused-leaves r s f out (λ h. false≢t
 -- ---- passwords
 
 -- a password that the meter takes is the named level's
-its-own : (p : Passwords) (f : List ℕ) → isDone (unlockVerdict p f) ≡ true → numberAt f 4 8 ≡ passwordFor p (detailIn f)
+its-own : (p : Passwords) (f : List ℕ) → isDone (unlockVerdict p (commandOf f) f) ≡ true → numberAt f 4 8 ≡ passwordFor p (detailIn f)
 unfolding unlockVerdict
 its-own p f h =
     go (eqb (length f) 14) (leb (byteAt f 3) 1) (eqb (numberAt f 4 8) (passwordFor p (byteAt f 3))) refl (eqb (byteAt f 2) 0) h

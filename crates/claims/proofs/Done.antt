@@ -1,8 +1,9 @@
 -- Demand 2, commands that the meter does: a read, a change, a zeroing, a password and a lock that pass every check are answered 0.
-use mathlib.Core.Path.{_≡_, refl, sym, ap, _∙_}
+use mathlib.Core.Path.{_≡_, refl, sym, ap, ap₂, _∙_}
 use mathlib.Core.Bool.{Bool, true, false, false≢true}
 use mathlib.Core.List.{List}
 use Prim.Native.Nat.{ℕ, _+_, _≤_}
+use lib.Dec.{eqb}
 use lib.ListN.{length}
 use borrow.Author.Tests.{le-ltb, le-leb, eq-eqb}
 use Rattle.byte_numbers.specs.Number.{bytesOf}
@@ -17,13 +18,14 @@ use Rattle.parameters.specs.declared.table.Row.{Row}
 use Rattle.slots.specs.Day.{slotsOf}
 use Rattle.request.proofs.RequestLaws as request
 use Rattle.request.specs.Request.{requestFrame}
-use Rattle.request.specs.Subject.{subjectOf, askable}
+use Rattle.request.specs.Subject.{fieldsFit, subjectOf, askable}
 use Rattle.request.specs.declared.request.Request.{Request}
 use Rattle.meter_record.specs.declared.record.Record.{Record}
 use Rattle.meter_command.specs.Access.{byOwn, isMain, changeAllowed, passwordFor, unlockVerdict, lockVerdict}
 use Rattle.meter_command.specs.Judgement.{passed, checked, argumentFits, readVerdict, changeVerdict, zeroVerdict, verdictBy, verdictOf}
-use Rattle.meter_command.specs.Parts.{functionIn, parameterIn, detailIn}
+use Rattle.meter_command.specs.Command.{functionIn, parameterIn, detailIn, commandOf, dataIn}
 use Rattle.meter_command.specs.declared.access.Met.the-variants.{Own}
+use Rattle.meter_command.specs.declared.verdict.Verdict.{Verdict}
 use Rattle.meter_command.specs.declared.verdict.Verdict.the-variants.{Done}
 use Rattle.meter.specs.Reply.{met, verdictOn, replied, answerOf}
 use Rattle.claims.specs.Demand1.{answerNumber}
@@ -38,10 +40,10 @@ answered-zero : (r : Record) (s f out : List ℕ) → Ready r s f out → verdic
 unfolding answerOf replied
 answered-zero r s f out y v = simp (le-ltb (length out) 64 (y .room), y .sound, y .hears, v)
 
-zero-by : (r : Record) (s f out : List ℕ) (fn : Function) → Ready r s f out → functionIn f ≡ fn → verdictBy fn (met r f) r f ≡ Done
+zero-by : (r : Record) (s f out : List ℕ) (fn : Function) → Ready r s f out → functionIn f ≡ fn → verdictBy fn (met r f) r (commandOf f) f ≡ Done
     → answerNumber (answerOf r s f out) ≡ 0
 unfolding verdictOf
-zero-by r s f out fn y e v = answered-zero r s f out y (ap (λ (g : Function). verdictBy g (met r f) r f) e ∙ v)
+zero-by r s f out fn y e v = answered-zero r s f out y (ap (λ (g : Function). verdictBy g (met r f) r (commandOf f) f) e ∙ v)
 
 all-passed : {k o l w a f : Bool} → k ≡ true → o ≡ true → l ≡ true → w ≡ true → a ≡ true → f ≡ true → checked k o l w a f ≡ Done
 unfolding checked passed
@@ -72,26 +74,31 @@ request-size q = refl
 read-by : (r : Record) (q : Request)
     → verdictOn r (requestFrame q)
     ≡ checked (known (parameterRow (parameterOf (q .parameter)))) (opensTo (q .reading) (parameterRow (parameterOf (q .parameter)))) true true true
-    (askable (subjectOf q (slotsOf (r .minutes))))
+    (fieldsFit ((parameterRow (parameterOf (q .parameter))) .fields) q (slotsOf (r .minutes)))
 unfolding verdictOf verdictBy readVerdict
 read-by r q =
-    ap (λ (fn : Function). verdictBy fn (met r (requestFrame q)) r (requestFrame q)) (request-read q)
-    ∙ simp (request-parameter q, request-again q, request-size q)
+    let f = requestFrame q in
+    let seen : ℕ → Request → Verdict = λ n x.
+    let w = parameterRow (parameterOf n) in
+    checked (known w) (opensTo (x .reading) w) (eqb (length f) 8) true true (fieldsFit (w .fields) x (slotsOf (r .minutes))) in
+    ap (λ (fn : Function). verdictBy fn (met r f) r (commandOf f) f) (request-read q)
+    ∙ ap₂ seen (request-parameter q) (request-again q)
+    ∙ simp (request-size q)
 
 pub read-done : (r : Record) (s : List ℕ) (q : Request) (out : List ℕ) → Ready r s (requestFrame q) out
     → askable (subjectOf q (slotsOf (r .minutes))) ≡ true → answerNumber (answered r s q out) ≡ 0
 unfolding subjectOf
 read-done r s q out y h =
     let p = parameterOf (q .parameter) in
-    let opened = request.asked p q (slotsOf (r .minutes)) h .open-to in
+    let a = request.asked p q (slotsOf (r .minutes)) h in
     answered-zero r s (requestFrame q) out y
-    (read-by r q ∙ all-passed (known-by (opensTo (q .reading)) (unknown-shut (q .reading)) p opened) opened refl refl refl h)
+    (read-by r q ∙ all-passed (known-by (opensTo (q .reading)) (unknown-shut (q .reading)) p (a .open-to)) (a .open-to) refl refl refl (a .fits))
 
 -- ---- a change, a zeroing
 
 pub change-done : (r : Record) (s f out : List ℕ) → Ready r s f out → met r f ≡ Own → functionIn f ≡ function.Change → let w = parameterRow (parameterIn f) in
     w .changeable ≡ true → length f ≡ 6 + w .«change_bytes» → changeAllowed (parameterIn f) (r .protection .level) ≡ true
-    → argumentFits (parameterIn f) r f ≡ true → answerNumber (answerOf r s f out) ≡ 0
+    → argumentFits (parameterRow (parameterIn f)) (detailIn f) (r .telemetry) (dataIn f) ≡ true → answerNumber (answerOf r s f out) ≡ 0
 unfolding verdictBy changeVerdict
 change-done r s f out y m e c l a g =
     zero-by r s f out function.Change y e (all-passed (known-by (λ (w : Row). w .changeable) refl (parameterIn f) c) c (eq-eqb _ _ l) (ap byOwn m) a g)

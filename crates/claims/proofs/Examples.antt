@@ -33,7 +33,7 @@ use Rattle.meter_record.specs.Ranges.{isTelemetry}
 use Rattle.meter_record.specs.Record.{fresh}
 use Rattle.meter_command.specs.Change.{telemetryFits, dataFits}
 use Rattle.meter_command.specs.Judgement.{verdictOf, verdictBy, changeVerdict, checked, passed, argumentFits}
-use Rattle.meter_command.specs.Parts.{parameterByte}
+use Rattle.meter_command.specs.Command.{parameterByte}
 use Rattle.calendar.specs.Count.{starts, countOff}
 use Rattle.calendar.specs.Date.{dateOf, dateAt, dayNumber, lengthOf, daysInMonth, monthLengths, leap, isDate}
 use Rattle.calendar.specs.Sunday.{lastSunday}

@@ -22,8 +22,9 @@ use Rattle.meter_record.specs.Widths.{FitsRecord}
 use Rattle.meter_record.specs.With.{remade, withProtection}
 use Rattle.meter_record.specs.declared.record.Passwords.{Passwords}
 use Rattle.meter_record.specs.declared.record.Record.{Record}
-use Rattle.meter_command.specs.Change.{passwordsAfter, changedTo, changed, zeroed}
-use Rattle.meter_command.specs.Parts.{detailIn, dataIn}
+use Rattle.meter_command.specs.Change.{passwordsAfter, changedTo, zeroedTo}
+use Rattle.meter_command.proofs.KeepLaws.{changed, zeroed}
+use Rattle.meter_command.specs.Command.{detailIn, dataIn}
 use Rattle.meter.specs.Effect.{renewed}
 
 -- ---- bytes and their numbers
@@ -97,7 +98,7 @@ module _ (r : Record) (f : FitsRecord r) where
       either FitsPasswords (eqb detail 1) (record { main = f .main; auxiliary = h }) (record { main = h; auxiliary = f .auxiliary })
 
   changed-fits : (p : Parameter) (c : List ℕ) → Bytes c → FitsRecord (changed p r c)
-  unfolding changed changedTo telemetryOf maskOf
+  unfolding changedTo telemetryOf maskOf
   changed-fits p c b = go p
     where
       bs : Bytes (dataIn c)
@@ -124,7 +125,7 @@ module _ (r : Record) (f : FitsRecord r) where
       go parameter.Unknown = f
 
   zeroed-fits : (p : Parameter) → FitsRecord (zeroed p r)
-  unfolding zeroed
+  unfolding zeroedTo
   zeroed-fits parameter.SummerDate = time-fits _
   zeroed-fits parameter.WinterDate = time-fits _
   zeroed-fits parameter.Slice = remade-fits r _ _ _ _ _ _ _ f (f .address) passwords (f .telemetry) mask (lit≤ tt)

@@ -36,7 +36,7 @@ use Rattle.meter_record.specs.declared.record.RecordAnswer.{RecordAnswer}
 use Rattle.meter_record.specs.declared.record.RecordAnswer.the-variants.{Done, OutOfRange, Unsound}
 use Rattle.meter_record.proofs.RangeLaws as ranges
 use Rattle.meter_command.specs.Judgement.{checked, readVerdict, verdictBy, verdictOf}
-use Rattle.meter_command.specs.Parts.{functionIn, parameterByte, parameterIn, requestIn}
+use Rattle.meter_command.specs.Command.{functionIn, parameterByte, parameterIn, requestIn, commandOf}
 use Rattle.meter_command.specs.declared.access.Met.{Met}
 use Rattle.meter_command.specs.declared.verdict.Verdict.the-variants.{UnknownParameter, NotOpen}
 use Rattle.meter.specs.Reply.{isSound}
@@ -74,16 +74,16 @@ slices-alone r s q out e h =
     displayable-slice p (ap (λ (x : Reading). opensTo x (parameterRow p)) (sym e) ∙ request.asked p q (slotsOf (r .minutes)) a .open-to)
 
 pub not-open : (met : Met) (r : Record) (f : List ℕ) → functionIn f ≡ function.Read Displayed → known (parameterRow (parameterIn f)) ≡ true
-    → (parameterIn f ≡ parameter.Slice → ⊥) → verdictOf met r f ≡ NotOpen
-unfolding verdictOf verdictBy readVerdict checked requestIn
+    → (parameterIn f ≡ parameter.Slice → ⊥) → verdictOf met r (commandOf f) f ≡ NotOpen
+unfolding verdictOf verdictBy readVerdict checked
 not-open met r f e k n = go ((parameterRow (parameterIn f)) .displayable) refl
   where
-    go : (b : Bool) → (parameterRow (parameterIn f)) .displayable ≡ b → verdictOf met r f ≡ NotOpen
+    go : (b : Bool) → (parameterRow (parameterIn f)) .displayable ≡ b → verdictOf met r (commandOf f) f ≡ NotOpen
     go true d = absurd (n (displayable-slice (parameterIn f) d))
     go false d = simp (e, k, d)
 
 pub unknown : (met : Met) (r : Record) (f : List ℕ) → functionIn f ≡ function.Read Displayed → known (parameterRow (parameterIn f)) ≡ false
-    → verdictOf met r f ≡ UnknownParameter
+    → verdictOf met r (commandOf f) f ≡ UnknownParameter
 unfolding verdictOf verdictBy readVerdict checked
 unknown met r f e k = simp (e, k)
 
@@ -91,7 +91,7 @@ bare-unknown : (f : List ℕ) → length f ≡ shortest → parameterIn f ≡ pa
 unfolding parameterByte parameterOf firstOf
 bare-unknown f l = rw l refl
 
-pub bare : (met : Met) (r : Record) (f : List ℕ) → functionIn f ≡ function.Read Displayed → length f ≡ shortest → verdictOf met r f ≡ UnknownParameter
+pub bare : (met : Met) (r : Record) (f : List ℕ) → functionIn f ≡ function.Read Displayed → length f ≡ shortest → verdictOf met r (commandOf f) f ≡ UnknownParameter
 bare met r f e l = unknown met r f e (ap (λ (p : Parameter). known (parameterRow p)) (bare-unknown f l))
 
 -- ---- the ratios

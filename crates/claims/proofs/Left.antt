@@ -43,11 +43,12 @@ use Rattle.claims.proofs.Answer.{Judged, judged}
 use Rattle.claims.proofs.Range.{decoded-no-27}
 use Rattle.claims.proofs.Reading.{reading-back}
 use Rattle.claims.proofs.Replies.{done-only, read, refused}
+use Rattle.meter_command.specs.Command.{commandOf}
 
 -- ---- the store
 
 -- a read clears nothing
-read-clears-nothing : (s : List ℕ) (q : Request) → storeAfter s (requestFrame q) ≡ s
+read-clears-nothing : (s : List ℕ) (q : Request) → storeAfter s (commandOf (requestFrame q)) ≡ s
 unfolding storeAfter clears clearsBy requestFrame framed
 read-clears-nothing s q = rw (reading-back (q .reading)) refl
 
@@ -109,7 +110,7 @@ module _ (r : Record) (s : List ℕ) (q : Request) (out : List ℕ) (a : askable
   f = requestFrame q
 
   Left : Verdict → inquiry.Outcome → Type 0
-  Left v o = o .out ≡ cond (noReply (inquiry.numberOf (o .answer))) out (written out 0 (framed (cond (isDone v) (headOf v f ++ dataOf r s f) (headOf v f))))
+  Left v o = o .out ≡ cond (noReply (inquiry.numberOf (o .answer))) out (written out 0 (framed (cond (isDone v) (headOf v (commandOf f) ++ dataOf r s (commandOf f)) (headOf v (commandOf f)))))
 
   told : (y w : List ℕ) → w ≡ cond (noReply (reader.numberOf (decodedOf q y))) out w
   told y w = second (noReply (reader.numberOf (decodedOf q y))) out w (no-reply-27 (decodedOf q y) (decoded-no-27 q y a))
@@ -217,14 +218,14 @@ done-number r s q out w b k e n l m g =
 
 pub refused-output : (r : Record) (s : List ℕ) (q : Request) (out : List ℕ) → FitsRecord r → Bytes s → FitsRequest q
     → let o = inquired r s q out in let f = requestFrame q in (inquiry.numberOf (o .answer) ≡ 0 → ⊥)
-    → o .out ≡ cond (eqb (inquiry.numberOf (o .answer)) 24) (written out 0 (framed (headOf (verdictOn r f) f))) out
+    → o .out ≡ cond (eqb (inquiry.numberOf (o .answer)) 24) (written out 0 (framed (headOf (verdictOn r f) (commandOf f)))) out
 unfolding inquired asked toldOf answerOf noReply
 refused-output r s q out w b k n =
     go (ltb (length out) 64) refl (isSound r s) refl (askable (subjectOf q mostSlots)) refl (heard r (requestFrame q)) refl (isDone (verdictOn r (requestFrame q))) refl
   where
     go : (a : Bool) → ltb (length out) 64 ≡ a → (c : Bool) → isSound r s ≡ c → (d : Bool) → askable (subjectOf q mostSlots) ≡ d
         → (g : Bool) → heard r (requestFrame q) ≡ g → (h : Bool) → isDone (verdictOn r (requestFrame q)) ≡ h
-        → (inquired r s q out) .out ≡ cond (eqb (inquiry.numberOf ((inquired r s q out) .answer)) 24) (written out 0 (framed (headOf (verdictOn r (requestFrame q)) (requestFrame q)))) out
+        → (inquired r s q out) .out ≡ cond (eqb (inquiry.numberOf ((inquired r s q out) .answer)) 24) (written out 0 (framed (headOf (verdictOn r (requestFrame q)) (commandOf (requestFrame q))))) out
     go true e c i d l g m h p = simp e
     go false e false i d l g m h p = simp (e, i)
     go false e true i false l g m h p = simp (e, i, l)
@@ -234,8 +235,8 @@ refused-output r s q out w b k n =
         let y = refused r s q out k l (ltb-false (length out) 64 e) i m p in
         let x : inquiry.numberOf ((inquired r s q out) .answer) ≡ 24 = heard-number r s q out e i l m ∙ ap reader.numberOf y in
         let f = requestFrame q in
-        let head = headOf (verdictOn r f) f in
+        let head = headOf (verdictOn r f) (commandOf f) in
         output r s q out
         ∙ ap (λ (j : ℕ). cond (noReply j) out (written out 0 (replyTo r s f))) x
-        ∙ ap (λ (j : Bool). written out 0 (framed (cond j (head ++ dataOf r s f) head))) p
+        ∙ ap (λ (j : Bool). written out 0 (framed (cond j (head ++ dataOf r s (commandOf f)) head))) p
         ∙ sym (ap (λ (j : ℕ). cond (eqb j 24) (written out 0 (framed head)) out) x)

@@ -29,9 +29,10 @@ use Rattle.meter_record.specs.With.{withProtection, withPasswords}
 use Rattle.meter_record.specs.declared.record.Passwords.{Passwords}
 use Rattle.meter_record.specs.declared.record.Record.{Record}
 use Rattle.meter_command.specs.Access.{changeAllowed, passwordFor, levelFor, unlockVerdict}
-use Rattle.meter_command.specs.Change.{dataFits, passwordsAfter, changedTo, changed}
+use Rattle.meter_command.specs.Change.{dataFits, passwordsAfter, changedTo}
+use Rattle.meter_command.proofs.KeepLaws.{changed}
 use Rattle.meter_command.specs.Judgement.{argumentFits, verdictOf, verdictBy}
-use Rattle.meter_command.specs.Parts.{parameterByte, parameterIn, dataIn}
+use Rattle.meter_command.specs.Command.{parameterByte, parameterIn, dataIn, commandOf, detailIn}
 use Rattle.meter_command.specs.Verdict.{numberOf, isDone}
 use Rattle.meter_command.specs.declared.access.Met.the-variants.{Own}
 use Rattle.meter_command.specs.declared.verdict.Verdict.{Verdict}
@@ -80,7 +81,7 @@ one-number a b x y e =
 -- ---- what an unlock is told
 
 unlock-verdict : (k : Passwords) (a : ℕ) (level : Access) (p : List ℕ) → length p ≡ 8
-    → unlockVerdict k (framed (a ∷ 31 ∷ 0 ∷ levelByte level ∷ p)) ≡ cond (eqb (number p) (passwordFor k (levelByte level))) Done NoAccess
+    → unlockVerdict k (commandOf (framed (a ∷ 31 ∷ 0 ∷ levelByte level ∷ p))) (framed (a ∷ 31 ∷ 0 ∷ levelByte level ∷ p)) ≡ cond (eqb (number p) (passwordFor k (levelByte level))) Done NoAccess
 unfolding unlockVerdict framed
 unlock-verdict k a level p h =
     let m : List ℕ = 0 ∷ levelByte level ∷ p in
@@ -110,7 +111,7 @@ unfolding verdictOf verdictBy functionOf framed
 told r s level p room sound a e space =
     let f = unlocking r level p in
     ap answerNumber (answered-by r s f room Own space sound (meets r s 31 0 level p (lit≤ tt) (lit≤ tt) sound a e) refl)
-    ∙ number-told (verdictOf Own r f) r s f room
+    ∙ number-told (verdictOf Own r (commandOf f) f) r s f room
     ∙ ap numberOf (unlock-verdict (r .passwords) (r .address) level p (e .long))
 
 -- ---- the change
@@ -138,15 +139,15 @@ taken level new r s out e a sound room m =
     (ap (λ (p : Parameter). (parameterRow p) .changeable) g)
     (l ∙ ap (λ (p : Parameter). 6 + (parameterRow p) .«change_bytes») (sym g))
     (ap₂ changeAllowed g m)
-    (ap (λ (p : Parameter). argumentFits p r f) g ∙ fits level r new)
+    (ap (λ (p : Parameter). argumentFits (parameterRow p) (detailIn f) (r .telemetry) (dataIn f)) g ∙ fits level r new)
   where
-    fits : (x : Access) (r : Record) (new : List ℕ) → argumentFits parameter.Password r (newPassword r x new) ≡ true
+    fits : (x : Access) (r : Record) (new : List ℕ) → argumentFits (parameterRow parameter.Password) (detailIn (newPassword r x new)) (r .telemetry) (dataIn (newPassword r x new)) ≡ true
     fits access.Main r new = refl
     fits access.Auxiliary r new = refl
 
 given-after : (level : Access) (new : List ℕ) (r : Record) (s out room : List ℕ) → New level new r s out room
     → (given level new r s out) .answer .after ≡ renewed (withPasswords r (passwordsAfter (r .passwords) (levelByte level) (number new)))
-unfolding functionOf framed afterBy changed changedTo
+unfolding functionOf framed afterBy changedTo
 given-after level new r s out room n =
     let f = newPassword r level new in
     after-done r s f out function.Change refl (n .zero)

@@ -20,7 +20,7 @@ use Rattle.meter_record.specs.Ranges.{isWithin}
 use Rattle.meter_record.specs.Record.{later, secondOf}
 use Rattle.meter_record.specs.declared.record.Record.{Record}
 use Rattle.meter_command.specs.Judgement.{verdictBy}
-use Rattle.meter_command.specs.Parts.{functionIn}
+use Rattle.meter_command.specs.Command.{functionIn}
 use Rattle.meter.specs.Reply.{isSound, answerOf}
 use Rattle.meter.proofs.KeepLaws.{answer-sound}
 use Rattle.claims.specs.Demand1.{answerNumber}

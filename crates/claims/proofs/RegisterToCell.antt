@@ -35,7 +35,7 @@ use Rattle.request.specs.declared.request.Request.{Request}
 use Rattle.meter_store.specs.Store.{keyOf, sliceOf, countAt, rowBytes}
 use Rattle.meter_store.proofs.StoreLaws.{RowFits}
 use Rattle.meter_record.specs.declared.record.Record.{Record}
-use Rattle.meter_command.specs.Parts.{parameterByte, requestIn}
+use Rattle.meter_command.specs.Command.{parameterByte, requestIn, commandOf}
 use Rattle.meter_reply_data.specs.Reading.{dataOf}
 use Rattle.meter.specs.Reply.{Outcome, answerOf}
 use Rattle.reader.specs.declared.form.Form.the-variants.{WellFormed}
@@ -271,8 +271,8 @@ module _ (r : Record) (store : List ℕ) (address : ℕ) (d : Date) (slot : ℕ)
   abbrev xs : List ℕ
   xs = sliceOn store d slot
 
-  data-is : dataOf r store (requestFrame q) ≡ rowBytes xs
-  unfolding dataOf requestFrame framed requestIn parameterByte bytesOf functionOf parameterOf firstOf
+  data-is : dataOf r store (commandOf (requestFrame q)) ≡ rowBytes xs
+  unfolding dataOf requestFrame framed parameterByte bytesOf functionOf parameterOf firstOf
   data-is = refl
 
   reply-whole : answerNumber (answered r store q out) ≡ 0 → replyIn (answered r store q out) ≡ sliceAnswer address xs

@@ -1,5 +1,5 @@
 -- Demand 2, reads: what an answer with 0 has passed, its reply as the reader takes it, and a refusal frame decoded.
-use mathlib.Core.Path.{_≡_, refl, sym, ap, _∙_}
+use mathlib.Core.Path.{_≡_, refl, sym, ap, ap₂, _∙_}
 use mathlib.Core.Bool.{Bool, true, false, false≢true}
 use mathlib.Core.List.{List, [], _∷_, _++_, append-assoc}
 use Prim.Native.Nat.{ℕ, _+_, _≤_, _<_}
@@ -28,7 +28,7 @@ use Rattle.slots.proofs.DayLaws.{slots-at-most}
 use Rattle.request.specs.Request.{requestFrame}
 use Rattle.request.proofs.RequestLaws as request
 use Rattle.request.proofs.RequestLaws.{subject-wider}
-use Rattle.request.specs.Subject.{keyOf, subjectOf, subjectFor, mostSlots, askable, dataBytes}
+use Rattle.request.specs.Subject.{keyOf, fieldsFit, subjectOf, subjectFor, mostSlots, askable, dataBytes}
 use Rattle.request.specs.declared.request.Request.{Request}
 use Rattle.meter_store.specs.Store.{sixOf, storeBytes}
 use Rattle.meter_record.proofs.RangeLaws.{Within, within}
@@ -37,7 +37,7 @@ use Rattle.meter_record.specs.Widths.{FitsRecord}
 use Rattle.meter_record.specs.declared.record.Record.{Record}
 use Rattle.meter_command.specs.Judgement.{verdictOf, verdictBy, readVerdict}
 use Rattle.meter_command.proofs.JudgementLaws.{read-accepted}
-use Rattle.meter_command.specs.Parts.{functionIn, parameterByte, requestIn}
+use Rattle.meter_command.specs.Command.{functionIn, parameterByte, parameterIn, requestIn, commandOf}
 use Rattle.meter_command.specs.Verdict.{resultOf, isDone}
 use Rattle.meter_command.specs.declared.verdict.Verdict.{Verdict}
 use Rattle.meter_command.specs.declared.verdict.Verdict.the-variants.{Done, TooShort, Unsound, Silent, UnknownFunction, UnknownParameter}
@@ -113,26 +113,35 @@ unfolding requestFrame framed parameterByte bytesOf
 request-parameter q = rw (reading-back (q .reading)) refl
 
 pub request-again : (q : Request) → requestIn (requestFrame q) ≡ q
-unfolding requestFrame framed requestIn
+unfolding requestFrame framed
 request-again q = rw (reading-back (q .reading)) refl
+
+-- what is open, with fields that fit, is asked for
+asks-for : (p : Parameter) (q : Request) (slots : ℕ) → opensTo (q .reading) (parameterRow p) ≡ true → fieldsFit ((parameterRow p) .fields) q slots ≡ true
+    → askable (subjectFor p q slots) ≡ true
+unfolding subjectFor
+asks-for p q slots o g = rw (o, g) refl
 
 -- a request that is answered with 0 asks for something
 pub asked : (r : Record) (q : Request) → verdictOn r (requestFrame q) ≡ Done → askable (subjectOf q (slotsOf (r .minutes))) ≡ true
-unfolding verdictOf verdictBy
+unfolding verdictOf verdictBy subjectOf
 asked r q h =
+    let slots = slotsOf (r .minutes) in
     let f = requestFrame q in
-    let v : readVerdict r f ≡ Done = sym (ap (λ (fn : Function). verdictBy fn (met r f) r f) (request-read q)) ∙ h in
-    ap (λ (x : Request). askable (subjectOf x (slotsOf (r .minutes)))) (sym (request-again q)) ∙ read-accepted r f (ap isDone v) .fits
+    let v : readVerdict r (commandOf f) ≡ Done = sym (ap (λ (fn : Function). verdictBy fn (met r f) r (commandOf f) f) (request-read q)) ∙ h in
+    let a = read-accepted r (commandOf f) (ap isDone v) in
+    ap₂ (λ (n : ℕ) (x : Request). askable (subjectFor (parameterOf n) x slots)) (sym (request-parameter q)) (sym (request-again q))
+    ∙ asks-for (parameterIn f) (requestIn f) slots (a .opens) (a .fits)
 
 -- the reply's bytes before its CRC
 body : (r : Record) (s : List ℕ) (q : Request)
-    → headOf Done (requestFrame q) ++ dataOf r s (requestFrame q) ≡ replyBody q (figuresAs (q .reading) (parameterOf (q .parameter)) r s q)
-unfolding headOf functionFor dataOf requestFrame framed requestIn parameterByte bytesOf
+    → headOf Done (commandOf (requestFrame q)) ++ dataOf r s (commandOf (requestFrame q)) ≡ replyBody q (figuresAs (q .reading) (parameterOf (q .parameter)) r s q)
+unfolding headOf functionFor dataOf requestFrame framed parameterByte bytesOf
 body r s q = rw (reading-back (q .reading)) refl
 
 length-of-data : (r : Record) (s : List ℕ) (q : Request)
-    → length (dataOf r s (requestFrame q)) ≡ length (figuresAs (q .reading) (parameterOf (q .parameter)) r s q)
-unfolding dataOf requestFrame framed requestIn parameterByte bytesOf
+    → length (dataOf r s (commandOf (requestFrame q))) ≡ length (figuresAs (q .reading) (parameterOf (q .parameter)) r s q)
+unfolding dataOf requestFrame framed parameterByte bytesOf
 length-of-data r s q = rw (reading-back (q .reading)) refl
 
 figures-small : (p : Parameter) (r : Record) (s : List ℕ) (q : Request) → length (figuresAs (q .reading) p r s q) ≤ 48
@@ -144,12 +153,12 @@ pub reply-is : (r : Record) (s : List ℕ) (q : Request) (out : List ℕ) → Pa
 reply-is r s q out p =
     let f = requestFrame q in
     let figures = figuresAs (q .reading) (parameterOf (q .parameter)) r s q in
-    let d : length (dataOf r s f) ≡ length figures = length-of-data r s q in
+    let d : length (dataOf r s (commandOf f)) ≡ length figures = length-of-data r s q in
     let small : length figures ≤ 48 = figures-small (parameterOf (q .parameter)) r s q in
-    let l : length (framed (replyBody q figures)) ≡ 6 + length (dataOf r s f) = length-framed (replyBody q figures) ∙ omega (arith, d) in
+    let l : length (framed (replyBody q figures)) ≡ 6 + length (dataOf r s (commandOf f)) = length-framed (replyBody q figures) ∙ omega (arith, d) in
     ap replyIn (p .whole)
-    ∙ ap (λ (b : List ℕ). take (6 + length (dataOf r s f)) (written out 0 (framed b))) (body r s q)
-    ∙ front-again out (framed (replyBody q figures)) (6 + length (dataOf r s f)) l (omega (arith, p .room, d, small))
+    ∙ ap (λ (b : List ℕ). take (6 + length (dataOf r s (commandOf f))) (written out 0 (framed b))) (body r s q)
+    ∙ front-again out (framed (replyBody q figures)) (6 + length (dataOf r s (commandOf f))) l (omega (arith, p .room, d, small))
 
 -- the reader's answer to it
 decoded-is : (r : Record) (s : List ℕ) (q : Request) → Within r → FitsRecord r → Bytes s → FitsRequest q
@@ -248,7 +257,7 @@ refusal-decoded q k small n f h =
     )
 
 -- the refusal frame that a request gets
-refusal-head : (q : Request) (v : Verdict) → isDone v ≡ false → headOf v (requestFrame q) ≡ refusalBody q (resultOf v)
+refusal-head : (q : Request) (v : Verdict) → isDone v ≡ false → headOf v (commandOf (requestFrame q)) ≡ refusalBody q (resultOf v)
 unfolding headOf functionFor requestFrame framed parameterByte bytesOf
 refusal-head q v e = simp (e, reading-back (q .reading), code-below (q .reading))
 
@@ -272,7 +281,7 @@ result-told WrongArgument e = record { byte = lit≤ tt; some = refl }
 
 -- and decoded
 refusal-of : (q : Request) (v : Verdict) → FitsRequest q → askable (subjectOf q mostSlots) ≡ true → isDone v ≡ false
-    → decodedOf q (framed (headOf v (requestFrame q))) ≡ decoded.MeterRefused (resultOf v)
+    → decodedOf q (framed (headOf v (commandOf (requestFrame q)))) ≡ decoded.MeterRefused (resultOf v)
 refusal-of q v f h e =
     let t = result-told v e in
     ap (λ (body : List ℕ). decodedOf q (framed body)) (refusal-head q v e) ∙ refusal-decoded q (resultOf v) (t .byte) (t .some) f h
@@ -288,8 +297,8 @@ pub refused : (r : Record) (s : List ℕ) (q : Request) (out : List ℕ) → Fit
     → decodedOf q (replyIn (answered r s q out)) ≡ decoded.MeterRefused (resultOf (verdictOn r (requestFrame q)))
 refused r s q out f h room sound hear d =
     let v = verdictOn r (requestFrame q) in
-    let frame = framed (headOf v (requestFrame q)) in
-    let l : length frame ≡ 6 = length-framed (headOf v (requestFrame q)) ∙ ap (λ (n : ℕ). n + 2) (length-head v (requestFrame q)) in
+    let frame = framed (headOf v (commandOf (requestFrame q))) in
+    let l : length frame ≡ 6 = length-framed (headOf v (commandOf (requestFrame q))) ∙ ap (λ (n : ℕ). n + 2) (length-head v (commandOf (requestFrame q))) in
     ap (decodedOf q)
     (ap replyIn (refused-whole r s (requestFrame q) out room sound hear d) ∙ front-again out frame 6 l (omega (arith, room)))
     ∙ refusal-of q v f h d

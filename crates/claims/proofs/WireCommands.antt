@@ -38,9 +38,10 @@ use Rattle.meter_record.specs.Ranges.{isTelemetry, isWithin}
 use Rattle.meter_record.specs.declared.record.Record.{Record}
 use Rattle.meter_store.specs.Store.{storeBytes}
 use Rattle.meter_command.specs.Access.{isMain, isOpen, changeAllowed, passwordFor, levelFor}
-use Rattle.meter_command.specs.Change.{dataFits, telemetryFits, changed, changedTo, zeroed, passwordsAfter}
+use Rattle.meter_command.specs.Change.{dataFits, telemetryFits, changedTo, zeroedTo, passwordsAfter}
+use Rattle.meter_command.proofs.KeepLaws.{changed, zeroed}
 use Rattle.meter_command.specs.Judgement.{argumentFits}
-use Rattle.meter_command.specs.Parts.{functionIn, parameterByte}
+use Rattle.meter_command.specs.Command.{functionIn, parameterByte, commandOf, detailIn, dataIn}
 use Rattle.meter_command.specs.declared.access.Met.the-variants.{Own}
 use Rattle.meter_command.specs.declared.verdict.Verdict.the-variants.{Done}
 use Rattle.meter_reply_data.specs.Reading.{isRead, dataOf}
@@ -61,14 +62,14 @@ use Rattle.claims.proofs.WireRefusals.{has-parameter}
 -- ---- the reply to a command that has no data
 
 command-reply : (r : Record) (s f out : List ℕ) → isRead (functionIn f) ≡ false → answerNumber (answerOf r s f out) ≡ 0
-    → replyIn (answerOf r s f out) ≡ framed (headOf Done f)
+    → replyIn (answerOf r s f out) ≡ framed (headOf Done (commandOf f))
 unfolding dataOf headOf
 command-reply r s f out e h =
     let p = passed r s f out h in
-    let none : dataOf r s f ≡ [] = simp e in
-    let l : length (framed (headOf Done f)) ≡ 6 = length-framed (headOf Done f) in
-    ap replyIn (p .whole) ∙ ap (λ (d : List ℕ). take (6 + length d) (written out 0 (framed (headOf Done f ++ d)))) none
-    ∙ front-again out (framed (headOf Done f)) 6 l (omega (arith, p .room))
+    let none : dataOf r s (commandOf f) ≡ [] = simp e in
+    let l : length (framed (headOf Done (commandOf f))) ≡ 6 = length-framed (headOf Done (commandOf f)) in
+    ap replyIn (p .whole) ∙ ap (λ (d : List ℕ). take (6 + length d) (written out 0 (framed (headOf Done (commandOf f) ++ d)))) none
+    ∙ front-again out (framed (headOf Done (commandOf f))) 6 l (omega (arith, p .room))
 
 -- ---- a frame that names the meter
 
@@ -95,7 +96,7 @@ met-own r s out rest n b least most =
 record Needs (r : Record) (p : Parameter) (f bs : List ℕ) : Type 0 where
   bytes : OfBytes bs
   allowed : changeAllowed p (r .protection .level) ≡ true
-  fits : argumentFits p r f ≡ true
+  fits : argumentFits (parameterRow p) (detailIn f) (r .telemetry) (dataIn f) ≡ true
 
 module _ (r : Record) (s out : List ℕ) where
   abbrev frame : ℕ → ℕ → List ℕ → List ℕ
@@ -127,7 +128,8 @@ module _ (r : Record) (s out : List ℕ) where
   -- a time's six bytes
   times : {A : Type 0} (p detail : ℕ) (t : DateTime) (right : Bool) (field : Record → A) (value : A) → p < 256 → detail < 256
       → let q = parameterOf p in let f = frame p detail (dateTimeBytes t) in
-      (parameterRow q) .changeable ≡ true → 6 ≡ (parameterRow q) .«change_bytes» → ((l : Level) → changeAllowed q l ≡ isMain l) → argumentFits q r f ≡ right
+      (parameterRow q) .changeable ≡ true → 6 ≡ (parameterRow q) .«change_bytes» → ((l : Level) → changeAllowed q l ≡ isMain l)
+      → argumentFits (parameterRow q) (detailIn f) (r .telemetry) (dataIn f) ≡ right
       → (right ≡ true → isTime t ≡ true) → field (renewed (changed q r f)) ≡ value
       → Sets r s out (r .address) f (framed (r .address ∷ 16 ∷ p ∷ 0 ∷ [])) (isMain (r .protection .level) && right) field value
   unfolding dateTimeBytes
@@ -142,7 +144,8 @@ module _ (r : Record) (s out : List ℕ) where
   switchable-time t h = both (isTime t) (leb 3600 (secondNumber t)) (both _ (ltb (secondNumber t + 3600) centurySeconds) h .0) .0
 
   -- eight bytes of password
-  password : (detail : ℕ) (n : ℕ) (field : Record → ℕ) → detail < 256 → let f = frame 37 detail (bytesOf 8 n) in argumentFits (parameterOf 37) r f ≡ true
+  password : (detail : ℕ) (n : ℕ) (field : Record → ℕ) → detail < 256 → let f = frame 37 detail (bytesOf 8 n) in
+      argumentFits (parameterRow (parameterOf 37)) (detailIn f) (r .telemetry) (dataIn f) ≡ true
       → field (renewed (changed (parameterOf 37) r f)) ≡ n
       → Sets r s out (r .address) f (framed (r .address ∷ 16 ∷ 37 ∷ 0 ∷ [])) (isMain (r .protection .level)) field n
   unfolding parameterOf firstOf bytesOf
@@ -182,7 +185,7 @@ module _ (r : Record) (s out : List ℕ) where
       }
 
   pub changes : Changes r s out
-  unfolding framed bytesOf parameterOf firstOf argumentFits dataFits changed changedTo dateTimeOf dateTimeBytes telemetryBytes maskBytes passwordsAfter zeroed
+  unfolding framed bytesOf parameterOf firstOf argumentFits dataFits changedTo dateTimeOf dateTimeBytes telemetryBytes maskBytes passwordsAfter zeroedTo
   changes = record {
     address = λ n b.
         sets 21 0 (n ∷ []) _ (λ (x : Record). x .address) n (lit≤ tt) (lit≤ tt) refl refl (lit≤ tt)

@@ -18,7 +18,7 @@ use Rattle.request.specs.Request.{requestFrame, requested, numberOf as requestN
 use Rattle.request.specs.Subject.{subjectOf, mostSlots, askable}
 use Rattle.request.specs.declared.request.Request.{Request}
 use Rattle.meter_record.specs.declared.record.Record.{Record}
-use Rattle.meter_command.specs.Parts.{named, parameterByte}
+use Rattle.meter_command.specs.Command.{named, parameterByte, commandOf}
 use Rattle.meter_command.specs.Verdict.{numberOf, resultOf, isDone}
 use Rattle.meter_command.specs.declared.verdict.Verdict.{Verdict}
 use Rattle.meter_command.specs.declared.verdict.Verdict.the-variants.{Done, TooShort, Unsound, Silent, UnknownFunction, UnknownParameter}
@@ -90,7 +90,7 @@ top-set v n e = go (ltb n 128) refl
 abbrev refusalOf : List ℕ → ℕ → ℕ → List ℕ
 refusalOf f p n = byteAt f 0 ∷ topBit (byteAt f 1) ∷ p ∷ resultFor n ∷ []
 
-head-is : (v : Verdict) (f : List ℕ) (n : ℕ) → Told v n → headOf v f ≡ refusalOf f (parameterByte f) n
+head-is : (v : Verdict) (f : List ℕ) (n : ℕ) → Told v n → headOf v (commandOf f) ≡ refusalOf f (parameterByte f) n
 unfolding headOf
 head-is v f n t = ap₂ (λ (x y : ℕ). byteAt f 0 ∷ x ∷ parameterByte f ∷ y ∷ []) (top-set v (byteAt f 1) (t .refusal)) (t .result)
 

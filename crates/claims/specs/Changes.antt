@@ -10,7 +10,7 @@ use Rattle.meter_clock.specs.Protection.{opened}
 use Rattle.meter_record.specs.With.{withAddress, withProtection, withPasswords, withTelemetry, withMask, withNext, withClock, withSummer, withWinter}
 use Rattle.meter_record.specs.declared.record.Passwords.{Passwords}
 use Rattle.meter_record.specs.declared.record.Record.{Record}
-use Rattle.meter_command.specs.Parts.{parameterIn, detailIn}
+use Rattle.meter_command.specs.Command.{commandOf}
 use Rattle.meter_command.specs.declared.access.Met.the-variants.{Own}
 use Rattle.meter.specs.Reply.{Outcome, met}
 
@@ -40,7 +40,7 @@ pub record Permitted (access : Bool) (f : List ℕ) (r : Record) (store : List �
   pub had : access ≡ true
   pub by-own : met r f ≡ Own
   pub before-renewal : Record
-  pub alone : Alone (parameterIn f) (detailIn f) r before-renewal
+  pub alone : Alone ((commandOf f) .parameter) ((commandOf f) .detail) r before-renewal
   pub renewal : o .answer .after ≡ withProtection before-renewal (opened (r .protection .level))
   pub slices : o .store ≡ store
 

@@ -21,6 +21,7 @@ use Rattle.slots.specs.declared.key.Key.{Key}
 use Rattle.meter_record.specs.Record as record-of
 use Rattle.meter_record.specs.declared.record.Record.{Record}
 use Rattle.meter_record.specs.declared.record.RecordAnswer.{RecordAnswer}
+use Rattle.meter_command.specs.Command.{commandOf}
 use Rattle.meter_command.specs.Verdict.{numberOf}
 use Rattle.meter_command.specs.declared.verdict.Verdict.{Verdict}
 use Rattle.meter.specs.Bench as bench
@@ -110,8 +111,8 @@ pub record Demand1 : Type 0 where
       Ends {A = Page × List ℕ} (text.textNumber (o .result .answer)) (p, out) (o .result .after, o .left)
   -- "but the short refusal frame where the table gives one": what a refused command leaves in the output, how many bytes of it are the reply
   pub answer-output : (r : Record) (s f out : List ℕ) → let o = meter.answerOf r s f out in (answerNumber o ≡ 0 → ⊥)
-      → o .out ≡ cond (givesFrame (answerNumber o)) (written out 0 (framed (meter.headOf (o .answer .verdict) f))) out
+      → o .out ≡ cond (givesFrame (answerNumber o)) (written out 0 (framed (meter.headOf (o .answer .verdict) (commandOf f)))) out
   pub answer-length : (r : Record) (s f out : List ℕ) → let o = meter.answerOf r s f out in (answerNumber o ≡ 0 → ⊥)
       → o .answer .length ≡ cond (givesFrame (answerNumber o)) bareSize 0
-  pub frame-short : (v : Verdict) (f : List ℕ) → length (framed (meter.headOf v f)) ≡ bareSize
-  pub past-frame : (v : Verdict) (f out : List ℕ) → drop bareSize (written out 0 (framed (meter.headOf v f))) ≡ drop bareSize out
+  pub frame-short : (v : Verdict) (f : List ℕ) → length (framed (meter.headOf v (commandOf f))) ≡ bareSize
+  pub past-frame : (v : Verdict) (f out : List ℕ) → drop bareSize (written out 0 (framed (meter.headOf v (commandOf f)))) ≡ drop bareSize out

@@ -17,6 +17,7 @@ use Rattle.meter_reply_data.specs.Reading.{dataOf}
 use Rattle.meter.specs.Reply.{verdictOn, headOf}
 use Rattle.meter_round_trip.specs.Inquiry.{numberOf, inquired}
 use Rattle.claims.specs.Demand2.{FitsRequest}
+use Rattle.meter_command.specs.Command.{commandOf}
 
 -- the answers without a reply: 1 "lent output too short", 2 for a frame that the meter does not hear, 27 "a request that no record would
 -- answer with 0", 28 "meter record outside its ranges"
@@ -26,7 +27,7 @@ noReply n = eqb n 1 || eqb n 2 || eqb n 27 || eqb n 28
 -- the meter's reply to a frame that it hears: "A reply repeats the command's address, function and parameter, then a result byte, then the
 -- data. If the result isn't 0, the function's top bit is set and no data follow"
 abbrev pub replyTo : Record → List ℕ → List ℕ → List ℕ
-replyTo r s f = framed (cond (isDone (verdictOn r f)) (headOf (verdictOn r f) f ++ dataOf r s f) (headOf (verdictOn r f) f))
+replyTo r s f = framed (cond (isDone (verdictOn r f)) (headOf (verdictOn r f) (commandOf f) ++ dataOf r s (commandOf f)) (headOf (verdictOn r f) (commandOf f)))
 
 pub record Demand1Inquire : Type 0 where
   -- a read changes nothing, whatever the answer
@@ -37,4 +38,4 @@ pub record Demand1Inquire : Type 0 where
   -- so what a refused inquiry leaves in the output is the short refusal frame, with 24 "meter's result not 0", or nothing
   pub refused-output : (r : Record) (s : List ℕ) (q : Request) (out : List ℕ) → FitsRecord r → Bytes s → FitsRequest q
       → let o = inquired r s q out in let f = requestFrame q in (numberOf (o .answer) ≡ 0 → ⊥)
-      → o .out ≡ cond (eqb (numberOf (o .answer)) 24) (written out 0 (framed (headOf (verdictOn r f) f))) out
+      → o .out ≡ cond (eqb (numberOf (o .answer)) 24) (written out 0 (framed (headOf (verdictOn r f) (commandOf f)))) out

@@ -27,7 +27,7 @@ use Rattle.meter_record.specs.Widths.{FitsRecord}
 use Rattle.meter_record.specs.With.{withProtection}
 use Rattle.meter_record.specs.declared.record.Record.{Record}
 use Rattle.meter_command.specs.Access.{isMain, changeAllowed, passwordFor, levelFor}
-use Rattle.meter_command.specs.Parts.{functionIn, parameterIn, detailIn}
+use Rattle.meter_command.specs.Command.{commandOf}
 use Rattle.meter_command.specs.Verdict.{resultOf, isDone}
 use Rattle.meter.specs.Effect.{isSlice}
 use Rattle.meter.specs.Reply.{Outcome, isSound, heard, verdictOn, answerOf}
@@ -67,20 +67,20 @@ pub record Demand2 : Type 0 where
       → let o = inquiry.inquired r s q out in inquiry.numberOf (o .answer) ≡ 0 → rows.sixOf (rows.replyData (o .out)) ≡ sixOf s (keyOf q)
   -- "A change happens only with the access it needs, and then changes the named parameter alone, save that protection's 240 seconds start
   -- again"; a zeroing needs main access, and that of the slices makes the store empty. What is refused leaves all (demand 1)
-  pub change : (r : Record) (s f out : List ℕ) → functionIn f ≡ function.Change → let o = answerOf r s f out in answerNumber o ≡ 0
-      → Permitted (changeAllowed (parameterIn f) (r .protection .level)) f r s o
-  pub zeroing : (r : Record) (s f out : List ℕ) → functionIn f ≡ function.Zero → let o = answerOf r s f out in answerNumber o ≡ 0
-      → Permitted (isMain (r .protection .level)) f r (cond (isSlice (parameterIn f)) (cleared s) s) o
-  pub change-without-access : (r : Record) (s f out : List ℕ) → functionIn f ≡ function.Change
-      → changeAllowed (parameterIn f) (r .protection .level) ≡ false → Leaves r s (answerOf r s f out)
-  pub zeroing-without-access : (r : Record) (s f out : List ℕ) → functionIn f ≡ function.Zero
+  pub change : (r : Record) (s f out : List ℕ) → let c = commandOf f in c .function ≡ function.Change → let o = answerOf r s f out in answerNumber o ≡ 0
+      → Permitted (changeAllowed (c .parameter) (r .protection .level)) f r s o
+  pub zeroing : (r : Record) (s f out : List ℕ) → let c = commandOf f in c .function ≡ function.Zero → let o = answerOf r s f out in answerNumber o ≡ 0
+      → Permitted (isMain (r .protection .level)) f r (cond (isSlice (c .parameter)) (cleared s) s) o
+  pub change-without-access : (r : Record) (s f out : List ℕ) → let c = commandOf f in c .function ≡ function.Change
+      → changeAllowed (c .parameter) (r .protection .level) ≡ false → Leaves r s (answerOf r s f out)
+  pub zeroing-without-access : (r : Record) (s f out : List ℕ) → let c = commandOf f in c .function ≡ function.Zero
       → isMain (r .protection .level) ≡ false → Leaves r s (answerOf r s f out)
   -- "each right password, which sets its own level"; "A wrong password changes nothing, an open level included"; protection restored; a read
-  pub right-password : (r : Record) (s f out : List ℕ) → functionIn f ≡ function.Unlock → let o = answerOf r s f out in answerNumber o ≡ 0
-      → (numberAt f 4 8 ≡ passwordFor (r .passwords) (detailIn f)) × Leaves (withProtection r (opened (levelFor (detailIn f)))) s o
-  pub wrong-password : (r : Record) (s f out : List ℕ) → functionIn f ≡ function.Unlock
-      → (numberAt f 4 8 ≡ passwordFor (r .passwords) (detailIn f) → ⊥) → Leaves r s (answerOf r s f out)
-  pub lock : (r : Record) (s f out : List ℕ) → functionIn f ≡ function.Lock → let o = answerOf r s f out in answerNumber o ≡ 0
+  pub right-password : (r : Record) (s f out : List ℕ) → let c = commandOf f in c .function ≡ function.Unlock → let o = answerOf r s f out in answerNumber o ≡ 0
+      → (numberAt f 4 8 ≡ passwordFor (r .passwords) (c .detail)) × Leaves (withProtection r (opened (levelFor (c .detail)))) s o
+  pub wrong-password : (r : Record) (s f out : List ℕ) → let c = commandOf f in c .function ≡ function.Unlock
+      → (numberAt f 4 8 ≡ passwordFor (r .passwords) (c .detail) → ⊥) → Leaves r s (answerOf r s f out)
+  pub lock : (r : Record) (s f out : List ℕ) → let c = commandOf f in c .function ≡ function.Lock → let o = answerOf r s f out in answerNumber o ≡ 0
       → Leaves (withProtection r shut) s o
-  pub read-changes-nothing : (reading : Reading) (r : Record) (s f out : List ℕ) → functionIn f ≡ function.Read reading
+  pub read-changes-nothing : (reading : Reading) (r : Record) (s f out : List ℕ) → let c = commandOf f in c .function ≡ function.Read reading
       → let o = answerOf r s f out in answerNumber o ≡ 0 → Leaves r s o

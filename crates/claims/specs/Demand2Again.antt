@@ -28,7 +28,7 @@ use Rattle.meter_record.specs.Record.{numberOf, setPowers}
 use Rattle.meter_record.specs.Widths.{FitsRecord}
 use Rattle.meter_record.specs.declared.record.Record.{Record}
 use Rattle.meter_record.specs.declared.record.RecordAnswer.the-variants.{Done}
-use Rattle.meter_command.specs.Parts.{functionIn, parameterByte, parameterIn, dataIn}
+use Rattle.meter_command.specs.Command.{dataIn, commandOf}
 use Rattle.meter.specs.Bench.{slicePut}
 use Rattle.meter.specs.Reply.{Outcome, isSound, answerOf}
 use Rattle.claims.specs.Demand1.{answerNumber}
@@ -61,20 +61,20 @@ pub record Demand2Again : Type 0 where
       → isSound r s ≡ true → q .address ≡ r .address → askable (subjectOf q (slotsOf (r .minutes))) ≡ true
       → readBack r s q out ≡ ownAs (q .reading) (parameterOf (q .parameter)) r s q
   -- a change of what can be read: the bytes written, decoded, by the address that the meter then has
-  pub change-read : (r : Record) (s f out room : List ℕ) → Bytes f → functionIn f ≡ function.Change → (parameterRow (parameterIn f)) .readable ≡ true
+  pub change-read : (r : Record) (s f out room : List ℕ) → let c = commandOf f in Bytes f → c .function ≡ function.Change → c .row .readable ≡ true
       → let o = answerOf r s f out in Next r s o room
-      → readBack (o .answer .after) (o .store) (readOf (o .answer .after) (parameterByte f) 0) room ≡ readFigures (parameterIn f) 0 (dataIn f)
+      → readBack (o .answer .after) (o .store) (readOf (o .answer .after) (c .«parameter_byte») 0) room ≡ readFigures (c .parameter) 0 (dataIn f)
   -- a zeroing: "brings back the automatic one", which reads as that of the clock's year; "makes all unused", which read as zeros
-  pub summer-zeroed : (r : Record) (s f out room : List ℕ) → functionIn f ≡ function.Zero → parameterIn f ≡ parameter.SummerDate
+  pub summer-zeroed : (r : Record) (s f out room : List ℕ) → let c = commandOf f in c .function ≡ function.Zero → c .parameter ≡ parameter.SummerDate
       → let o = answerOf r s f out in Next r s o room
       → readBack (o .answer .after) (o .store) (readOf (o .answer .after) 27 0) room ≡ decoded.DateTime (onHour (sunday (r .time .clock .date .year) 3) 2)
-  pub winter-zeroed : (r : Record) (s f out room : List ℕ) → functionIn f ≡ function.Zero → parameterIn f ≡ parameter.WinterDate
+  pub winter-zeroed : (r : Record) (s f out room : List ℕ) → let c = commandOf f in c .function ≡ function.Zero → c .parameter ≡ parameter.WinterDate
       → let o = answerOf r s f out in Next r s o room
       → readBack (o .answer .after) (o .store) (readOf (o .answer .after) 28 0) room ≡ decoded.DateTime (onHour (sunday (r .time .clock .date .year) 10) 3)
-  pub slices-zeroed : (r : Record) (s f out room : List ℕ) (k : Key) → functionIn f ≡ function.Zero → parameterIn f ≡ parameter.Slice
+  pub slices-zeroed : (r : Record) (s f out room : List ℕ) (k : Key) → let c = commandOf f in c .function ≡ function.Zero → c .parameter ≡ parameter.Slice
       → isLegal k (slotsOf (r .minutes)) ≡ true → let o = answerOf r s f out in Next r s o room
       → readBack (o .answer .after) (o .store) (sliceRead (o .answer .after) 36 k) room ≡ decoded.Slice (fourCounts zeroRow)
-  pub six-zeroed : (r : Record) (s f out room : List ℕ) (k : Key) → functionIn f ≡ function.Zero → parameterIn f ≡ parameter.Slice
+  pub six-zeroed : (r : Record) (s f out room : List ℕ) (k : Key) → let c = commandOf f in c .function ≡ function.Zero → c .parameter ≡ parameter.Slice
       → isLegal k (slotsOf (r .minutes) - 5) ≡ true → let o = answerOf r s f out in Next r s o room
       → rows.sixOf (rows.replyData (replyIn (answered (o .answer .after) (o .store) (sliceRead (o .answer .after) 40 k) room)))
       ≡ zeroRow ∷ zeroRow ∷ zeroRow ∷ zeroRow ∷ zeroRow ∷ zeroRow ∷ []

@@ -12,11 +12,10 @@ use Rattle.byte_numbers.specs.Place.{byteAt, written}
 use Rattle.parameters.specs.Code.{functionOf}
 use Rattle.frame.specs.Layout.{addressPlace, resultPlace, bareSize}
 use Rattle.frame.specs.Sealing.{framed}
-use Rattle.parameters.specs.Table.{parameterRow}
 use Rattle.parameters.specs.declared.code.Function.{Function}
 use Rattle.parameters.specs.declared.code.Function.the-variants as function
 use Rattle.meter_record.specs.declared.record.Record.{Record}
-use Rattle.meter_command.specs.Parts.{functionIn, parameterIn}
+use Rattle.meter_command.specs.Command.{commandOf}
 use Rattle.meter_command.specs.declared.access.Met.the-variants.{Zero}
 use Rattle.meter.specs.Reply.{Outcome, isSound, met, answerOf}
 use Rattle.claims.specs.Changes.{Leaves}
@@ -34,8 +33,8 @@ changes function.Unknown = false
 
 -- whether a change or a zeroing is of a parameter that the function may change, and of its length: 11, 12 and 13 are passed
 abbrev pub formFits : Function → List ℕ → Bool
-formFits function.Change f = let w = parameterRow (parameterIn f) in w .changeable && eqb (length f) (bareSize + w .«change_bytes»)
-formFits function.Zero f = (parameterRow (parameterIn f)) .zeroable && eqb (length f) bareSize
+formFits function.Change f = let w = (commandOf f) .row in w .changeable && eqb (length f) (bareSize + w .«change_bytes»)
+formFits function.Zero f = (commandOf f) .row .zeroable && eqb (length f) bareSize
 formFits (function.Read reading) f = false
 formFits function.Unlock f = false
 formFits function.Lock f = false
@@ -55,14 +54,14 @@ pub record Alike (own : ℕ) (out : List ℕ) (zero mine : Outcome) : Type 0 whe
 
 pub record Demand2ByZero : Type 0 where
   -- a change or a zeroing that was answered 0 came by the meter's own address, which is not 0
-  pub came-by-own : (r : Record) (s f out : List ℕ) → changes (functionIn f) ≡ true → answerNumber (answerOf r s f out) ≡ 0
+  pub came-by-own : (r : Record) (s f out : List ℕ) → let c = commandOf f in changes (c .function) ≡ true → answerNumber (answerOf r s f out) ≡ 0
       → (byteAt f addressPlace ≡ r .address) × (byteAt f addressPlace ≡ 0 → ⊥)
   -- one by 0 changes nothing, whatever the access and the bytes, and is never answered 0
-  pub by-zero-refused : (r : Record) (s f out : List ℕ) → changes (functionIn f) ≡ true → byteAt f addressPlace ≡ 0
+  pub by-zero-refused : (r : Record) (s f out : List ℕ) → let c = commandOf f in changes (c .function) ≡ true → byteAt f addressPlace ≡ 0
       → Leaves r s (answerOf r s f out) × (answerNumber (answerOf r s f out) ≡ 0 → ⊥)
   -- "16, after 13 and before 14": past 11, 12 and 13 it is 16, whatever the access and the argument
-  pub sixteen : (r : Record) (s f out : List ℕ) → Ready r s f out → met r f ≡ Zero → changes (functionIn f) ≡ true
-      → formFits (functionIn f) f ≡ true → answerNumber (answerOf r s f out) ≡ 16
+  pub sixteen : (r : Record) (s f out : List ℕ) → let c = commandOf f in Ready r s f out → met r f ≡ Zero → changes (c .function) ≡ true
+      → formFits (c .function) f ≡ true → answerNumber (answerOf r s f out) ≡ 16
   -- "refusal frame with the result used for 14": Appendix B's code 4 (002, page 22) stands in the frame of both
   pub result : (r : Record) (s f out : List ℕ) → let o = answerOf r s f out in 64 ≤ length out → (eqb (answerNumber o) 14 || eqb (answerNumber o) 16) ≡ true
       → byteAt (o .out) resultPlace ≡ 4

@@ -21,7 +21,7 @@ use Rattle.meter_record.specs.Widths.{FitsRecord}
 use Rattle.meter_record.specs.declared.record.Record.{Record}
 use Rattle.meter_command.specs.Access.{isMain, changeAllowed, passwordFor}
 use Rattle.meter_command.specs.Judgement.{argumentFits}
-use Rattle.meter_command.specs.Parts.{functionIn, parameterIn, detailIn}
+use Rattle.meter_command.specs.Command.{dataIn, commandOf}
 use Rattle.meter_command.specs.declared.access.Met.the-variants.{Own}
 use Rattle.meter.specs.Reply.{isSound, met, heard, answerOf}
 use Rattle.meter_round_trip.specs.Inquiry.{inquired}
@@ -61,18 +61,18 @@ pub record Demand2Done : Type 0 where
       → askable (subjectOf q (slotsOf (r .minutes))) ≡ true → (inquired r s q out) .answer ≡ Told (ownAs (q .reading) (parameterOf (q .parameter)) r s q)
   -- a change and a zeroing of a parameter that can be changed or zeroed, of its length, by the meter's own address, with the access it needs and a
   -- right argument
-  pub change-done : (r : Record) (s f out : List ℕ) → Ready r s f out → met r f ≡ Own → functionIn f ≡ function.Change → let w = parameterRow (parameterIn f) in
-      w .changeable ≡ true → length f ≡ bareSize + w .«change_bytes» → changeAllowed (parameterIn f) (r .protection .level) ≡ true
-      → argumentFits (parameterIn f) r f ≡ true → answerNumber (answerOf r s f out) ≡ 0
-  pub zeroing-done : (r : Record) (s f out : List ℕ) → Ready r s f out → met r f ≡ Own → functionIn f ≡ function.Zero
-      → (parameterRow (parameterIn f)) .zeroable ≡ true → length f ≡ bareSize → isMain (r .protection .level) ≡ true → detailIn f ≡ 0
+  pub change-done : (r : Record) (s f out : List ℕ) → let c = commandOf f in Ready r s f out → met r f ≡ Own → c .function ≡ function.Change → let w = c .row in
+      w .changeable ≡ true → c .length ≡ bareSize + w .«change_bytes» → changeAllowed (c .parameter) (r .protection .level) ≡ true
+      → argumentFits (c .row) (c .detail) (r .telemetry) (dataIn f) ≡ true → answerNumber (answerOf r s f out) ≡ 0
+  pub zeroing-done : (r : Record) (s f out : List ℕ) → let c = commandOf f in Ready r s f out → met r f ≡ Own → c .function ≡ function.Zero
+      → c .row .zeroable ≡ true → c .length ≡ bareSize → isMain (r .protection .level) ≡ true → c .detail ≡ 0
       → answerNumber (answerOf r s f out) ≡ 0
   -- the right password of a level that there is opens it
-  pub unlock-done : (r : Record) (s f out : List ℕ) → Ready r s f out → functionIn f ≡ function.Unlock → length f ≡ unlockSize
-      → detailIn f ≤ 1 → numberAt f 4 8 ≡ passwordFor (r .passwords) (detailIn f) → byteAt f parameterPlace ≡ 0
+  pub unlock-done : (r : Record) (s f out : List ℕ) → let c = commandOf f in Ready r s f out → c .function ≡ function.Unlock → c .length ≡ unlockSize
+      → c .detail ≤ 1 → numberAt f 4 8 ≡ passwordFor (r .passwords) (c .detail) → byteAt f parameterPlace ≡ 0
       → answerNumber (answerOf r s f out) ≡ 0
-  pub lock-done : (r : Record) (s f out : List ℕ) → Ready r s f out → functionIn f ≡ function.Lock → length f ≡ bareSize
-      → byteAt f parameterPlace ≡ 0 → detailIn f ≡ 0 → answerNumber (answerOf r s f out) ≡ 0
+  pub lock-done : (r : Record) (s f out : List ℕ) → let c = commandOf f in Ready r s f out → c .function ≡ function.Lock → c .length ≡ bareSize
+      → byteAt f parameterPlace ≡ 0 → c .detail ≡ 0 → answerNumber (answerOf r s f out) ≡ 0
   -- 27 is "a request that no record would answer with 0", where a reply is decoded and where a request is made: exactly that
   pub out-of-range : (q : Request) (y : List ℕ) → decoding.numberOf (decodedOf q y) ≡ 27
       → (r : Record) (s out : List ℕ) → answerNumber (answered r s q out) ≡ 0 → ⊥

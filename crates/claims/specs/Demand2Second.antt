@@ -26,7 +26,7 @@ use Rattle.meter_record.specs.With.{withProtection, withTime}
 use Rattle.meter_record.specs.declared.record.Record.{Record}
 use Rattle.meter_record.specs.declared.record.RecordAnswer.{RecordAnswer}
 use Rattle.meter_record.specs.declared.record.RecordAnswer.the-variants.{Done, OutOfRange, Unsound}
-use Rattle.meter_command.specs.Parts.{functionIn}
+use Rattle.meter_command.specs.Command.{commandOf}
 use Rattle.meter.specs.Reply.{isSound, answerOf}
 use Rattle.claims.specs.Demand1.{answerNumber}
 
@@ -116,7 +116,7 @@ noneOf these r s [] = true
 noneOf these r s (second ∷ es) = noneOf these (recordAfter (secondOf r) r) s es
 noneOf these r s (frame f out ∷ es) =
     let o = answerOf r s f out in
-    not (these (functionIn f) && eqb (answerNumber o) 0) && noneOf these (o .answer .after) (o .store) es
+    not (these ((commandOf f) .function) && eqb (answerNumber o) 0) && noneOf these (o .answer .after) (o .store) es
 
 -- "each accepted one, and each right password, .. starts the 240 again": a change, a zeroing, an unlock
 abbrev pub renews : Function → Bool

@@ -31,6 +31,7 @@ use Rattle.meter_command.specs.Judgement.{verdictOf}
 use Rattle.meter_command.specs.Verdict.{numberOf}
 use Rattle.meter_command.specs.declared.access.Met.the-variants.{Own}
 use Rattle.calendar.specs.Sunday.{lastSunday}
+use Rattle.meter_command.specs.Command.{commandOf}
 
 -- two lists of bytes are the same
 unfoldable pub same : List ℕ → List ℕ → Bool
@@ -80,7 +81,9 @@ meterWith ke =
 
 change-gets : ℕ → ℕ → ℕ
 unfolding meterWith
-change-gets ke k = numberOf (verdictOf Own (meterWith ke) (framed (1 ∷ 16 ∷ 24 ∷ 0 ∷ telemetryBytes (record { k = k; ke = ke; reserve = 0 }))))
+change-gets ke k =
+    let f = framed (1 ∷ 16 ∷ 24 ∷ 0 ∷ telemetryBytes (record { k = k; ke = ke; reserve = 0 })) in
+    numberOf (verdictOf Own (meterWith ke) (commandOf f) f)
 
 -- P10: the level after so many quiet seconds
 quiet : ℕ → Protection → Protection

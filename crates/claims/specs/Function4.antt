@@ -27,7 +27,7 @@ use Rattle.meter_record.specs.declared.record.Ratios.{Ratios}
 use Rattle.meter_record.specs.declared.record.Record.{Record}
 use Rattle.meter_record.specs.declared.record.RecordAnswer.the-variants.{Done}
 use Rattle.meter_command.specs.Judgement.{verdictOf}
-use Rattle.meter_command.specs.Parts.{functionIn, parameterIn}
+use Rattle.meter_command.specs.Command.{commandOf}
 use Rattle.meter_command.specs.declared.access.Met.{Met}
 use Rattle.meter_command.specs.declared.verdict.Verdict.the-variants.{UnknownParameter, NotOpen}
 use Rattle.claims.specs.Demand1.{answerNumber}
@@ -48,12 +48,12 @@ pub record Function4 : Type 0 where
   -- "For parameter 36, function 4 answers": for no other; "Parameters 8 and 9 and all others the meter knows answer 12 to function 4 for now"
   pub slices-alone : (r : Record) (s : List ℕ) (q : Request) (out : List ℕ) → q .reading ≡ Displayed → answerNumber (answered r s q out) ≡ 0
       → parameterOf (q .parameter) ≡ parameter.Slice
-  pub not-open : (met : Met) (r : Record) (f : List ℕ) → functionIn f ≡ function.Read Displayed → known (parameterRow (parameterIn f)) ≡ true
-      → (parameterIn f ≡ parameter.Slice → ⊥) → verdictOf met r f ≡ NotOpen
+  pub not-open : (met : Met) (r : Record) (f : List ℕ) → let c = commandOf f in c .function ≡ function.Read Displayed → known (c .row) ≡ true
+      → (c .parameter ≡ parameter.Slice → ⊥) → verdictOf met r c f ≡ NotOpen
   -- what the meter does not know is 11, and "10 no longer covers function 4, whose 4-byte frame gets 11"
-  pub unknown : (met : Met) (r : Record) (f : List ℕ) → functionIn f ≡ function.Read Displayed → known (parameterRow (parameterIn f)) ≡ false
-      → verdictOf met r f ≡ UnknownParameter
-  pub bare : (met : Met) (r : Record) (f : List ℕ) → functionIn f ≡ function.Read Displayed → length f ≡ shortest → verdictOf met r f ≡ UnknownParameter
+  pub unknown : (met : Met) (r : Record) (f : List ℕ) → let c = commandOf f in c .function ≡ function.Read Displayed → known (c .row) ≡ false
+      → verdictOf met r c f ≡ UnknownParameter
+  pub bare : (met : Met) (r : Record) (f : List ℕ) → let c = commandOf f in c .function ≡ function.Read Displayed → c .length ≡ shortest → verdictOf met r c f ≡ UnknownParameter
   -- "The record gets the ratios KI and KU": the bench sets both, and they are in what is read after it
   pub ratios-done : (r : Record) (k : Ratios) → isWithin r ≡ true → areRatios k ≡ true → numberOf (setRatios r k) ≡ 0
   pub ratios-read : (r x : Record) (k : Ratios) (s : List ℕ) (key : Key) (room : List ℕ) → setRatios r k ≡ Done x → FitsRecord x → Bytes s

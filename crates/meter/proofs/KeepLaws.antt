@@ -23,11 +23,11 @@ use Rattle.meter_record.specs.declared.record.Record.{Record}
 use Rattle.meter_record.specs.declared.record.RecordAnswer.{RecordAnswer}
 use Rattle.meter_record.specs.declared.record.RecordAnswer.the-variants.{Done, OutOfRange, Unsound}
 use Rattle.meter_command.specs.Access.{isOpen, levelFor}
-use Rattle.meter_command.specs.Change.{changed, zeroed}
 use Rattle.meter_command.proofs.JudgementLaws.{change-accepted, zero-accepted, allowed-open, main-open, open-runs}
 use Rattle.meter_command.specs.Judgement.{verdictOf, verdictBy}
-use Rattle.meter_command.proofs.KeepLaws.{protection-within, change-within, change-level, zero-within, zero-level}
-use Rattle.meter_command.specs.Parts.{functionIn, parameterIn, detailIn}
+use Rattle.meter_command.proofs.KeepLaws.{changed, zeroed, protection-within, change-within, change-level, zero-within, zero-level}
+use Rattle.meter_command.specs.Command.{functionIn, parameterIn, detailIn, commandOf}
+use Rattle.meter_command.specs.declared.command.Command.{Command}
 use Rattle.meter_command.specs.Verdict.{isDone}
 use Rattle.meter_command.specs.declared.access.Met.{Met}
 use Rattle.parameters.specs.declared.code.Function.the-variants as function
@@ -51,36 +51,37 @@ shut-fits : isProtection shut ≡ true
 unfolding isProtection
 shut-fits = refl
 
-after-by : (fn : Function) (m : Met) (r : Record) (f : List ℕ) → Within r → isDone (verdictBy fn m r f) ≡ true → Within (afterBy fn r f)
+after-by : (fn : Function) (m : Met) (r : Record) (f : List ℕ) → Within r → isDone (verdictBy fn m r (commandOf f) f) ≡ true
+    → Within (afterBy fn r (commandOf f) f)
 unfolding verdictBy afterBy
 after-by (function.Read reading) m r f w d = w
 after-by function.Change m r f w d =
-    let a = change-accepted m r f d in
+    let a = change-accepted m r (commandOf f) f d in
     renewed-within (changed (parameterIn f) r f) (change-within (parameterIn f) r f w (a .fits))
     (ap (λ (p : Protection). isOpen (p .level)) (change-level (parameterIn f) r f) ∙ allowed-open ((parameterRow (parameterIn f)) .access) (r .protection .level) (a .allowed))
 after-by function.Zero m r f w d =
-    let a = zero-accepted m r f d in
+    let a = zero-accepted m r (commandOf f) d in
     renewed-within (zeroed (parameterIn f) r) (zero-within (parameterIn f) r w)
     (ap (λ (p : Protection). isOpen (p .level)) (zero-level (parameterIn f) r) ∙ main-open (r .protection .level) (a .allowed))
 after-by function.Unlock m r f w d = protection-within r (opened (levelFor (detailIn f))) w (level-runs (detailIn f))
 after-by function.Lock m r f w d = protection-within r shut w shut-fits
 after-by function.Unknown m r f w d = w
 
-length-after : (s f : List ℕ) → length (storeAfter s f) ≡ length s
+length-after : (s : List ℕ) (c : Command) → length (storeAfter s c) ≡ length s
 unfolding storeAfter
-length-after s f = go (clears f) refl
+length-after s c = go (clears c) refl
   where
-    go : (b : Bool) → clears f ≡ b → length (storeAfter s f) ≡ length s
+    go : (b : Bool) → clears c ≡ b → length (storeAfter s c) ≡ length s
     go true e = simp e (length-cleared s)
     go false e = simp e
 
-done-sound : (r : Record) (s f : List ℕ) → isSound r s ≡ true → isDone (verdictOn r f) ≡ true → isSound (afterOf r f) (storeAfter s f) ≡ true
+done-sound : (r : Record) (s f : List ℕ) → isSound r s ≡ true → isDone (verdictOn r f) ≡ true → isSound (afterOf r (commandOf f) f) (storeAfter s (commandOf f)) ≡ true
 unfolding isSound afterOf verdictOf
 done-sound r s f h d =
     let a = both (eqb (length s) storeBytes) (isWithin r) h in
     ap₂ _&&_
-    (ap (λ (n : ℕ). eqb n storeBytes) (length-after s f) ∙ a .0)
-    (is-within (afterOf r f) (after-by (functionIn f) (met r f) r f (within r (a .1)) d))
+    (ap (λ (n : ℕ). eqb n storeBytes) (length-after s (commandOf f)) ∙ a .0)
+    (is-within (afterOf r (commandOf f) f) (after-by (functionIn f) (met r f) r f (within r (a .1)) d))
 
 -- whatever bytes came, and whatever was answered
 pub answer-sound : (r : Record) (s f out : List ℕ) → isSound r s ≡ true

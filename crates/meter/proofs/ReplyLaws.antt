@@ -28,7 +28,8 @@ use Rattle.request.specs.Subject.{keyOf}
 use Rattle.request.specs.declared.request.Request.{Request}
 use Rattle.meter_store.specs.Store.{sliceOf, sixOf, rowBytes}
 use Rattle.meter_record.specs.declared.record.Record.{Record}
-use Rattle.meter_command.specs.Parts.{functionIn, parameterIn, requestIn}
+use Rattle.meter_command.specs.Command.{functionIn, parameterIn, requestIn, commandOf}
+use Rattle.meter_command.specs.declared.command.Command.{Command}
 use Rattle.meter_command.specs.Verdict.{isDone}
 use Rattle.meter_command.specs.declared.verdict.Verdict.{Verdict}
 use Rattle.meter_reply_data.specs.Reading.{powerData, sixBytes, figuresOf, displayedOf, figuresAs, isRead, dataOf, dataSize}
@@ -70,45 +71,47 @@ unfolding replyBytes
 length-as Stored p r s q = length-figures p r s q
 length-as Displayed p r s q = length-energies (displayedOf r (sliceOf s (keyOf q)))
 
-pub length-data : (r : Record) (s f : List ℕ) → length (dataOf r s f) ≡ dataSize f
-unfolding dataOf dataSize
+pub length-data : (r : Record) (s f : List ℕ) → length (dataOf r s (commandOf f)) ≡ dataSize (commandOf f)
+unfolding dataOf dataSize replyBytes
 length-data r s f = go (isRead (functionIn f)) refl
   where
-    go : (b : Bool) → isRead (functionIn f) ≡ b → length (dataOf r s f) ≡ dataSize f
+    go : (b : Bool) → isRead (functionIn f) ≡ b → length (dataOf r s (commandOf f)) ≡ dataSize (commandOf f)
     go true e = simp e (length-as ((requestIn f) .reading) (parameterIn f) r s (requestIn f))
     go false e = simp e
 
 -- six rows are the most
-pub data-small : (f : List ℕ) → dataSize f ≤ 48
-unfolding dataSize
+pub data-small : (f : List ℕ) → dataSize (commandOf f) ≤ 48
+unfolding dataSize replyBytes
 data-small f = go (isRead (functionIn f)) refl
   where
-    go : (b : Bool) → isRead (functionIn f) ≡ b → dataSize f ≤ 48
+    go : (b : Bool) → isRead (functionIn f) ≡ b → dataSize (commandOf f) ≤ 48
     go true e = simp e (reply-small ((requestIn f) .reading) (parameterIn f) ((requestIn f) .detail))
     go false e = simp e (lit≤ tt)
 
 -- ---- a reply's parts, one behind the other
 
-pub length-head : (v : Verdict) (f : List ℕ) → length (headOf v f) ≡ 4
+pub length-head : (v : Verdict) (c : Command) → length (headOf v c) ≡ 4
 unfolding headOf
-length-head v f = refl
+length-head v c = refl
 
 -- the head alone, sealed
-pub refused-whole : (v : Verdict) (f out : List ℕ) → 64 ≤ length out → sealed (written out 0 (headOf v f)) 4 ≡ written out 0 (framed (headOf v f))
-refused-whole v f out h =
-    ap (sealed (written out 0 (headOf v f))) (sym (length-head v f)) ∙ sealed-written out (headOf v f) (rw length-head (omega arith))
+pub refused-whole : (v : Verdict) (c : Command) (out : List ℕ) → 64 ≤ length out
+    → sealed (written out 0 (headOf v c)) 4 ≡ written out 0 (framed (headOf v c))
+refused-whole v c out h =
+    ap (sealed (written out 0 (headOf v c))) (sym (length-head v c)) ∙ sealed-written out (headOf v c) (rw length-head (omega arith))
 
 -- the head and the data behind it, sealed
 pub filled-whole : (v : Verdict) (r : Record) (s f out : List ℕ) → 64 ≤ length out
-    → filled v r s f (written out 0 (headOf v f)) ≡ done v r s f out
+    → filled v r s f (written out 0 (headOf v (commandOf f))) ≡ done v r s f out
 filled-whole v r s f out h =
-    let bytes = dataOf r s f in
-    let body = headOf v f ++ bytes in
-    let size : length bytes ≡ dataSize f = length-data r s f in
-    let whole : length body ≡ 4 + dataSize f = length-append (headOf v f) bytes ∙ ap₂ _+_ (length-head v f) size in
-    let joined : written (written out 0 (headOf v f)) 4 bytes ≡ written out 0 body =
-    sym (written-append out 0 (headOf v f) bytes ∙ ap (λ (k : ℕ). written (written out 0 (headOf v f)) (0 + k) bytes) (length-head v f)) in
-    let sealing : sealed (written out 0 body) (4 + dataSize f) ≡ written out 0 (framed body) =
+    let c = commandOf f in
+    let bytes = dataOf r s c in
+    let body = headOf v c ++ bytes in
+    let size : length bytes ≡ dataSize c = length-data r s f in
+    let whole : length body ≡ 4 + dataSize c = length-append (headOf v c) bytes ∙ ap₂ _+_ (length-head v c) size in
+    let joined : written (written out 0 (headOf v c)) 4 bytes ≡ written out 0 body =
+    sym (written-append out 0 (headOf v c) bytes ∙ ap (λ (k : ℕ). written (written out 0 (headOf v c)) (0 + k) bytes) (length-head v c)) in
+    let sealing : sealed (written out 0 body) (4 + dataSize c) ≡ written out 0 (framed body) =
     ap (sealed (written out 0 body)) (sym whole) ∙ sealed-written out body (rw whole (omega (arith, data-small f))) in
     rw (size, joined, sealing)
 
@@ -125,7 +128,7 @@ replied-done v w r s f out e d =
     let q : isDone w ≡ true = ap isDone (sym e) ∙ d in
     ap (λ (x : Verdict). done x r s f out) e ∙ sym (ap (λ (b : Bool). cond b (done w r s f out) (refused w r s f out)) q)
 
-pub replied-refused : (v w : Verdict) (r : Record) (s f out x : List ℕ) → v ≡ w → isDone v ≡ false → x ≡ written out 0 (framed (headOf v f))
+pub replied-refused : (v w : Verdict) (r : Record) (s f out x : List ℕ) → v ≡ w → isDone v ≡ false → x ≡ written out 0 (framed (headOf v (commandOf f)))
     → outcome (record { verdict = v; length = 6; after = r }) s x ≡ replied w r s f out
 unfolding replied
 replied-refused v w r s f out x e d p =

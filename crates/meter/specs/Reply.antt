@@ -7,12 +7,13 @@ use lib.Dec.{eqb, leb, ltb}
 use lib.ListN.{length}
 use Rattle.byte_numbers.specs.Place.{byteAt, written}
 use Rattle.parameters.specs.Code.{refused as topBit}
-use Rattle.frame.specs.Layout.{addressPlace, functionPlace, dataPlace, longest, bareSize}
+use Rattle.frame.specs.Layout.{addressPlace, dataPlace, longest, bareSize}
 use Rattle.frame.specs.Sealing.{framed, sealed, isSealed}
 use Rattle.meter_store.specs.Store.{storeBytes}
 use Rattle.meter_record.specs.Ranges.{isWithin}
 use Rattle.meter_record.specs.declared.record.Record.{Record}
-use Rattle.meter_command.specs.Parts.{parameterByte}
+use Rattle.meter_command.specs.Command.{commandOf}
+use Rattle.meter_command.specs.declared.command.Command.{Command}
 use Rattle.meter.specs.Effect.{afterOf, storeAfter}
 use Rattle.meter_command.specs.Judgement.{verdictOf}
 use Rattle.meter_reply_data.specs.Reading.{dataOf, dataSize}
@@ -55,16 +56,16 @@ heard r f = isHeard (met r f)
 
 -- the verdict on a frame, by the address that it met
 abbrev pub verdictOn : Record → List ℕ → Verdict
-verdictOn r f = verdictOf (met r f) r f
+verdictOn r f = verdictOf (met r f) r (commandOf f) f
 
 -- "If the result isn't 0, the function's top bit is set"
 unfoldable pub functionFor : Verdict → ℕ → ℕ
 functionFor v n = cond (isDone v) n (cond (leb topBit n) n (topBit + n))
 
 -- "the command's address, function and parameter, then a result byte"
-unfoldable pub headOf : Verdict → List ℕ → List ℕ
+unfoldable pub headOf : Verdict → Command → List ℕ
 unfolding functionFor
-headOf v f = byteAt f addressPlace ∷ functionFor v (byteAt f functionPlace) ∷ parameterByte f ∷ resultOf v ∷ []
+headOf v c = c .request .address ∷ functionFor v (c .«function_byte») ∷ c .«parameter_byte» ∷ resultOf v ∷ []
 
 -- no reply, and nothing changed
 abbrev pub unheard : Verdict → Record → List ℕ → List ℕ → Outcome
@@ -73,22 +74,24 @@ unheard v r s out = outcome (record { verdict = v; length = 0; after = r }) s ou
 -- the reply to a command that is done: its data behind the head, "also when the command changed" the address
 abbrev pub done : Verdict → Record → List ℕ → List ℕ → List ℕ → Outcome
 done v r s f out =
+    let c = commandOf f in
     outcome
-    (record { verdict = v; length = bareSize + length (dataOf r s f); after = afterOf r f })
-    (storeAfter s f)
-    (written out 0 (framed (headOf v f ++ dataOf r s f)))
+    (record { verdict = v; length = bareSize + length (dataOf r s c); after = afterOf r c f })
+    (storeAfter s c)
+    (written out 0 (framed (headOf v c ++ dataOf r s c)))
 
 -- a refusal frame, and nothing changed
 abbrev pub refused : Verdict → Record → List ℕ → List ℕ → List ℕ → Outcome
-refused v r s f out = outcome (record { verdict = v; length = bareSize; after = r }) s (written out 0 (framed (headOf v f)))
+refused v r s f out = outcome (record { verdict = v; length = bareSize; after = r }) s (written out 0 (framed (headOf v (commandOf f))))
 
 -- the same, from an output whose head is written: data behind it, and the CRC behind those
 abbrev pub filled : Verdict → Record → List ℕ → List ℕ → List ℕ → Outcome
 filled v r s f out =
+    let c = commandOf f in
     outcome
-    (record { verdict = v; length = bareSize + dataSize f; after = afterOf r f })
-    (storeAfter s f)
-    (sealed (written out dataPlace (dataOf r s f)) (dataPlace + dataSize f))
+    (record { verdict = v; length = bareSize + dataSize c; after = afterOf r c f })
+    (storeAfter s c)
+    (sealed (written out dataPlace (dataOf r s c)) (dataPlace + dataSize c))
 
 unfoldable pub replied : Verdict → Record → List ℕ → List ℕ → List ℕ → Outcome
 replied v r s f out = cond (isDone v) (done v r s f out) (refused v r s f out)

@@ -1,12 +1,11 @@
 // What a command that is done leaves behind: the record after it, and the store.
 use frame::layout;
+use meter_command::Command;
 use meter_record::Record;
 use parameters::code;
 use parameters::code::Function;
-use parameters::code::Parameter;
-use parameters::table;
 ghost use mathlib.Core.Path.{_≡_};
-ghost use Rattle.meter.specs.Effect.{renewed, afterOf, isSlice, clears, storeAfter};
+ghost use Rattle.meter.specs.Effect.{renewed, afterOf, clears, storeAfter};
 
 // The record with all the seconds of its level.
 fn renewed(r: Record) -> Record
@@ -20,18 +19,17 @@ fn renewed(r: Record) -> Record
     }
 }
 
-pub fn record_after(r: Record, frame: &[u8]) -> Record
-    ensures { λ a. ⌜ a ≡ afterOf r (now (frame .entry)) ⌝ }
+pub fn record_after(r: Record, c: Command, frame: &[u8]) -> Record
+    ensures { λ a. ⌜ a ≡ afterOf r c (now (frame .entry)) ⌝ }
 {
-    let p = meter_command::parameter_in(frame);
-    match meter_command::function_in(frame) {
-        Function::Change => renewed(meter_command::changed(p, r, frame)),
-        Function::Zero => renewed(meter_command::zeroed(p, r)),
+    let function = c.function;
+    let row = c.row;
+    let bytes = byte_numbers::tail(frame, layout::DATA);
+    match function {
+        Function::Change => renewed(meter_command::changed(row.code, r, c.detail, bytes)),
+        Function::Zero => renewed(meter_command::zeroed(row.code, r)),
         Function::Unlock => Record {
-            protection: meter_clock::opened(meter_command::level_for(byte_numbers::byte_at(
-                frame,
-                layout::DETAIL,
-            ))),
+            protection: meter_clock::opened(meter_command::level_for(c.detail)),
             ..r
         },
         Function::Lock => Record {
@@ -43,18 +41,14 @@ pub fn record_after(r: Record, frame: &[u8]) -> Record
     }
 }
 
-fn is_slice(p: Parameter) -> bool
-    ensures { λ r. ⌜ r ≡ isSlice p ⌝ }
-{
-    table::code_of(p) == code::SLICE
-}
-
 // Whether a command zeroes the slices.
-fn clears(frame: &[u8]) -> bool
-    ensures { λ r. ⌜ r ≡ clears (now (frame .entry)) ⌝ }
+fn clears(c: Command) -> bool
+    ensures { λ r. ⌜ r ≡ clears c ⌝ }
 {
-    match meter_command::function_in(frame) {
-        Function::Zero => is_slice(meter_command::parameter_in(frame)),
+    let function = c.function;
+    let row = c.row;
+    match function {
+        Function::Zero => row.code == code::SLICE,
         Function::Read(_) => false,
         Function::Change => false,
         Function::Unlock => false,
@@ -63,10 +57,10 @@ fn clears(frame: &[u8]) -> bool
     }
 }
 
-pub fn clear_store(store: &mut [u8], frame: &[u8])
-    ensures { λ _. ⌜ now (store .exit) ≡ storeAfter (now (store .entry)) (now (frame .entry)) ⌝ }
+pub fn clear_store(store: &mut [u8], c: Command)
+    ensures { λ _. ⌜ now (store .exit) ≡ storeAfter (now (store .entry)) c ⌝ }
 {
-    if clears(frame) {
+    if clears(c) {
         meter_store::clear(store);
     }
 }

@@ -1,6 +1,7 @@
 // The answer to a frame.
 use crate::effect;
 use frame::layout;
+use meter_command::Command;
 use meter_command::Met;
 use meter_command::Verdict;
 use meter_record::Record;
@@ -12,6 +13,7 @@ ghost use Rattle.byte_numbers.specs.Place.{written};
 ghost use Rattle.frame.specs.Layout.{dataPlace, longest};
 ghost use Rattle.frame.specs.Sealing.{sealed};
 ghost use Rattle.meter.specs.Reply.{outcome, isSound, metAt, isHeard, functionFor, headOf, replied, filled, answerOf};
+ghost use Rattle.meter_command.specs.Command.{commandOf};
 ghost use Rattle.meter_command.specs.Judgement.{verdictOf};
 ghost use Rattle.meter_reply_data.specs.Reading.{dataOf};
 
@@ -73,13 +75,14 @@ fn function_for(v: Verdict, function: u8) -> u8
 }
 
 // The four bytes before the data: the command's address, function and parameter, and the result.
-fn put_head(out: &mut [u8], v: Verdict, frame: &[u8])
-    ensures { λ _. ⌜ now (out .exit) ≡ written (now (out .entry)) 0 (headOf v (now (frame .entry))) ⌝ }
+fn put_head(out: &mut [u8], v: Verdict, c: Command)
+    ensures { λ _. ⌜ now (out .exit) ≡ written (now (out .entry)) 0 (headOf v c) ⌝ }
 {
+    let q = c.request;
     let head = [
-        byte_numbers::byte_at(frame, layout::ADDRESS),
-        function_for(v, byte_numbers::byte_at(frame, layout::FUNCTION)),
-        meter_command::parameter_byte(frame),
+        q.address,
+        function_for(v, c.function_byte),
+        c.parameter_byte,
         meter_command::result_of(v),
     ];
     byte_numbers::put_bytes(out, 0, &head);
@@ -117,12 +120,13 @@ pub fn answer(r: Record, store: &mut [u8], frame: &[u8], out: &mut [u8]) -> Answ
 fn replied(met: Met, r: Record, store: &mut [u8], frame: &[u8], out: &mut [u8]) -> Answered
     requires { ⌜ longest ≤ length (now out) ⌝ }
     ensures { λ a. ⌜ outcome a (now (store .exit)) (now (out .exit))
-        ≡ replied (verdictOf met r (now (frame .entry))) r (now (store .entry)) (now (frame .entry)) (now (out .entry)) ⌝ }
+        ≡ replied (verdictOf met r (commandOf (now (frame .entry))) (now (frame .entry))) r (now (store .entry)) (now (frame .entry)) (now (out .entry)) ⌝ }
 {
-    let v = meter_command::judge(met, r, frame);
-    put_head(out, v, frame);
+    let c = meter_command::command_of(frame);
+    let v = meter_command::judge(met, r, c, frame);
+    put_head(out, v, c);
     if meter_command::is_done(v) {
-        return done(v, r, store, frame, out);
+        return done(v, r, store, c, frame, out);
     }
     frame::seal(out, layout::DATA);
     Answered {
@@ -133,25 +137,33 @@ fn replied(met: Met, r: Record, store: &mut [u8], frame: &[u8], out: &mut [u8]) 
 }
 
 // The data part, lent on from the fifth byte to whoever fills it.
-fn fill(out: &mut [u8], r: Record, store: &[u8], frame: &[u8])
+fn fill(out: &mut [u8], r: Record, store: &[u8], c: Command)
     requires { ⌜ longest ≤ length (now out) ⌝ }
-    ensures { λ _. ⌜ now (out .exit) ≡ written (now (out .entry)) dataPlace (dataOf r (now (store .entry)) (now (frame .entry))) ⌝ }
+    ensures { λ _. ⌜ now (out .exit) ≡ written (now (out .entry)) dataPlace (dataOf r (now (store .entry)) c) ⌝ }
 {
-    meter_reply_data::put_data(&mut out[layout::DATA..], r, store, frame);
+    meter_reply_data::put_data(&mut out[layout::DATA..], r, store, c);
 }
 
 // The data behind the head, and what the command leaves.
-fn done(v: Verdict, r: Record, store: &mut [u8], frame: &[u8], out: &mut [u8]) -> Answered
+fn done(
+    v: Verdict,
+    r: Record,
+    store: &mut [u8],
+    c: Command,
+    frame: &[u8],
+    out: &mut [u8],
+) -> Answered
     requires { ⌜ longest ≤ length (now out) ⌝ }
+    requires { ⌜ c ≡ commandOf (now frame) ⌝ }
     ensures { λ a. ⌜ outcome a (now (store .exit)) (now (out .exit)) ≡ filled v r (now (store .entry)) (now (frame .entry)) (now (out .entry)) ⌝ }
 {
-    let size = meter_reply_data::data_size(frame);
-    fill(out, r, store, frame);
+    let size = meter_reply_data::data_size(c);
+    fill(out, r, store, c);
     frame::seal(out, layout::DATA + size);
-    effect::clear_store(store, frame);
+    effect::clear_store(store, c);
     Answered {
         verdict: v,
         length: layout::BARE_BYTES + size,
-        after: effect::record_after(r, frame),
+        after: effect::record_after(r, c, frame),
     }
 }

@@ -4,21 +4,20 @@ use mathlib.Core.Bool.{Bool, true, false, false≢true}
 use mathlib.Core.List.{List}
 use Prim.Native.Nat.{ℕ, _+_}
 use lib.Dec.{eqb}
-use lib.ListN.{length}
-use Rattle.byte_numbers.specs.Place.{byteAt}
 use Rattle.slots.specs.Day.{slotsOf}
-use Rattle.request.specs.Subject.{subjectOf, askable}
+use Rattle.request.specs.Subject.{fieldsFit}
 use Rattle.meter_record.specs.declared.record.Record.{Record}
-use Rattle.parameters.specs.Table.{parameterRow, opensTo, known}
+use Rattle.parameters.specs.Table.{opensTo, known}
 use Rattle.parameters.specs.declared.table.Access.{Access}
 use Rattle.meter_clock.specs.Protection.{opened, isRunning, isProtection}
 use Rattle.meter_clock.specs.declared.protection.Level.{Level}
 use Rattle.meter_clock.specs.declared.protection.Level.the-variants.{Shut, Auxiliary, Main}
 use Rattle.parameters.specs.declared.table.Access.the-variants as access
 use Rattle.meter_command.specs.declared.access.Met.{Met}
-use Rattle.meter_command.specs.Access.{byOwn, isMain, isOpen, allows, changeAllowed}
+use Rattle.meter_command.specs.Access.{byOwn, isMain, isOpen, allows}
 use Rattle.meter_command.specs.Judgement.{passed, checked, argumentFits, readVerdict, changeVerdict, zeroVerdict}
-use Rattle.meter_command.specs.Parts.{parameterIn, requestIn}
+use Rattle.meter_command.specs.Command.{dataIn}
+use Rattle.meter_command.specs.declared.command.Command.{Command}
 use Rattle.meter_command.specs.Verdict.{isDone}
 
 pub record Accepted (k o l w a f : Bool) : Type 0 where
@@ -59,20 +58,19 @@ open-runs Main h = refl
 
 -- ---- what a read, a change and a zeroing that are done have passed
 
-pub read-accepted : (r : Record) (f : List ℕ) → isDone (readVerdict r f) ≡ true
-    → Accepted (known (parameterRow (parameterIn f))) (opensTo ((requestIn f) .reading) (parameterRow (parameterIn f))) (eqb (length f) 8) true true
-    (askable (subjectOf (requestIn f) (slotsOf (r .minutes))))
+pub read-accepted : (r : Record) (c : Command) → isDone (readVerdict r c) ≡ true
+    → Accepted (known (c .row)) (opensTo (c .request .reading) (c .row)) (eqb (c .length) 8) true true
+    (fieldsFit (c .row .fields) (c .request) (slotsOf (r .minutes)))
 unfolding readVerdict
-read-accepted r f h = accepted _ _ _ _ _ _ h
+read-accepted r c h = accepted _ _ _ _ _ _ h
 
-pub change-accepted : (met : Met) (r : Record) (f : List ℕ) → isDone (changeVerdict met r f) ≡ true
-    → Accepted (known (parameterRow (parameterIn f))) ((parameterRow (parameterIn f)) .changeable) (eqb (length f) (6 + (parameterRow (parameterIn f)) .«change_bytes»))
-    (byOwn met) (changeAllowed (parameterIn f) (r .protection .level)) (argumentFits (parameterIn f) r f)
+pub change-accepted : (met : Met) (r : Record) (c : Command) (f : List ℕ) → isDone (changeVerdict met r c f) ≡ true
+    → Accepted (known (c .row)) (c .row .changeable) (eqb (c .length) (6 + c .row .«change_bytes»))
+    (byOwn met) (allows (c .row .access) (r .protection .level)) (argumentFits (c .row) (c .detail) (r .telemetry) (dataIn f))
 unfolding changeVerdict
-change-accepted met r f h = accepted _ _ _ _ _ _ h
+change-accepted met r c f h = accepted _ _ _ _ _ _ h
 
-pub zero-accepted : (met : Met) (r : Record) (f : List ℕ) → isDone (zeroVerdict met r f) ≡ true
-    → Accepted (known (parameterRow (parameterIn f))) ((parameterRow (parameterIn f)) .zeroable) (eqb (length f) 6) (byOwn met) (isMain (r .protection .level))
-    (eqb (byteAt f 3) 0)
+pub zero-accepted : (met : Met) (r : Record) (c : Command) → isDone (zeroVerdict met r c) ≡ true
+    → Accepted (known (c .row)) (c .row .zeroable) (eqb (c .length) 6) (byOwn met) (isMain (r .protection .level)) (eqb (c .detail) 0)
 unfolding zeroVerdict
-zero-accepted met r f h = accepted _ _ _ _ _ _ h
+zero-accepted met r c h = accepted _ _ _ _ _ _ h

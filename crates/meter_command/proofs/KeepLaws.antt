@@ -19,9 +19,16 @@ use Rattle.meter_record.specs.Ranges.{isTelemetry}
 use Rattle.meter_record.specs.With.{remade, withProtection, withTelemetry, withTime}
 use Rattle.meter_record.specs.declared.record.Passwords.{Passwords}
 use Rattle.meter_record.specs.declared.record.Record.{Record}
-use Rattle.meter_command.specs.Change.{detailFits, telemetryFits, dataFits, changedTo, changed, zeroed}
+use Rattle.meter_command.specs.Change.{detailFits, telemetryFits, dataFits, changedTo, zeroedTo}
 use Rattle.meter_command.specs.Judgement.{argumentFits}
-use Rattle.meter_command.specs.Parts.{detailIn, dataIn}
+use Rattle.meter_command.specs.Command.{detailIn, dataIn}
+
+-- the record after a change and after a zeroing of a parameter
+abbrev pub changed : Parameter → Record → List ℕ → Record
+changed p r f = changedTo (codeOf p) r (detailIn f) (dataIn f)
+
+abbrev pub zeroed : Parameter → Record → Record
+zeroed p r = zeroedTo (codeOf p) r
 
 pub protection-within : (r : Record) (p : Protection) → Within r → isProtection p ≡ true → Within (withProtection r p)
 protection-within r p w h = remade-within r _ _ _ _ _ _ _ w (w .address) h (w .time) (w .telemetry) (w .next)
@@ -34,8 +41,9 @@ fits-within : (b : Bool) {x y : Bool} {u v : Record} → (x ≡ true → Within 
 fits-within true f g = f
 fits-within false f g = g
 
-pub change-within : (p : Parameter) (r : Record) (f : List ℕ) → Within r → argumentFits p r f ≡ true → Within (changed p r f)
-unfolding changed changedTo argumentFits dataFits telemetryFits
+pub change-within : (p : Parameter) (r : Record) (f : List ℕ) → Within r → argumentFits (parameterRow p) (detailIn f) (r .telemetry) (dataIn f) ≡ true
+    → Within (changed p r f)
+unfolding changedTo argumentFits dataFits telemetryFits
 change-within p r f w h = go (both (detailFits ((parameterRow p) .«detail_from») ((parameterRow p) .«detail_to») (detailIn f)) (dataFits (codeOf p) (r .telemetry) (dataIn f)) h .1)
   where
     t : Fitting (r .time)
@@ -59,7 +67,7 @@ change-within p r f w h = go (both (detailFits ((parameterRow p) .«detail_from�
         (λ e. either Within (eqb (codeOf p) 35) (kept _ _) (either Within (eqb (codeOf p) 37) (kept _ _) w))))))
 
 pub zero-within : (p : Parameter) (r : Record) → Within r → Within (zeroed p r)
-unfolding zeroed
+unfolding zeroedTo
 zero-within p r w =
     either Within (eqb (codeOf p) 27) (time-within r _ w (is-fitting _ (record { clock = t .clock; summer = refl; winter = t .winter })))
     (either Within (eqb (codeOf p) 28) (time-within r _ w (is-fitting _ (record { clock = t .clock; summer = t .summer; winter = refl })))
@@ -79,7 +87,7 @@ module _ (p : Parameter) (r : Record) where
   has code = eqb (codeOf p) code
 
   pub change-level : (f : List ℕ) → Alike (changed p r f)
-  unfolding changed changedTo
+  unfolding changedTo
   change-level f =
       either Alike (has 21) refl
       (either Alike (has 24) refl
@@ -87,5 +95,5 @@ module _ (p : Parameter) (r : Record) where
       (either Alike (has 28) refl (either Alike (has 32) refl (either Alike (has 35) refl (either Alike (has 37) refl refl))))))
 
   pub zero-level : Alike (zeroed p r)
-  unfolding zeroed
+  unfolding zeroedTo
   zero-level = either Alike (has 27) refl (either Alike (has 28) refl (either Alike (has 36) refl refl))

@@ -4,15 +4,16 @@ use mathlib.Core.List.{List}
 use Prim.Native.Nat.{ℕ}
 use lib.Dec.{eqb, leb}
 use lib.ListN.{length}
-use Rattle.byte_numbers.specs.Place.{byteAt, numberAt}
+use Rattle.byte_numbers.specs.Place.{numberAt}
 use Rattle.parameters.specs.declared.code.Parameter.{Parameter}
-use Rattle.frame.specs.Layout.{parameterPlace, detailPlace, dataPlace, bareSize, unlockSize}
+use Rattle.frame.specs.Layout.{dataPlace, bareSize, unlockSize}
 use Rattle.parameters.specs.Table.{parameterRow}
 use Rattle.parameters.specs.declared.table.Access.{Access}
 use Rattle.parameters.specs.declared.table.Access.the-variants as access
 use Rattle.meter_clock.specs.declared.protection.Level.{Level}
 use Rattle.meter_clock.specs.declared.protection.Level.the-variants.{Shut, Auxiliary, Main}
 use Rattle.meter_record.specs.declared.record.Passwords.{Passwords}
+use Rattle.meter_command.specs.declared.command.Command.{Command}
 use Rattle.meter_command.specs.declared.access.Met.{Met}
 use Rattle.meter_command.specs.declared.access.Met.the-variants.{Own, Zero, Neither}
 use Rattle.meter_command.specs.declared.verdict.Verdict.{Verdict}
@@ -50,13 +51,13 @@ unfoldable pub levelFor : ℕ → Level
 levelFor named = cond (eqb named 1) Auxiliary Main
 
 -- function 31: 0, level, eight bytes of password (figure 21): 13, then 15 for a level that there is not, 14 and 15
-unfoldable pub unlockVerdict : Passwords → List ℕ → Verdict
+unfoldable pub unlockVerdict : Passwords → Command → List ℕ → Verdict
 unfolding passwordFor
-unlockVerdict p f =
-    cond (eqb (length f) unlockSize)
-    (cond (leb (byteAt f detailPlace) 1)
-    (cond (eqb (numberAt f dataPlace 8) (passwordFor p (byteAt f detailPlace)))
-    (cond (eqb (byteAt f parameterPlace) 0)
+unlockVerdict p c f =
+    cond (eqb (c .length) unlockSize)
+    (cond (leb (c .detail) 1)
+    (cond (eqb (numberAt f dataPlace 8) (passwordFor p (c .detail)))
+    (cond (eqb (c .request .parameter) 0)
     Done
     WrongArgument)
     NoAccess)
@@ -64,7 +65,7 @@ unlockVerdict p f =
     WrongLength
 
 -- function 32: 0, 0 (figure 22)
-unfoldable pub lockVerdict : List ℕ → Verdict
-lockVerdict f =
-    cond (eqb (length f) bareSize)
-    (cond (eqb (byteAt f parameterPlace) 0) (cond (eqb (byteAt f detailPlace) 0) Done WrongArgument) WrongArgument) WrongLength
+unfoldable pub lockVerdict : Command → Verdict
+lockVerdict c =
+    cond (eqb (c .length) bareSize)
+    (cond (eqb (c .request .parameter) 0) (cond (eqb (c .detail) 0) Done WrongArgument) WrongArgument) WrongLength

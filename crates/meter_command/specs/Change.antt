@@ -9,15 +9,12 @@ use Rattle.wire_values.specs.Clock.{dateTimeOf}
 use Rattle.wire_values.specs.Mask.{maskOf}
 use Rattle.wire_values.specs.Telemetry.{telemetryOf}
 use Rattle.wire_values.specs.declared.telemetry.Telemetry.{Telemetry}
-use Rattle.parameters.specs.Table.{codeOf}
-use Rattle.parameters.specs.declared.code.Parameter.{Parameter}
 use Rattle.meter_clock.specs.Season.{isSwitchable}
 use Rattle.meter_clock.specs.declared.season.SwitchDate.the-variants.{Automatic, ByHand}
 use Rattle.meter_record.specs.Ranges.{isTelemetry}
 use Rattle.meter_record.specs.With.{withAddress, withPasswords, withTelemetry, withMask, withNext, withClock, withSummer, withWinter}
 use Rattle.meter_record.specs.declared.record.Passwords.{Passwords}
 use Rattle.meter_record.specs.declared.record.Record.{Record}
-use Rattle.meter_command.specs.Parts.{detailIn, dataIn}
 
 -- ---- which arguments fit
 
@@ -57,15 +54,10 @@ changedTo code r detail bs =
     (cond (eqb code 37) (withPasswords r (passwordsAfter (r .passwords) detail (numberAt bs 0 8)))
     r))))))
 
--- the record after a change: the named parameter, and no other
-unfoldable pub changed : Parameter → Record → List ℕ → Record
-unfolding changedTo
-changed p r f = changedTo (codeOf p) r (detailIn f) (dataIn f)
-
--- the record after a zeroing: "brings back the automatic one"; "makes all unused and the first place next"
-unfoldable pub zeroed : Parameter → Record → Record
-zeroed p r =
-    cond (eqb (codeOf p) 27) (withSummer r Automatic)
-    (cond (eqb (codeOf p) 28) (withWinter r Automatic)
-    (cond (eqb (codeOf p) 36) (withNext r 0)
+-- the record after a zeroing, by the parameter's code: "brings back the automatic one"; "makes all unused and the first place next"
+unfoldable pub zeroedTo : ℕ → Record → Record
+zeroedTo code r =
+    cond (eqb code 27) (withSummer r Automatic)
+    (cond (eqb code 28) (withWinter r Automatic)
+    (cond (eqb code 36) (withNext r 0)
     r))

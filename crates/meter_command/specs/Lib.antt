@@ -1,5 +1,5 @@
 pub mod Verdict
-pub mod Parts
+pub mod Command
 pub mod Access
 pub mod Change
 pub mod Judgement

@@ -1,4 +1,5 @@
 // Protection: which address and which level a command needs, and the commands that open and shut a level.
+use crate::command::Command;
 use crate::verdict::Verdict;
 use frame::layout;
 use meter_clock::Level;
@@ -82,36 +83,37 @@ pub fn level_for(named: u8) -> Level
     }
 }
 
-pub fn unlock_verdict(p: Passwords, frame: &[u8]) -> Verdict
-    ensures { λ r. ⌜ r ≡ unlockVerdict p (now (frame .entry)) ⌝ }
+pub fn unlock_verdict(p: Passwords, c: Command, frame: &[u8]) -> Verdict
+    ensures { λ r. ⌜ r ≡ unlockVerdict p c (now (frame .entry)) ⌝ }
 {
-    let named = byte_numbers::byte_at(frame, layout::DETAIL);
-    let right = password_for(p, named);
-    if frame.len() != layout::UNLOCK_BYTES {
+    let q = c.request;
+    let right = password_for(p, c.detail);
+    if c.length != layout::UNLOCK_BYTES {
         return Verdict::WrongLength;
     }
-    if AUXILIARY < named {
+    if AUXILIARY < c.detail {
         return Verdict::WrongArgument;
     }
     if byte_numbers::u64_at(frame, layout::DATA) != right {
         return Verdict::NoAccess;
     }
-    if byte_numbers::byte_at(frame, layout::PARAMETER) != 0 {
+    if q.parameter != 0 {
         return Verdict::WrongArgument;
     }
     Verdict::Done
 }
 
-pub fn lock_verdict(frame: &[u8]) -> Verdict
-    ensures { λ r. ⌜ r ≡ lockVerdict (now (frame .entry)) ⌝ }
+pub fn lock_verdict(c: Command) -> Verdict
+    ensures { λ r. ⌜ r ≡ lockVerdict c ⌝ }
 {
-    if frame.len() != layout::BARE_BYTES {
+    let q = c.request;
+    if c.length != layout::BARE_BYTES {
         return Verdict::WrongLength;
     }
-    if byte_numbers::byte_at(frame, layout::PARAMETER) != 0 {
+    if q.parameter != 0 {
         return Verdict::WrongArgument;
     }
-    if byte_numbers::byte_at(frame, layout::DETAIL) != 0 {
+    if c.detail != 0 {
         return Verdict::WrongArgument;
     }
     Verdict::Done

@@ -2,16 +2,20 @@
 use crate::access;
 use crate::access::Met;
 use crate::change;
-use crate::parts;
+use crate::command::Command;
 use crate::verdict::Verdict;
 use frame::layout;
 use meter_record::Record;
 use parameters::code;
 use parameters::code::Function;
-use parameters::code::Parameter;
 use parameters::table;
+use parameters::table::Row;
+use wire_values::Telemetry;
 ghost use mathlib.Core.Path.{_≡_};
 ghost use mathlib.Core.Bool.{Bool};
+ghost use Prim.Native.Nat.{_+_};
+ghost use lib.Dec.{eqb};
+ghost use Rattle.frame.specs.Layout.{bareSize};
 ghost use Rattle.meter_command.specs.Judgement.{passed, checked, argumentFits, readVerdict, changeVerdict, zeroVerdict, verdictOf};
 
 // The papers' order: 11, 12, 13, and then 16, 14, 15.
@@ -52,84 +56,97 @@ fn passed(own: bool, allowed: bool, fits: bool) -> Verdict
     Verdict::ByAddressZero
 }
 
-fn read_verdict(r: Record, frame: &[u8]) -> Verdict
-    ensures { λ a. ⌜ a ≡ readVerdict r (now (frame .entry)) ⌝ }
+fn read_verdict(r: Record, c: Command) -> Verdict
+    ensures { λ a. ⌜ a ≡ readVerdict r c ⌝ }
 {
-    let row = table::parameter_row(parts::parameter_in(frame));
-    let slots = slots::slots_of(r.minutes);
-    let q = parts::request_in(frame);
+    let row = c.row;
+    let fields = row.fields;
+    let q = c.request;
     let reading = q.reading;
-    let subject = request::subject_of(q, slots);
     checked(
         row.code != code::UNKNOWN,
         table::opens_to(reading, row),
-        frame.len() == layout::READ_BYTES,
+        c.length == layout::READ_BYTES,
         true,
         true,
-        request::is_askable(subject),
+        request::fields_fit(fields, q, slots::slots_of(r.minutes)),
     )
 }
 
-fn change_verdict(met: Met, r: Record, frame: &[u8]) -> Verdict
-    ensures { λ a. ⌜ a ≡ changeVerdict met r (now (frame .entry)) ⌝ }
+// Whether a frame has so many bytes of data.
+fn has_data(length: usize, size: usize) -> bool
+    ensures { λ a. ⌜ a ≡ eqb length (bareSize + size) ⌝ }
 {
-    let p = parts::parameter_in(frame);
-    let row = table::parameter_row(p);
-    let access = row.access;
-    let protection = r.protection;
-    let level = protection.level;
-    checked(
-        row.code != code::UNKNOWN,
-        row.changeable,
-        frame.len() == layout::BARE_BYTES + row.change_bytes,
-        access::by_own(met),
-        access::allows(access, level),
-        argument_fits(p, r, frame),
-    )
-}
-
-fn argument_fits(p: Parameter, r: Record, frame: &[u8]) -> bool
-    ensures { λ a. ⌜ a ≡ argumentFits p r (now (frame .entry)) ⌝ }
-{
-    let stored = r.telemetry;
-    let row = table::parameter_row(p);
-    if change::detail_fits(
-        row.detail_from,
-        row.detail_to,
-        byte_numbers::byte_at(frame, layout::DETAIL),
-    ) {
-        return change::data_fits(p, stored, byte_numbers::tail(frame, layout::DATA));
+    if length < layout::BARE_BYTES {
+        return false;
+    }
+    let rest = length - layout::BARE_BYTES;
+    if rest == size {
+        return true;
     }
     false
 }
 
-fn zero_verdict(met: Met, r: Record, frame: &[u8]) -> Verdict
-    ensures { λ a. ⌜ a ≡ zeroVerdict met r (now (frame .entry)) ⌝ }
+fn change_verdict(met: Met, r: Record, c: Command, frame: &[u8]) -> Verdict
+    ensures { λ a. ⌜ a ≡ changeVerdict met r c (now (frame .entry)) ⌝ }
 {
-    let row = table::parameter_row(parts::parameter_in(frame));
+    let row = c.row;
+    let access = row.access;
+    let protection = r.protection;
+    let level = protection.level;
+    let stored = r.telemetry;
+    checked(
+        row.code != code::UNKNOWN,
+        row.changeable,
+        has_data(c.length, row.change_bytes),
+        access::by_own(met),
+        access::allows(access, level),
+        argument_fits(
+            row,
+            c.detail,
+            stored,
+            byte_numbers::tail(frame, layout::DATA),
+        ),
+    )
+}
+
+fn argument_fits(row: Row, detail: u8, stored: Telemetry, bytes: &[u8]) -> bool
+    ensures { λ a. ⌜ a ≡ argumentFits row detail stored (now (bytes .entry)) ⌝ }
+{
+    if change::detail_fits(row.detail_from, row.detail_to, detail) {
+        return change::data_fits(row.code, stored, bytes);
+    }
+    false
+}
+
+fn zero_verdict(met: Met, r: Record, c: Command) -> Verdict
+    ensures { λ a. ⌜ a ≡ zeroVerdict met r c ⌝ }
+{
+    let row = c.row;
     let protection = r.protection;
     let level = protection.level;
     checked(
         row.code != code::UNKNOWN,
         row.zeroable,
-        frame.len() == layout::BARE_BYTES,
+        c.length == layout::BARE_BYTES,
         access::by_own(met),
         access::is_main(level),
-        byte_numbers::byte_at(frame, layout::DETAIL) == 0,
+        c.detail == 0,
     )
 }
 
 // A frame that met neither address is not heard and does not come here; what it would change is refused as by address 0.
-pub fn judge(met: Met, r: Record, frame: &[u8]) -> Verdict
-    ensures { λ a. ⌜ a ≡ verdictOf met r (now (frame .entry)) ⌝ }
+pub fn judge(met: Met, r: Record, c: Command, frame: &[u8]) -> Verdict
+    ensures { λ a. ⌜ a ≡ verdictOf met r c (now (frame .entry)) ⌝ }
 {
     let passwords = r.passwords;
-    match parts::function_in(frame) {
-        Function::Read(_) => read_verdict(r, frame),
-        Function::Change => change_verdict(met, r, frame),
-        Function::Zero => zero_verdict(met, r, frame),
-        Function::Unlock => access::unlock_verdict(passwords, frame),
-        Function::Lock => access::lock_verdict(frame),
+    let function = c.function;
+    match function {
+        Function::Read(_) => read_verdict(r, c),
+        Function::Change => change_verdict(met, r, c, frame),
+        Function::Zero => zero_verdict(met, r, c),
+        Function::Unlock => access::unlock_verdict(passwords, c, frame),
+        Function::Lock => access::lock_verdict(c),
         Function::Unknown => Verdict::UnknownFunction,
     }
 }

@@ -1,11 +1,11 @@
-// Commands to the bench meter: the parts of their frames, and what becomes of each.
+// Commands to the bench meter: what the bytes of a frame are as one, and what becomes of it.
 //
-// `judge` says it by the address met, the record and the frame, in the papers' order of checks. What a change or a zeroing that is done leaves
+// `judge` says it by the address met, the record and the command, in the papers' order of checks. What a change or a zeroing that is done leaves
 // of the record is said here too; the meter puts its answer together from these.
 mod access;
 mod change;
+mod command;
 mod judgement;
-mod parts;
 mod remade;
 mod verdict;
 
@@ -13,11 +13,10 @@ pub use access::Met;
 pub use access::level_for;
 pub use change::changed;
 pub use change::zeroed;
+pub use command::Command;
+pub use command::command_of;
+pub use command::function_in;
 pub use judgement::judge;
-pub use parts::function_in;
-pub use parts::parameter_byte;
-pub use parts::parameter_in;
-pub use parts::request_in;
 pub use verdict::Verdict;
 pub use verdict::is_done;
 pub use verdict::result_of;

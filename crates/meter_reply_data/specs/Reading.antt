@@ -16,7 +16,7 @@ use Rattle.wire_values.specs.declared.displayed.Energies.{Energies}
 use Rattle.wire_values.specs.declared.displayed.KilowattHours.{KilowattHours}
 use Rattle.wire_values.specs.declared.power.Phases.{Phases}
 use Rattle.wire_values.specs.declared.telemetry.Telemetry.{Telemetry}
-use Rattle.parameters.specs.Table.{replyBytes}
+use Rattle.parameters.specs.Table.{bytesIn}
 use Rattle.parameters.specs.declared.code.Function.{Function}
 use Rattle.parameters.specs.declared.code.Function.the-variants as function
 use Rattle.parameters.specs.declared.code.Parameter.{Parameter}
@@ -32,7 +32,7 @@ use Rattle.kilowatt_hours.specs.Bits.{kwhBits}
 use Rattle.meter_record.specs.Ratios.{areRatios}
 use Rattle.meter_record.specs.declared.record.Ratios.{Ratios}
 use Rattle.meter_record.specs.declared.record.Record.{Record}
-use Rattle.meter_command.specs.Parts.{functionIn, parameterIn, requestIn}
+use Rattle.meter_command.specs.declared.command.Command.{Command}
 
 -- "details 1 to 3 one phase"
 unfoldable pub phase : Phases → ℕ → Float
@@ -101,8 +101,8 @@ isRead function.Lock = false
 isRead function.Unknown = false
 
 -- the data of the reply to a command that is done
-unfoldable pub dataOf : Record → List ℕ → List ℕ → List ℕ
-dataOf r s f = cond (isRead (functionIn f)) (figuresAs ((requestIn f) .reading) (parameterIn f) r s (requestIn f)) []
+unfoldable pub dataOf : Record → List ℕ → Command → List ℕ
+dataOf r s c = cond (isRead (c .function)) (figuresAs (c .request .reading) (c .parameter) r s (c .request)) []
 
-unfoldable pub dataSize : List ℕ → ℕ
-dataSize f = cond (isRead (functionIn f)) (replyBytes ((requestIn f) .reading) (parameterIn f) ((requestIn f) .detail)) 0
+unfoldable pub dataSize : Command → ℕ
+dataSize c = cond (isRead (c .function)) (bytesIn (c .request .reading) (c .row) (c .request .detail)) 0

@@ -2,6 +2,7 @@
 use calendar::DateTime;
 use energy::Counts;
 use meter_clock::Time;
+use meter_command::Command;
 use meter_record::Ratios;
 use meter_record::Record;
 use parameters::code::Function;
@@ -17,7 +18,6 @@ ghost use mathlib.Core.Path.{_≡_};
 ghost use Rattle.byte_numbers.specs.Place.{written};
 ghost use Rattle.meter_reply_data.specs.Reading.{phase, powerData, summerShown, winterShown, sixBytes, figuresOf};
 ghost use Rattle.meter_reply_data.specs.Reading.{shownOf, displayedOf, figuresAs, isRead, dataOf, dataSize};
-ghost use Rattle.meter_command.specs.Parts.{functionIn};
 
 fn phase(p: Phases, detail: u8) -> f32
     ensures { λ r. ⌜ r ≡ phase p detail ⌝ }
@@ -144,10 +144,10 @@ fn put_as(out: &mut [u8], p: Parameter, r: Record, store: &[u8], q: Request)
 }
 
 // Only a read has data.
-pub fn is_read(frame: &[u8]) -> bool
-    ensures { λ r. ⌜ r ≡ isRead (functionIn (now (frame .entry))) ⌝ }
+pub fn is_read(function: Function) -> bool
+    ensures { λ r. ⌜ r ≡ isRead function ⌝ }
 {
-    match meter_command::function_in(frame) {
+    match function {
         Function::Read(_) => true,
         Function::Change => false,
         Function::Zero => false,
@@ -158,22 +158,26 @@ pub fn is_read(frame: &[u8]) -> bool
 }
 
 // The data of the reply to a command that is done.
-pub fn put_data(out: &mut [u8], r: Record, store: &[u8], frame: &[u8])
-    ensures { λ _. ⌜ now (out .exit) ≡ written (now (out .entry)) 0 (dataOf r (now (store .entry)) (now (frame .entry))) ⌝ }
+pub fn put_data(out: &mut [u8], r: Record, store: &[u8], c: Command)
+    ensures { λ _. ⌜ now (out .exit) ≡ written (now (out .entry)) 0 (dataOf r (now (store .entry)) c) ⌝ }
 {
-    if is_read(frame) {
-        let p = meter_command::parameter_in(frame);
-        put_as(out, p, r, store, meter_command::request_in(frame));
+    let function = c.function;
+    let p = c.parameter;
+    let q = c.request;
+    if is_read(function) {
+        put_as(out, p, r, store, q);
     }
 }
 
-pub fn data_size(frame: &[u8]) -> usize
-    ensures { λ n. ⌜ n ≡ dataSize (now (frame .entry)) ⌝ }
+pub fn data_size(c: Command) -> usize
+    ensures { λ n. ⌜ n ≡ dataSize c ⌝ }
 {
-    if is_read(frame) {
-        let q = meter_command::request_in(frame);
-        let reading = q.reading;
-        return table::reply_bytes(reading, meter_command::parameter_in(frame), q.detail);
+    let function = c.function;
+    let row = c.row;
+    let q = c.request;
+    let reading = q.reading;
+    if is_read(function) {
+        return table::bytes_in(reading, row, q.detail);
     }
     0
 }

@@ -14,6 +14,7 @@ use Rattle.frame.specs.Layout.{longest}
 use Rattle.slots.specs.declared.key.Key.{Key}
 use Rattle.meter_record.specs.Record.{made, secondOf, setPowers, setRatios, numberOf}
 use Rattle.meter_record.specs.declared.record.Ratios.{Ratios}
+use Rattle.meter_record.specs.declared.record.Record.{Record}
 use Rattle.meter_record.specs.declared.record.RecordAnswer.{RecordAnswer}
 use Rattle.meter_record.specs.declared.record.RecordAnswer.the-variants as answer
 use Rattle.meter_record_bytes.specs.Record.{recordSize, recordBytes}
@@ -22,7 +23,7 @@ use Rattle.meter_record_bytes.specs.declared.record.RecordRead.{RecordRead}
 use Rattle.meter_record_bytes.specs.declared.record.RecordRead.the-variants.{Read, Unreadable}
 use Rattle.meter_record_bytes.specs.declared.time.SeasonRead.{SeasonRead}
 use Rattle.meter_record_bytes.specs.declared.time.SeasonRead.the-variants as season
-use Rattle.meter_command.specs.Parts.{functionIn}
+use Rattle.meter_command.specs.Command.{commandOf}
 use Rattle.meter_command.specs.Verdict as verdict
 use Rattle.meter_reply_data.specs.Reading.{isRead}
 use Rattle.meter.specs.Bench.{slicePut}
@@ -53,7 +54,12 @@ phasesFrom a b c = record { a = ofBits binary32 a; b = ofBits binary32 b; c = of
 abbrev pub ratiosFrom : ℕ → ℕ → Ratios
 ratiosFrom ki ku = record { ki = ki; ku = ku }
 
--- ---- the bench's calls on what was read: bytes that are no record count as one outside its ranges
+-- ---- the bench's calls on what was read
+
+-- a call on the record that was read, or what is said of bytes that are no record
+abbrev pub onRead : {A : Type 0} → RecordRead → (Record → A) → A → A
+onRead (Read r) call none = call r
+onRead Unreadable call none = none
 
 madeBy : SeasonRead → ℕ → ℕ → Telemetry → DateTime → RecordAnswer
 madeBy (season.Read s) address minutes telemetry clock = made address minutes telemetry clock s
@@ -64,21 +70,18 @@ unfoldable pub madeIn : ℕ → ℕ → Telemetry → DateTime → ℕ → Recor
 unfolding madeBy
 madeIn address minutes telemetry clock season = madeBy (seasonOf season) address minutes telemetry clock
 
+-- the four calls on a record: bytes that are none count as one outside its ranges
 unfoldable pub secondIn : RecordRead → RecordAnswer
-secondIn (Read r) = secondOf r
-secondIn Unreadable = answer.Unsound
+secondIn x = onRead x secondOf answer.Unsound
 
 unfoldable pub powersIn : RecordRead → ℕ → Phases → RecordAnswer
-powersIn (Read r) n p = setPowers r n p
-powersIn Unreadable n p = answer.Unsound
+powersIn x n p = onRead x (λ (r : Record). setPowers r n p) answer.Unsound
 
 unfoldable pub ratiosIn : RecordRead → Ratios → RecordAnswer
-ratiosIn (Read r) k = setRatios r k
-ratiosIn Unreadable k = answer.Unsound
+ratiosIn x k = onRead x (λ (r : Record). setRatios r k) answer.Unsound
 
 unfoldable pub sliceIn : RecordRead → List ℕ → Key → List ℕ → Outcome RecordAnswer (List ℕ)
-sliceIn (Read r) s k row = slicePut r s k row
-sliceIn Unreadable s k row = outcome answer.Unsound s
+sliceIn x s k row = onRead x (λ (r : Record). slicePut r s k row) (outcome answer.Unsound s)
 
 -- the record's bytes after them: those of the record after it, and untouched by a refusal
 unfoldable pub bytesAfter : RecordAnswer → List ℕ → List ℕ
@@ -102,7 +105,7 @@ putForC o bs = outcome (numberOf (o .result)) (bytesAfter (o .result) bs, o .lef
 -- the record's bytes after it: a refusal leaves them as they were, and a read too, which changes nothing of the record; any other command
 -- that is done leaves those of the record after it
 unfoldable pub bytesLeft : Answered → List ℕ → List ℕ → List ℕ
-bytesLeft a f bs = cond (verdict.isDone (a .verdict)) (cond (isRead (functionIn f)) bs (written bs 0 (recordBytes (a .after)))) bs
+bytesLeft a f bs = cond (verdict.isDone (a .verdict)) (cond (isRead ((commandOf f) .function)) bs (written bs 0 (recordBytes (a .after)))) bs
 
 -- the lent length: the reply's, which has six bytes or more; untouched where the meter sends none
 unfoldable pub sentLength : ℕ → ℕ → ℕ
@@ -114,5 +117,5 @@ answeredForC o before f bs =
     outcome (verdict.numberOf (o .answer .verdict)) (sentLength (o .answer .length) before, bytesLeft (o .answer) f bs, o .store, o .out)
 
 unfoldable pub answerForC : RecordRead → ℕ → List ℕ → List ℕ → List ℕ → List ℕ → Outcome ℕ (ℕ × List ℕ × List ℕ × List ℕ)
-answerForC (Read r) before bs s f out = answeredForC (answerOf r s f out) before f bs
-answerForC Unreadable before bs s f out = outcome (unreadNumber (length out) longest) (before, bs, s, out)
+answerForC x before bs s f out =
+    onRead x (λ (r : Record). answeredForC (answerOf r s f out) before f bs) (outcome (unreadNumber (length out) longest) (before, bs, s, out))

@@ -15,7 +15,7 @@ fn put_after(meter: &mut [u8], frame: &[u8], answer: Answered)
 {
     let verdict = answer.verdict;
     if meter_command::is_done(verdict) {
-        if meter_reply_data::is_read(frame) {
+        if meter_reply_data::is_read(meter_command::function_in(frame)) {
             return;
         }
         meter_record_bytes::put_record(meter, answer.after);

@@ -120,9 +120,12 @@ byPhase Slot detail whole phase = whole
 byPhase SixSlots detail whole phase = whole
 
 -- how many bytes the data of a reply have, and how many figures they are; what is displayed is "four 32-bit floats" (document 02, request 3)
+abbrev pub bytesIn : Reading → Row → ℕ → ℕ
+bytesIn Stored w detail = byPhase (w .fields) detail (w .«reply_bytes») 4
+bytesIn Displayed w detail = 16
+
 unfoldable pub replyBytes : Reading → Parameter → ℕ → ℕ
-replyBytes Stored p detail = byPhase ((parameterRow p) .fields) detail ((parameterRow p) .«reply_bytes») 4
-replyBytes Displayed p detail = 16
+replyBytes reading p detail = bytesIn reading (parameterRow p) detail
 
 unfoldable pub figureCount : Reading → Parameter → ℕ → ℕ
 figureCount Stored p detail = byPhase ((parameterRow p) .fields) detail ((parameterRow p) .figures) 1

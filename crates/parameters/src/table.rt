@@ -18,7 +18,7 @@ use crate::code::UNKNOWN;
 use crate::code::WINTER_DATE;
 ghost use mathlib.Core.Path.{_≡_};
 ghost use Rattle.parameters.specs.Table.{line, read, readBoth, plain, unread, byMain, byAuxiliary, fixed, parameterRow, codeOf};
-ghost use Rattle.parameters.specs.Table.{opensTo, parameterOf, byPhase, replyBytes, figureCount};
+ghost use Rattle.parameters.specs.Table.{opensTo, parameterOf, byPhase, bytesIn, replyBytes, figureCount};
 
 // What offset, tariff and detail of a read are.
 pub enum Fields {
@@ -247,7 +247,13 @@ pub fn parameter_of(code: u8) -> Parameter
 pub fn reply_bytes(reading: Reading, p: Parameter, detail: u8) -> usize
     ensures { λ r. ⌜ r ≡ replyBytes reading p detail ⌝ }
 {
-    let row = parameter_row(p);
+    bytes_in(reading, parameter_row(p), detail)
+}
+
+// The bytes by a row that is at hand.
+pub fn bytes_in(reading: Reading, row: Row, detail: u8) -> usize
+    ensures { λ r. ⌜ r ≡ bytesIn reading row detail ⌝ }
+{
     let fields = row.fields;
     match reading {
         Reading::Stored => by_phase(fields, detail, row.reply_bytes, PHASE_BYTES),

@@ -8,6 +8,7 @@ pub use request::put_request;
 pub use subject::MOST_SLOTS;
 pub use subject::Subject;
 pub use subject::data_bytes;
+pub use subject::fields_fit;
 pub use subject::is_askable;
 pub use subject::key_of;
 pub use subject::subject_of;

@@ -40,7 +40,7 @@ pub fn subject_of(q: Request, slots: u8) -> Subject
 }
 
 // Whether offset, tariff and detail are such as a read of the parameter has.
-fn fields_fit(fields: Fields, q: Request, slots: u8) -> bool
+pub fn fields_fit(fields: Fields, q: Request, slots: u8) -> bool
     ensures { λ r. ⌜ r ≡ fieldsFit fields q slots ⌝ }
 {
     match fields {

@@ -1,21 +1,11 @@
--- `clears` meets its contract: only a zeroing looks at the parameter; each other function's arm is false, as in the definition.
+-- `clears` meets its contract: only a zeroing looks at the parameter's code; each other function's arm is false, as in the definition.
 use Rattle.meter.specs.Effect.{clears}
-use mathlib.Core.Path.{sym, _∙_}
 use borrow.Author.Needs.{needs}
 use Rattle.meter.proofs.effect.clears.Statement.{statement}
 use Rattle.meter.proofs.effect.clears.Tie as tie
 
-function-in-requires : tie.Need-function-in-requires
-function-in-requires c κs = search needs
-
 enum-told : tie.Need-enum-told
 enum-told c = search needs
-
-parameter-in-requires : tie.Need-parameter-in-requires
-parameter-in-requires c κs = search needs
-
-is-slice-requires : tie.Need-is-slice-requires
-is-slice-requires c κs = search needs
 
 enum-told-2 : tie.Need-enum-told-2
 enum-told-2 c = search needs
@@ -34,39 +24,33 @@ enum-told-6 c = search needs
 
 returns : tie.Need-returns
 unfolding clears
-returns c =
-    let function-in = c .before .before .before .before .function-in in
-    let arm = c .before .before .enum-told in
-    simp (sym (function-in .ensures) ∙ arm .given .1) (c .is-slice .ensures ∙ rw (c .before .parameter-in .ensures))
+returns c = simp (c .before .enum-told .given .1)
 
 returns-2 : tie.Need-returns-2
 unfolding clears
-returns-2 c = simp (sym (c .before .before .function-in .ensures) ∙ c .enum-told2 .given .1)
+returns-2 c = simp (c .enum-told2 .given .1)
 
 returns-3 : tie.Need-returns-3
 unfolding clears
-returns-3 c = simp (sym (c .before .before .function-in .ensures) ∙ c .enum-told3 .given .1)
+returns-3 c = simp (c .enum-told3 .given .1)
 
 returns-4 : tie.Need-returns-4
 unfolding clears
-returns-4 c = simp (sym (c .before .before .function-in .ensures) ∙ c .enum-told4 .given .1)
+returns-4 c = simp (c .enum-told4 .given .1)
 
 returns-5 : tie.Need-returns-5
 unfolding clears
-returns-5 c = simp (sym (c .before .before .function-in .ensures) ∙ c .enum-told5 .given .1)
+returns-5 c = simp (c .enum-told5 .given .1)
 
 returns-6 : tie.Need-returns-6
 unfolding clears
-returns-6 c = simp (sym (c .before .before .function-in .ensures) ∙ c .enum-told6 .given .1)
+returns-6 c = simp (c .enum-told6 .given .1)
 
 pub clears-spec : {M : Type 1} → statement M
 clears-spec =
     tie.close
     (tie.spec
-    function-in-requires
     enum-told
-    parameter-in-requires
-    is-slice-requires
     enum-told-2
     enum-told-3
     enum-told-4

@@ -1,15 +1,12 @@
 -- `record_after` meets its contract: each function's arm leaves the record that `afterOf` names for it.
 use Rattle.meter.specs.Effect.{afterOf}
-use mathlib.Core.Path.{sym, _∙_}
+use mathlib.Core.Path.{_∙_}
 use borrow.Author.Needs.{needs}
 use Rattle.meter.proofs.effect.record_after.Statement.{statement}
 use Rattle.meter.proofs.effect.record_after.Tie as tie
 
-parameter-in-requires : tie.Need-parameter-in-requires
-parameter-in-requires c κs = search needs
-
-function-in-requires : tie.Need-function-in-requires
-function-in-requires c κs = search needs
+tail-requires : tie.Need-tail-requires
+tail-requires c κs = search needs
 
 enum-told : tie.Need-enum-told
 enum-told c = search needs
@@ -32,9 +29,6 @@ renewed-requires-2 c κs = search needs
 enum-told-3 : tie.Need-enum-told-3
 enum-told-3 c = search needs
 
-byte-at-requires : tie.Need-byte-at-requires
-byte-at-requires c κs = search needs
-
 level-for-requires : tie.Need-level-for-requires
 level-for-requires c κs = search needs
 
@@ -56,53 +50,38 @@ enum-told-6 c = search needs
 returns : tie.Need-returns
 unfolding afterOf
 returns c =
-    let parameter-in = c .before .before .before .before .before .parameter-in in
-    let function-in = c .before .before .before .before .function-in in
-    let arm = c .before .before .enum-told in
-    simp (sym (function-in .ensures) ∙ arm .given .1) (c .renewed .ensures ∙ rw (c .before .changed .ensures, parameter-in .ensures))
+    let arm = c .before .before in
+    simp (arm .enum-told .given .1) (c .renewed .ensures ∙ rw (c .before .changed .ensures, arm .before .before .tail .ensures))
 
 returns-2 : tie.Need-returns-2
 unfolding afterOf
-returns-2 c =
-    let parameter-in = c .before .before .before .before .before .parameter-in in
-    let function-in = c .before .before .before .before .function-in in
-    let arm2 = c .before .before .enum-told2 in
-    simp (sym (function-in .ensures) ∙ arm2 .given .1) (c .renewed2 .ensures ∙ rw (c .before .zeroed .ensures, parameter-in .ensures))
+returns-2 c = simp (c .before .before .enum-told2 .given .1) (c .renewed2 .ensures ∙ rw (c .before .zeroed .ensures))
 
 returns-3 : tie.Need-returns-3
 unfolding afterOf
 returns-3 c =
     let back = c .before .before .before .before .before .before .before in
-    let function-in = back .before .before .before .before .before .function-in in
-    let arm3 = back .before .before .before .enum-told3 in
-    let byte-at = back .before .before .byte-at in
-    let level-for = back .before .level-for in
-    let opened = back .opened in
-    simp (sym (function-in .ensures) ∙ arm3 .given .1, opened .ensures, level-for .ensures, byte-at .ensures)
+    simp (back .before .before .enum-told3 .given .1, back .opened .ensures, back .before .level-for .ensures)
 
 returns-4 : tie.Need-returns-4
 unfolding afterOf
 returns-4 c =
     let back = c .before .before .before .before .before .before .before in
-    let function-in = back .before .before .before .function-in in
-    let arm4 = back .before .enum-told4 in
-    let shut = back .shut in
-    simp (sym (function-in .ensures) ∙ arm4 .given .1, shut .ensures)
+    simp (back .before .enum-told4 .given .1, back .shut .ensures)
 
 returns-5 : tie.Need-returns-5
 unfolding afterOf
-returns-5 c = simp (sym (c .before .before .function-in .ensures) ∙ c .enum-told5 .given .1)
+returns-5 c = simp (c .enum-told5 .given .1)
 
 returns-6 : tie.Need-returns-6
 unfolding afterOf
-returns-6 c = simp (sym (c .before .before .function-in .ensures) ∙ c .enum-told6 .given .1)
+returns-6 c = simp (c .enum-told6 .given .1)
 
 pub record-after-spec : {M : Type 1} → statement M
 record-after-spec =
     tie.close
     (tie.spec
-    parameter-in-requires
-    function-in-requires
+    tail-requires
     enum-told
     changed-requires
     renewed-requires
@@ -110,7 +89,6 @@ record-after-spec =
     zeroed-requires
     renewed-requires-2
     enum-told-3
-    byte-at-requires
     level-for-requires
     opened-requires
     enum-told-4

@@ -14,8 +14,9 @@ fill-requires c κs = search needs
 
 add-seal : tie.Need-add-seal
 add-seal c =
-    let data-size = c .before .before .before .before .before .before .data-size in
-    fits-le (add-le-add {d = 48} (le-refl 4) (rw (data-size .ensures) (data-small _))) (fits-lit tt)
+    let sized = c .before .before .before .before .before .before in
+    let start = sized .before .before .before .before in
+    fits-le (add-le-add {d = 48} (le-refl 4) (rw (sized .data-size .ensures, start .pre .1) (data-small (start .args .frame .now)))) (fits-lit tt)
 
 seal-requires : tie.Need-seal-requires
 seal-requires c κs = search needs
@@ -23,10 +24,11 @@ seal-requires c κs = search needs
 clear-store-requires : tie.Need-clear-store-requires
 clear-store-requires c κs = search needs
 
-add-t14 : tie.Need-add-t14
-add-t14 c =
-    let data-size = c .before .before .before .before .before .before .before .before .before .before .before .before .before .data-size in
-    fits-le (add-le-add {d = 48} (le-refl 6) (rw (data-size .ensures) (data-small _))) (fits-lit tt)
+add-t15 : tie.Need-add-t15
+add-t15 c =
+    let sized = c .before .before .before .before .before .before .before .before .before .before .before .before .before in
+    let start = sized .before .before .before .before in
+    fits-le (add-le-add {d = 48} (le-refl 6) (rw (sized .data-size .ensures, start .pre .1) (data-small (start .args .frame .now)))) (fits-lit tt)
 
 record-after-requires : tie.Need-record-after-requires
 record-after-requires c κs = search needs
@@ -40,11 +42,12 @@ same-length-2 c = search needs
 returns : tie.Need-returns
 returns c =
     let back = c .before .before .before .before .before .before .before in
-    let data-size = back .before .before .before .before .before .before .before .data-size in
+    let sized = back .before .before .before .before .before .before .before in
+    let start = sized .before .before .before .before in
     let fill = back .before .before .before .before .fill in
     let seal = back .seal in
     let clear-store = c .before .before .before .clear-store in
-    rw (c .record-after .ensures, clear-store .ensures, seal .ensures, fill .ensures, data-size .ensures)
+    rw (c .record-after .ensures, clear-store .ensures, seal .ensures, fill .ensures, sized .data-size .ensures, start .pre .1)
 
 pub done-spec : {M : Type 1} → statement M
 done-spec =
@@ -55,7 +58,7 @@ done-spec =
     add-seal
     seal-requires
     clear-store-requires
-    add-t14
+    add-t15
     record-after-requires
     same-length
     same-length-2

@@ -21,7 +21,7 @@ same-length c = search needs
 
 returns : tie.Need-returns
 returns c =
-    let args = c .before .before .before .before .before .before .before .args in
+    let args = c .before .before .before .before .before .before .args in
     part-filled (args .out .now) _ _ (c .before .before .put-data .ensures)
 
 pub fill-spec : {M : Type 1} → statement M

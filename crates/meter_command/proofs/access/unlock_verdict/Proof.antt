@@ -6,9 +6,6 @@ use borrow.Author.Needs.{needs}
 use Rattle.meter_command.proofs.access.unlock_verdict.Statement.{statement}
 use Rattle.meter_command.proofs.access.unlock_verdict.Tie as tie
 
-byte-at-requires : tie.Need-byte-at-requires
-byte-at-requires c κs = search needs
-
 password-for-requires : tie.Need-password-for-requires
 password-for-requires c κs = search needs
 
@@ -18,9 +15,7 @@ returns c = simp (ne-eqb _ _ (c .if1 .taken))
 
 returns-2 : tie.Need-returns-2
 unfolding unlockVerdict
-returns-2 c =
-    let byte-at = c .before .before .before .byte-at in
-    simp (eq-eqb _ _ (c .before .if1 .left), sym (byte-at .ensures), lt-leb _ _ (c .if2 .taken))
+returns-2 c = simp (eq-eqb _ _ (c .before .before .if1 .left), lt-leb _ _ (c .if2 .taken))
 
 u64-at-requires : tie.Need-u64-at-requires
 u64-at-requires c κs = search needs
@@ -28,49 +23,36 @@ u64-at-requires c κs = search needs
 returns-3 : tie.Need-returns-3
 unfolding unlockVerdict
 returns-3 c =
-    let byte-at = c .before .before .before .before .before .byte-at in
-    let password-for = c .before .before .before .before .password-for in
-    let if1 = c .before .before .before .if1 in
-    simp (eq-eqb _ _ (if1 .left), sym (byte-at .ensures), le-leb _ _ (c .before .before .if2 .left), sym (password-for .ensures), sym (c .before .u64-at .ensures), ne-eqb _ _ (c .if3 .taken))
-
-byte-at-requires-2 : tie.Need-byte-at-requires-2
-byte-at-requires-2 c κs = search needs
+    let tested = c .before .before .before .before in
+    simp (eq-eqb _ _ (tested .if1 .left), le-leb _ _ (c .before .before .if2 .left), sym (tested .before .before .password-for .ensures), sym (c .before .u64-at .ensures), ne-eqb _ _ (c .if3 .taken))
 
 returns-4 : tie.Need-returns-4
 unfolding unlockVerdict
 returns-4 c =
-    let byte-at = c .before .before .before .before .before .before .before .byte-at in
-    let password-for = c .before .before .before .before .before .before .password-for in
-    let if1 = c .before .before .before .before .before .if1 in
-    let if2 = c .before .before .before .before .if2 in
+    let level = c .before .before .before .before in
+    let tested = level .before .before in
     let u64-at = c .before .before .before .u64-at in
     simp (
-      eq-eqb _ _ (if1 .left),
-      sym (byte-at .ensures),
-      le-leb _ _ (if2 .left),
-      sym (password-for .ensures),
+      eq-eqb _ _ (tested .if1 .left),
+      le-leb _ _ (level .if2 .left),
+      sym (tested .before .before .password-for .ensures),
       sym (u64-at .ensures),
       eq-eqb _ _ (c .before .before .if3 .left),
-      sym (c .before .byte-at2 .ensures),
       ne-eqb _ _ (c .if4 .taken),
     )
 
 returns-5 : tie.Need-returns-5
 unfolding unlockVerdict
 returns-5 c =
-    let byte-at = c .before .before .before .before .before .before .before .byte-at in
-    let password-for = c .before .before .before .before .before .before .password-for in
-    let if1 = c .before .before .before .before .before .if1 in
-    let if2 = c .before .before .before .before .if2 in
+    let level = c .before .before .before .before in
+    let tested = level .before .before in
     let u64-at = c .before .before .before .u64-at in
     simp (
-      eq-eqb _ _ (if1 .left),
-      sym (byte-at .ensures),
-      le-leb _ _ (if2 .left),
-      sym (password-for .ensures),
+      eq-eqb _ _ (tested .if1 .left),
+      le-leb _ _ (level .if2 .left),
+      sym (tested .before .before .password-for .ensures),
       sym (u64-at .ensures),
       eq-eqb _ _ (c .before .before .if3 .left),
-      sym (c .before .byte-at2 .ensures),
       eq-eqb _ _ (c .if4 .left),
     )
 
@@ -78,12 +60,10 @@ pub unlock-verdict-spec : {M : Type 1} → statement M
 unlock-verdict-spec =
     tie.close
     (tie.spec
-    byte-at-requires
     password-for-requires
     returns
     returns-2
     u64-at-requires
     returns-3
-    byte-at-requires-2
     returns-4
     returns-5)

@@ -1,16 +1,10 @@
 -- Each arm computes at its own code, and the last at none of them.
-use Rattle.meter_command.specs.Change.{changedTo, changed}
+use Rattle.meter_command.specs.Change.{changedTo}
 use borrow.Author.Tests.{ne-eqb}
 use mathlib.Core.Path.{sym, _∙_}
 use borrow.Author.Needs.{needs}
 use Rattle.meter_command.proofs.change.changed.Statement.{statement}
 use Rattle.meter_command.proofs.change.changed.Tie as tie
-
-tail-requires : tie.Need-tail-requires
-tail-requires c κs = search needs
-
-code-of-requires : tie.Need-code-of-requires
-code-of-requires c κs = search needs
 
 byte-at-requires : tie.Need-byte-at-requires
 byte-at-requires c κs = search needs
@@ -48,9 +42,6 @@ display-mask-requires c κs = search needs
 with-mask-requires : tie.Need-with-mask-requires
 with-mask-requires c κs = search needs
 
-byte-at-requires-2 : tie.Need-byte-at-requires-2
-byte-at-requires-2 c κs = search needs
-
 u64-at-requires : tie.Need-u64-at-requires
 u64-at-requires c κs = search needs
 
@@ -61,56 +52,51 @@ with-passwords-requires : tie.Need-with-passwords-requires
 with-passwords-requires c κs = search needs
 
 returns : tie.Need-returns
-unfolding changedTo changed
+unfolding changedTo
 returns c = let at = c .before .before in
-    c .with-address .ensures ∙ rw (c .before .byte-at .ensures, at .before .before .tail .ensures, sym (at .before .code-of .ensures), at .match .keys1)
+    c .with-address .ensures ∙ rw (c .before .byte-at .ensures, at .match .keys1)
 
 returns-2 : tie.Need-returns-2
-unfolding changedTo changed
+unfolding changedTo
 returns-2 c = let at = c .before .before in
-    c .with-telemetry .ensures ∙ rw (c .before .telemetry-of .ensures, at .before .before .tail .ensures, sym (at .before .code-of .ensures), at .match .keys2)
+    c .with-telemetry .ensures ∙ rw (c .before .telemetry-of .ensures, at .match .keys2)
 
 returns-3 : tie.Need-returns-3
-unfolding changedTo changed
+unfolding changedTo
 returns-3 c = let at = c .before .before in
-    c .with-summer .ensures ∙ rw (c .before .date-time-of .ensures, at .before .before .tail .ensures, sym (at .before .code-of .ensures), at .match .keys3)
+    c .with-summer .ensures ∙ rw (c .before .date-time-of .ensures, at .match .keys3)
 
 returns-4 : tie.Need-returns-4
-unfolding changedTo changed
+unfolding changedTo
 returns-4 c = let at = c .before .before in
-    c .with-winter .ensures ∙ rw (c .before .date-time-of2 .ensures, at .before .before .tail .ensures, sym (at .before .code-of .ensures), at .match .keys4)
+    c .with-winter .ensures ∙ rw (c .before .date-time-of2 .ensures, at .match .keys4)
 
 returns-5 : tie.Need-returns-5
-unfolding changedTo changed
+unfolding changedTo
 returns-5 c = let at = c .before .before in
-    c .with-clock .ensures ∙ rw (c .before .date-time-of3 .ensures, at .before .before .tail .ensures, sym (at .before .code-of .ensures), at .match .keys5)
+    c .with-clock .ensures ∙ rw (c .before .date-time-of3 .ensures, at .match .keys5)
 
 returns-6 : tie.Need-returns-6
-unfolding changedTo changed
+unfolding changedTo
 returns-6 c = let at = c .before .before in
-    c .with-mask .ensures ∙ rw (c .before .display-mask .ensures, at .before .before .tail .ensures, sym (at .before .code-of .ensures), at .match .keys6)
+    c .with-mask .ensures ∙ rw (c .before .display-mask .ensures, at .match .keys6)
 
 returns-7 : tie.Need-returns-7
-unfolding changedTo changed
+unfolding changedTo
 returns-7 c =
-    let byte-at2 = c .before .before .before .byte-at2 in
-    let at = c .before .before .before .before in
+    let at = c .before .before .before in
     c .with-passwords .ensures
     ∙ rw (
       c .before .passwords-after .ensures,
-      byte-at2 .ensures,
       c .before .before .u64-at .ensures,
-      at .before .before .tail .ensures,
-      sym (at .before .code-of .ensures),
       at .match .keys7,
     )
 
 returns-8 : tie.Need-returns-8
-unfolding changedTo changed
+unfolding changedTo
 returns-8 c = let r = c .match .rest in
     let q = r .0 .0 .0 in
     simp (
-      sym (c .before .code-of .ensures),
       ne-eqb _ _ (q .0 .0 .0 .1),
       ne-eqb _ _ (q .0 .0 .1),
       ne-eqb _ _ (q .0 .1),
@@ -124,8 +110,6 @@ pub changed-spec : {M : Type 1} → statement M
 changed-spec =
     tie.close
     (tie.spec
-    tail-requires
-    code-of-requires
     byte-at-requires
     with-address-requires
     telemetry-of-requires
@@ -138,7 +122,6 @@ changed-spec =
     with-clock-requires
     display-mask-requires
     with-mask-requires
-    byte-at-requires-2
     u64-at-requires
     passwords-after-requires
     with-passwords-requires

@@ -6,9 +6,6 @@ use borrow.Author.Needs.{needs}
 use Rattle.meter_command.proofs.change.data_fits.Statement.{statement}
 use Rattle.meter_command.proofs.change.data_fits.Tie as tie
 
-code-of-requires : tie.Need-code-of-requires
-code-of-requires c κs = search needs
-
 byte-at-requires : tie.Need-byte-at-requires
 byte-at-requires c κs = search needs
 
@@ -38,44 +35,39 @@ is-time-requires c κs = search needs
 
 returns : tie.Need-returns
 unfolding dataFits
-returns c = rw (c .byte-at .ensures, sym (c .before .before .code-of .ensures), c .before .match .keys1)
+returns c = rw (c .byte-at .ensures, c .before .match .keys1)
 
 returns-2 : tie.Need-returns-2
 unfolding dataFits
 returns-2 c =
-    let code-of = c .before .before .before .code-of in
-    c .telemetry-fits .ensures ∙ rw (c .before .telemetry-of .ensures, sym (code-of .ensures), c .before .before .match .keys2)
+    c .telemetry-fits .ensures ∙ rw (c .before .telemetry-of .ensures, c .before .before .match .keys2)
 
 returns-3 : tie.Need-returns-3
 unfolding dataFits
 returns-3 c =
-    let code-of = c .before .before .before .code-of in
-    c .is-switchable .ensures ∙ rw (c .before .date-time-of .ensures, sym (code-of .ensures), c .before .before .match .keys3)
+    c .is-switchable .ensures ∙ rw (c .before .date-time-of .ensures, c .before .before .match .keys3)
 
 returns-4 : tie.Need-returns-4
 unfolding dataFits
 returns-4 c =
-    let code-of = c .before .before .before .code-of in
-    c .is-switchable2 .ensures ∙ rw (c .before .date-time-of2 .ensures, sym (code-of .ensures), c .before .before .match .keys4)
+    c .is-switchable2 .ensures ∙ rw (c .before .date-time-of2 .ensures, c .before .before .match .keys4)
 
 returns-5 : tie.Need-returns-5
 unfolding dataFits
 returns-5 c =
-    let code-of = c .before .before .before .code-of in
-    c .is-time .ensures ∙ rw (c .before .date-time-of3 .ensures, sym (code-of .ensures), c .before .before .match .keys5)
+    c .is-time .ensures ∙ rw (c .before .date-time-of3 .ensures, c .before .before .match .keys5)
 
 returns-6 : tie.Need-returns-6
 unfolding dataFits
 returns-6 c =
     let r = c .match .rest in
     let r-3 = r .0 .0 .0 in
-    simp (sym (c .before .code-of .ensures), ne-eqb _ _ (r-3 .0 .1), ne-eqb _ _ (r-3 .1), ne-eqb _ _ (r .0 .0 .1), ne-eqb _ _ (r .0 .1), ne-eqb _ _ (r .1))
+    simp (ne-eqb _ _ (r-3 .0 .1), ne-eqb _ _ (r-3 .1), ne-eqb _ _ (r .0 .0 .1), ne-eqb _ _ (r .0 .1), ne-eqb _ _ (r .1))
 
 pub data-fits-spec : {M : Type 1} → statement M
 data-fits-spec =
     tie.close
     (tie.spec
-    code-of-requires
     byte-at-requires
     telemetry-of-requires
     telemetry-fits-requires

@@ -1,12 +1,9 @@
 -- `judge` meets its contract: each function's arm is a case of `verdictOf`.
 use Rattle.meter_command.specs.Judgement.{verdictOf}
-use mathlib.Core.Path.{sym, _∙_}
+use mathlib.Core.Path.{_∙_}
 use borrow.Author.Needs.{needs}
 use Rattle.meter_command.proofs.judgement.judge.Statement.{statement}
 use Rattle.meter_command.proofs.judgement.judge.Tie as tie
-
-function-in-requires : tie.Need-function-in-requires
-function-in-requires c κs = search needs
 
 enum-told : tie.Need-enum-told
 enum-told c = search needs
@@ -43,43 +40,32 @@ enum-told-6 c = search needs
 
 returns : tie.Need-returns
 unfolding verdictOf
-returns c =
-    let function-in = c .before .before .before .function-in in
-    c .read-verdict .ensures ∙ simp (sym (function-in .ensures) ∙ c .before .enum-told .given .1)
+returns c = c .read-verdict .ensures ∙ simp (c .before .enum-told .given .1)
 
 returns-2 : tie.Need-returns-2
 unfolding verdictOf
-returns-2 c =
-    let function-in = c .before .before .before .function-in in
-    c .change-verdict .ensures ∙ simp (sym (function-in .ensures) ∙ c .before .enum-told2 .given .1)
+returns-2 c = c .change-verdict .ensures ∙ simp (c .before .enum-told2 .given .1)
 
 returns-3 : tie.Need-returns-3
 unfolding verdictOf
-returns-3 c =
-    let function-in = c .before .before .before .function-in in
-    c .zero-verdict .ensures ∙ simp (sym (function-in .ensures) ∙ c .before .enum-told3 .given .1)
+returns-3 c = c .zero-verdict .ensures ∙ simp (c .before .enum-told3 .given .1)
 
 returns-4 : tie.Need-returns-4
 unfolding verdictOf
-returns-4 c =
-    let function-in = c .before .before .before .function-in in
-    c .unlock-verdict .ensures ∙ simp (sym (function-in .ensures) ∙ c .before .enum-told4 .given .1)
+returns-4 c = c .unlock-verdict .ensures ∙ simp (c .before .enum-told4 .given .1)
 
 returns-5 : tie.Need-returns-5
 unfolding verdictOf
-returns-5 c =
-    let function-in = c .before .before .before .function-in in
-    c .lock-verdict .ensures ∙ simp (sym (function-in .ensures) ∙ c .before .enum-told5 .given .1)
+returns-5 c = c .lock-verdict .ensures ∙ simp (c .before .enum-told5 .given .1)
 
 returns-6 : tie.Need-returns-6
 unfolding verdictOf
-returns-6 c = simp (sym (c .before .before .function-in .ensures) ∙ c .enum-told6 .given .1)
+returns-6 c = simp (c .enum-told6 .given .1)
 
 pub judge-spec : {M : Type 1} → statement M
 judge-spec =
     tie.close
     (tie.spec
-    function-in-requires
     enum-told
     read-verdict-requires
     enum-told-2

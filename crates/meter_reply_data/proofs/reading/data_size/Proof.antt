@@ -8,21 +8,13 @@ use Rattle.meter_reply_data.proofs.reading.data_size.Tie as tie
 is-read-requires : tie.Need-is-read-requires
 is-read-requires c κs = search needs
 
-request-in-requires : tie.Need-request-in-requires
-request-in-requires c κs = search needs
-
-parameter-in-requires : tie.Need-parameter-in-requires
-parameter-in-requires c κs = search needs
-
-reply-bytes-requires : tie.Need-reply-bytes-requires
-reply-bytes-requires c κs = search needs
+bytes-in-requires : tie.Need-bytes-in-requires
+bytes-in-requires c κs = search needs
 
 returns : tie.Need-returns
 unfolding dataSize
 returns c =
-    let is-read = c .before .before .before .before .is-read in
-    let if1 = c .before .before .before .if1 in
-    simp (sym (is-read .ensures) ∙ if1 .taken) (c .reply-bytes .ensures ∙ rw (c .before .parameter-in .ensures, c .before .before .request-in .ensures))
+    simp (sym (c .before .before .is-read .ensures) ∙ c .before .if1 .taken) (c .bytes-in .ensures)
 
 returns-2 : tie.Need-returns-2
 unfolding dataSize
@@ -33,8 +25,6 @@ data-size-spec =
     tie.close
     (tie.spec
     is-read-requires
-    request-in-requires
-    parameter-in-requires
-    reply-bytes-requires
+    bytes-in-requires
     returns
     returns-2)

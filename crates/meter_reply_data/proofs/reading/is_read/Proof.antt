@@ -1,11 +1,7 @@
 -- `is_read` meets its contract: each function's arm is its row of `isRead`.
-use mathlib.Core.Path.{sym, _∙_}
 use borrow.Author.Needs.{needs}
 use Rattle.meter_reply_data.proofs.reading.is_read.Statement.{statement}
 use Rattle.meter_reply_data.proofs.reading.is_read.Tie as tie
-
-function-in-requires : tie.Need-function-in-requires
-function-in-requires c κs = search needs
 
 enum-told : tie.Need-enum-told
 enum-told c = search needs
@@ -26,28 +22,27 @@ enum-told-6 : tie.Need-enum-told-6
 enum-told-6 c = search needs
 
 returns : tie.Need-returns
-returns c = simp (sym (c .before .before .function-in .ensures) ∙ c .enum-told .given .1)
+returns c = simp (c .enum-told .given .1)
 
 returns-2 : tie.Need-returns-2
-returns-2 c = simp (sym (c .before .before .function-in .ensures) ∙ c .enum-told2 .given .1)
+returns-2 c = simp (c .enum-told2 .given .1)
 
 returns-3 : tie.Need-returns-3
-returns-3 c = simp (sym (c .before .before .function-in .ensures) ∙ c .enum-told3 .given .1)
+returns-3 c = simp (c .enum-told3 .given .1)
 
 returns-4 : tie.Need-returns-4
-returns-4 c = simp (sym (c .before .before .function-in .ensures) ∙ c .enum-told4 .given .1)
+returns-4 c = simp (c .enum-told4 .given .1)
 
 returns-5 : tie.Need-returns-5
-returns-5 c = simp (sym (c .before .before .function-in .ensures) ∙ c .enum-told5 .given .1)
+returns-5 c = simp (c .enum-told5 .given .1)
 
 returns-6 : tie.Need-returns-6
-returns-6 c = simp (sym (c .before .before .function-in .ensures) ∙ c .enum-told6 .given .1)
+returns-6 c = simp (c .enum-told6 .given .1)
 
 pub is-read-spec : {M : Type 1} → statement M
 is-read-spec =
     tie.close
     (tie.spec
-    function-in-requires
     enum-told
     enum-told-2
     enum-told-3

@@ -9,12 +9,6 @@ use Rattle.meter_reply_data.proofs.reading.put_data.Tie as tie
 is-read-requires : tie.Need-is-read-requires
 is-read-requires c κs = search needs
 
-parameter-in-requires : tie.Need-parameter-in-requires
-parameter-in-requires c κs = search needs
-
-request-in-requires : tie.Need-request-in-requires
-request-in-requires c κs = search needs
-
 put-as-requires : tie.Need-put-as-requires
 put-as-requires c κs = search needs
 
@@ -24,11 +18,8 @@ same-length c = search needs
 returns : tie.Need-returns
 unfolding dataOf written
 returns c =
-    let is-read = c .before .before .before .before .before .before .before .is-read in
-    let if1 = c .before .before .before .before .before .before .if1 in
-    let parameter-in = c .before .before .before .before .before .parameter-in in
-    let request-in = c .before .before .before .request-in in
-    simp (sym (is-read .ensures) ∙ if1 .taken) (c .before .before .put-as .ensures ∙ rw (parameter-in .ensures, request-in .ensures))
+    let tested = c .before .before .before .before in
+    simp (sym (tested .before .is-read .ensures) ∙ tested .if1 .taken) (c .before .before .put-as .ensures)
 
 returns-2 : tie.Need-returns-2
 unfolding dataOf written
@@ -39,8 +30,6 @@ put-data-spec =
     tie.close
     (tie.spec
     is-read-requires
-    parameter-in-requires
-    request-in-requires
     put-as-requires
     same-length
     returns

@@ -1,5 +1,6 @@
--- As stored the row is the table's; as displayed the number is fixed.
+-- The number is that of the parameter's row.
 use Rattle.parameters.specs.Table.{replyBytes}
+use mathlib.Core.Path.{_∙_}
 use borrow.Author.Needs.{needs}
 use Rattle.parameters.proofs.table.reply_bytes.Statement.{statement}
 use Rattle.parameters.proofs.table.reply_bytes.Tie as tie
@@ -7,24 +8,12 @@ use Rattle.parameters.proofs.table.reply_bytes.Tie as tie
 parameter-row-requires : tie.Need-parameter-row-requires
 parameter-row-requires c κs = search needs
 
-enum-told : tie.Need-enum-told
-enum-told c = search needs
-
-by-phase-requires : tie.Need-by-phase-requires
-by-phase-requires c κs = search needs
-
-enum-told-2 : tie.Need-enum-told-2
-enum-told-2 c = search needs
+bytes-in-requires : tie.Need-bytes-in-requires
+bytes-in-requires c κs = search needs
 
 returns : tie.Need-returns
 unfolding replyBytes
-returns c =
-    let arm = c .before in
-    simp (arm .enum-told .given .1, c .by-phase .ensures, arm .before .before .parameter-row .ensures)
-
-returns-2 : tie.Need-returns-2
-unfolding replyBytes
-returns-2 c = simp (c .enum-told2 .given .1)
+returns c = c .bytes-in .ensures ∙ rw (c .before .parameter-row .ensures)
 
 pub reply-bytes-spec : {M : Type 1} → statement M
-reply-bytes-spec = tie.close (tie.spec parameter-row-requires enum-told by-phase-requires enum-told-2 returns returns-2)
+reply-bytes-spec = tie.close (tie.spec parameter-row-requires bytes-in-requires returns)

@@ -1,8 +1,8 @@
 -- `function_in` meets its contract: the byte read is the one that `functionIn` names, and `function_of` has its function.
 use mathlib.Core.Path.{_∙_}
 use borrow.Author.Needs.{needs}
-use Rattle.meter_command.proofs.parts.function_in.Statement.{statement}
-use Rattle.meter_command.proofs.parts.function_in.Tie as tie
+use Rattle.meter_command.proofs.command.function_in.Statement.{statement}
+use Rattle.meter_command.proofs.command.function_in.Tie as tie
 
 byte-at-requires : tie.Need-byte-at-requires
 byte-at-requires c κs = search needs

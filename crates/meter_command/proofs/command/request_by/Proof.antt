@@ -1,11 +1,7 @@
--- `request_in` meets its contract: the reading is that of the function, and each other field the byte at the place that `requestIn` names.
-use Rattle.meter_command.specs.Parts.{requestIn}
+-- `request_by` meets its contract: the reading is that of the function, and each other field the byte at the place that `requestBy` names.
 use borrow.Author.Needs.{needs}
-use Rattle.meter_command.proofs.parts.request_in.Statement.{statement}
-use Rattle.meter_command.proofs.parts.request_in.Tie as tie
-
-function-in-requires : tie.Need-function-in-requires
-function-in-requires c κs = search needs
+use Rattle.meter_command.proofs.command.request_by.Statement.{statement}
+use Rattle.meter_command.proofs.command.request_by.Tie as tie
 
 reading-of-requires : tie.Need-reading-of-requires
 reading-of-requires c κs = search needs
@@ -26,13 +22,11 @@ byte-at-requires-5 : tie.Need-byte-at-requires-5
 byte-at-requires-5 c κs = search needs
 
 returns : tie.Need-returns
-unfolding requestIn
 returns c =
     let second = c .before .before .before in
     let first = second .before in
     rw (
       first .before .reading-of .ensures,
-      first .before .before .function-in .ensures,
       first .byte-at .ensures,
       second .byte-at2 .ensures,
       c .before .before .byte-at3 .ensures,
@@ -40,11 +34,10 @@ returns c =
       c .byte-at5 .ensures,
     )
 
-pub request-in-spec : {M : Type 1} → statement M
-request-in-spec =
+pub request-by-spec : {M : Type 1} → statement M
+request-by-spec =
     tie.close
     (tie.spec
-    function-in-requires
     reading-of-requires
     byte-at-requires
     byte-at-requires-2
