@@ -23,13 +23,14 @@ use Rattle.log_header.proofs.HeaderLaws.{header-ranges, sound-front, sound-log}
 use Rattle.log.proofs.ImageLaws.{cells-at}
 use Rattle.log_header.proofs.IntervalLaws.{exists-index, twice-index}
 use Rattle.log.proofs.ViewLaws.{viewBy, cell-in}
-use Rattle.log_cell.specs.Cell.{kindOf, e+Of, e-Of, r+Of, r-Of, kindCell}
+use Rattle.log_cell.specs.Cell.{kindOf, e+Of, e-Of, r+Of, r-Of, kindBytes, countsBytes, kindCell}
 use Rattle.log_header.specs.Header.{cellsOf, dateBytes, headerBytesAs, headerBytes, soundOf}
 use Rattle.log.specs.Image as image
 use Rattle.log.specs.Image.{cellsAt, readAmong, cellAmong, lapsesAmong, cellAt, lapsesAt, imageOf, goods}
 use Rattle.log_header.specs.Interval.{existsAt, comesTwiceAt}
 use Rattle.log.specs.Pair.{pairOf}
-use Rattle.log.specs.View.{View, viewOf, seenFrom, seenWhere}
+use Rattle.log.specs.Walk.{Place, placeAt, seenFrom, dayWalk, keep, existing, cellsSeen}
+use Rattle.log.specs.View.{View, viewOf}
 use Rattle.log_cell.specs.declared.cell.Cell.{Cell}
 use Rattle.log_cell.specs.declared.cell.Cell.the-variants.{Gap, Empty, Measured}
 use Rattle.log_cell.specs.declared.cell.CellAnswer.{CellAnswer}
@@ -49,7 +50,7 @@ use Rattle.log_file.proofs.FileLaws.{written-file, image-seen}
 use Rattle.log_file.proofs.RowLaws.{rows-alike}
 use Rattle.log_file.specs.File.{fileBytesAs, fileBytes, fileLengthAs, fileLength}
 use Rattle.log_file.specs.Read.{readFile}
-use Rattle.log_file.specs.Row.{hasLapses, rowSizeOf, kindRow, countsRow, rowBytes, rowStart, rowsBytes}
+use Rattle.log_file.specs.Row.{hasLapses, rowSizeOf, rowBytes, rowStart, rowsBytes}
 use Rattle.log_file.specs.Write.{writtenFile}
 use Rattle.log_file.specs.declared.read.ReadAnswer.the-variants as read
 use Rattle.log_file.specs.declared.write.WriteAnswer.{WriteAnswer}
@@ -113,7 +114,7 @@ image-of s h i c p g =
 -- ---- in a file
 
 row-is : (c : Cell) (lapses : ℕ) → rowBytes 3 c lapses ≡ rowIn (numbersOf c) lapses
-unfolding rowBytes countsRow kindRow hasLapses bytesOf rowIn numbersOf
+unfolding rowBytes countsBytes kindBytes hasLapses bytesOf rowIn numbersOf
 row-is Gap lapses = refl
 row-is Empty lapses = refl
 row-is (Measured e+ e- r+ r-) lapses = refl
@@ -186,18 +187,23 @@ record Adds (p : Tallies → ℕ) (f : Cell → ℕ) : Type 0 where
   none : p (talliesOf []) ≡ 0
   more : (c : Cell) (cs : List Cell) → p (talliesOf (c ∷ cs)) ≡ f c + p (talliesOf cs)
 
-module _ (p : Tallies → ℕ) (f : Cell → ℕ) (a : Adds p f) (there : ℕ → Bool) (cell : ℕ → CellAnswer) where
-  sum-is : (i n : ℕ) → p (talliesOf (goods (seenWhere there cell i n))) ≡ sumWhere there (λ j. ofCell f (cell j)) i n
-  unfolding seenWhere sumWhere goods
+module _ (p : Tallies → ℕ) (f : Cell → ℕ) (a : Adds p f) (test : Place → Bool) (seen : ℕ → Place) where
+  abbrev sumFrom : ℕ → ℕ → ℕ
+  sumFrom i n = sumWhere (λ j. test (seen j)) (λ j. ofCell f (seen j .cell)) i n
+
+  sum-is : (i n : ℕ) → p (talliesOf (goods (cellsSeen (keep test (seenFrom seen i n))))) ≡ sumFrom i n
+  unfolding seenFrom keep sumWhere goods
   sum-is i zero = a .none
-  sum-is i (suc n) = go (sum-is (suc i) n) (there i) (cell i)
+  sum-is i (suc n) = go (sum-is (suc i) n) (test (seen i)) (seen i .cell) refl
     where
-      go : p (talliesOf (goods (seenWhere there cell (suc i) n))) ≡ sumWhere there (λ j. ofCell f (cell j)) (suc i) n → (b : Bool) (x : CellAnswer)
-          → p (talliesOf (goods (cond b (x ∷ seenWhere there cell (suc i) n) (seenWhere there cell (suc i) n))))
-          ≡ cond b (ofCell f x) 0 + sumWhere there (λ j. ofCell f (cell j)) (suc i) n
-      go rest true (Good c) = a .more c (goods (seenWhere there cell (suc i) n)) ∙ ap (λ (m : ℕ). f c + m) rest
-      go rest true Bad = rest ∙ omega arith
-      go rest false x = rest ∙ omega arith
+      kept : List Place
+      kept = keep test (seenFrom seen (suc i) n)
+
+      go : p (talliesOf (goods (cellsSeen kept))) ≡ sumFrom (suc i) n → (b : Bool) (x : CellAnswer) → seen i .cell ≡ x
+          → p (talliesOf (goods (cellsSeen (cond b (seen i ∷ kept) kept)))) ≡ cond b (ofCell f (seen i .cell)) 0 + sumFrom (suc i) n
+      go rest true (Good c) e = rw e (a .more c (goods (cellsSeen kept)) ∙ ap (λ (m : ℕ). f c + m) rest)
+      go rest true Bad e = rw e (rest ∙ omega arith)
+      go rest false x e = rest ∙ omega arith
 
 -- what a cell counts for in each of the seven numbers, and that they add up
 tallied : (c : Cell) → talliesIn c ≡ tallies (gap c) (empty c) (measured c) (numbersOf c .e+) (numbersOf c .e-) (numbersOf c .r+) (numbersOf c .r-)
@@ -253,11 +259,14 @@ module _ (h : Header) (cell : ℕ → CellAnswer) (day : ℕ) (date : Date) (on 
   abbrev there : ℕ → Bool
   there slot = not (isSkipped h date slot)
 
-  sums : (p : Tallies → ℕ) (f : Cell → ℕ) (here at : ℕ → Bool) → Adds p f → ((slot : ℕ) → slot < slots → at (from + slot) ≡ here slot)
-      → p (talliesOf (goods (seenWhere at cell from slots))) ≡ sumWhere here (λ slot. ofCell f (cell (from + slot))) 0 slots
-  sums p f here at a same =
-      sum-is p f a at cell from slots ∙ ap (λ (i : ℕ). sumWhere at (λ j. ofCell f (cell j)) i slots) (sym (add-zero from))
-      ∙ by-slots here at (λ j. ofCell f (cell j)) from slots same 0 slots (omega arith)
+  abbrev placed : ℕ → Place
+  placed = placeAt h cell (λ i. 0)
+
+  sums : (p : Tallies → ℕ) (f : Cell → ℕ) (here : ℕ → Bool) (test : Place → Bool) → Adds p f → ((slot : ℕ) → slot < slots → test (placed (from + slot)) ≡ here slot)
+      → p (talliesOf (goods (cellsSeen (keep test (dayWalk h cell day))))) ≡ sumWhere here (λ slot. ofCell f (cell (from + slot))) 0 slots
+  sums p f here test a same =
+      sum-is p f a test placed from slots ∙ ap (λ (i : ℕ). sumWhere (λ j. test (placed j)) (λ j. ofCell f (cell j)) i slots) (sym (add-zero from))
+      ∙ by-slots here (λ j. test (placed j)) (λ j. ofCell f (cell j)) from slots same 0 slots (omega arith)
 
   in-day : (slot : ℕ) → slot < slots → existsAt h (from + slot) ≡ there slot
   in-day slot l = exists-index h day slot l ∙ exists-on h day slot date on start
@@ -269,8 +278,8 @@ module _ (h : Header) (cell : ℕ → CellAnswer) (day : ℕ) (date : Date) (on 
   unfolding walked figures reportRow dayCells twiceCells rowOn
   row-sums =
       let sum : (p : Tallies → ℕ) (f : Cell → ℕ) → Adds p f
-      → p (talliesOf (goods (seenWhere (existsAt h) cell from slots))) ≡ sumWhere there (λ slot. ofCell f (cell (from + slot))) 0 slots =
-      λ p f a. sums p f there (existsAt h) a in-day in
+      → p (talliesOf (goods (cellsSeen (existing (dayWalk h cell day))))) ≡ sumWhere there (λ slot. ofCell f (cell (from + slot))) 0 slots =
+      λ p f a. sums p f there (λ q. q .there) a in-day in
       rw (
         sum _ _ gaps-add,
         sum _ _ empties-add,
@@ -279,7 +288,7 @@ module _ (h : Header) (cell : ℕ → CellAnswer) (day : ℕ) (date : Date) (on 
         sum _ _ em-add,
         sum _ _ rp-add,
         sum _ _ rm-add,
-        sums _ _ (comesTwice h date) (comesTwiceAt h) measured-add doubled,
+        sums _ _ (comesTwice h date) (λ q. q .twice) measured-add doubled,
       ) refl
 
 pub reported : (b : LogAndRows) (h : Header) (day : ℕ) (date : Date) (row : List ℕ) → soundOf (b .log) ≡ Sound h → Right h (viewOf (b .log) .cell) (b .figures)

@@ -16,12 +16,10 @@ use Rattle.slots.specs.Day.{isMinutes, slotsOf}
 use Rattle.season_nights.specs.Night.{isSpring, isAutumn}
 use Rattle.season_nights.specs.Run.{hourOf}
 use Rattle.log_header.specs.Header.{cellsOf, versionAt, daysRight, isHeader, headerAt, fieldsRight, headerOf, soundOf}
-use Rattle.log.specs.Image.{allGood}
 use Rattle.log_header.specs.Interval.{nightOn, existsAt}
-use Rattle.log.specs.View.{View, viewOf, seenFrom, missingBare}
+use Rattle.log.specs.View.{View, viewOf}
 use Rattle.log.proofs.ImageLaws.{sound-image}
 use Rattle.log.proofs.ViewLaws.{cell-in}
-use Rattle.log.proofs.MissingLaws.{missing-bare}
 use Rattle.log_cell.specs.declared.cell.Cell.{Cell}
 use Rattle.log_cell.specs.declared.cell.Cell.the-variants.{Gap}
 use Rattle.log_cell.specs.declared.cell.CellAnswer.{CellAnswer}
@@ -41,6 +39,7 @@ use Rattle.log_file.specs.declared.write.WriteAnswer.the-variants as wrote
 use Rattle.log_file.specs.declared.read.ReadAnswer.{ReadAnswer}
 use Rattle.log_file.specs.declared.read.ReadAnswer.the-variants as read
 use Rattle.log_file.proofs.FileLaws as file
+use Rattle.log_file.proofs.WalkLaws.{right-missing}
 use Rattle.logger.specs.Book.{Call, AllBytes}
 use Rattle.logger.proofs.SeasonLaws.{run-kept}
 use Rattle.claims.specs.Demand3.{Start, begin, ran}
@@ -120,11 +119,9 @@ first-byte f out figs b e n = wrong-header f out figs b (go (fieldsRight f) refl
     go false k = simp k
 
 cells-wrong : (h : Header) (cell : ℕ → CellAnswer) (lapses : ℕ → ℕ) → Misplaced h cell lapses → cellsRight h cell lapses ≡ false
-unfolding cellsRight
 cells-wrong h cell lapses x =
     missed (cellsRight h cell lapses) (λ e.
-    let b = both (allGood (seenFrom cell 0 (cellsOf h))) (missingBare h cell lapses 0 (cellsOf h)) e in
-    let w = missing-bare h cell lapses (cellsOf h) 0 (b .1) (x .place) (omega arith) (omega (arith, x .among)) (x .missing) in
+    let w = right-missing h cell lapses e (x .place) (omega (arith, x .among)) (x .missing) in
     x .filled (w .gap) (w .none))
 
 pub misplaced-read : (f out figs : List ℕ) (h : Header) → Whole f h → Misplaced h (rowAt (versionAt f) f) (lapsesIn (versionAt f) f)

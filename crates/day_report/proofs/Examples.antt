@@ -3,14 +3,16 @@
 use Prim.Native.Nat.{ℕ}
 use mathlib.Core.Path.{_≡_, refl}
 use mathlib.Core.Bool.{false, not}
-use mathlib.Core.List.{List, [], _∷_}
+use mathlib.Core.List.{List, [], _∷_, map}
 use lib.ListN.{replicate}
 use Rattle.refusal.specs.Outcome.{outcome}
 use Rattle.byte_numbers.specs.Place.{written}
 use Rattle.log_header.specs.declared.header.Header.{Header}
 use Rattle.log_header.specs.declared.header.LogHeader.the-variants.{Sound}
 use Rattle.log.specs.Fresh.{gaps}
+use Rattle.log.specs.Walk.{Place, seenFrom}
 use Rattle.log.proofs.ViewLaws.{cellIn}
+use Rattle.log_cell.specs.declared.cell.Cell.{Cell}
 use Rattle.log_cell.specs.declared.cell.Cell.the-variants.{Gap, Empty, Measured}
 use Rattle.season_nights.specs.Night.{inHour, missing}
 use Rattle.season_nights.specs.declared.night.Night.the-variants.{Spring}
@@ -24,7 +26,7 @@ use Rattle.text.specs.Decimal.{digits, decimal, padded}
 use Rattle.text.specs.DateText.{dateText}
 use Rattle.day_report.specs.Report.{reportOf}
 use Rattle.day_report.specs.declared.report.ReportAnswer.the-variants.{Done}
-use Rattle.day_report.specs.Strip.{mark, marksFrom, stripOf}
+use Rattle.day_report.specs.Strip.{mark, markOf, stripOf}
 
 may : figures (Measured 12 0 3 0 ∷ Empty ∷ gaps 46) [] ≡ 46 ∷ 1 ∷ 1 ∷ 12 ∷ 0 ∷ 3 ∷ 0 ∷ 0 ∷ []
 unfolding figures reportRow talliesOf talliesIn plus gaps
@@ -62,11 +64,15 @@ may-strip : stripOf (record { year = 24; month = 5; day = 17 }) (35 ∷ 111 ∷ 
 unfolding stripOf ascii dateText padded decimal digits
 may-strip = refl
 
+-- the slots of a March day by half hours, with these cells
+march : List Cell → ℕ → Place
+march cs s = record { day = 0; slot = s; there = not (missing Spring 30 s); twice = false; cell = cellIn cs s; lapses = 0 }
+
 -- slots 4 and 5 of a half-hour day do not exist, whatever stands there; the first is measured and the second empty
-march-marks : marksFrom (λ s. not (missing Spring 30 s)) (cellIn (Measured 12 0 3 0 ∷ Empty ∷ gaps 2)) 0 4 ≡ 35 ∷ 111 ∷ 46 ∷ 46 ∷ []
-unfolding marksFrom mark missing inHour cellIn gaps
+march-marks : map markOf (seenFrom (march (Measured 12 0 3 0 ∷ Empty ∷ gaps 2)) 0 4) ≡ 35 ∷ 111 ∷ 46 ∷ 46 ∷ []
+unfolding march seenFrom mark missing inHour cellIn gaps
 march-marks = refl
 
-march-hour : marksFrom (λ s. not (missing Spring 30 s)) (cellIn (Empty ∷ gaps 6)) 3 4 ≡ 46 ∷ 45 ∷ 45 ∷ 46 ∷ []
-unfolding marksFrom mark missing inHour cellIn gaps
+march-hour : map markOf (seenFrom (march (Empty ∷ gaps 6)) 3 4) ≡ 46 ∷ 45 ∷ 45 ∷ 46 ∷ []
+unfolding march seenFrom mark missing inHour cellIn gaps
 march-hour = refl

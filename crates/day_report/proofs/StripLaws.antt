@@ -1,12 +1,12 @@
 -- What follows from the definition of a day's strip: its length, the turns of the walk over the day's slots, its parts written one behind the
 -- other; what it says of an image; where there is none; and that there is always room for it. Assumes nothing.
-use Prim.Native.Nat.{ℕ, zero, suc, _+_, _*_, _-_, _<_, _≤_}
-use native.Mathlib.Nat.{zero-add}
+use Prim.Native.Nat.{ℕ, _+_, _*_, _-_, _<_, _≤_}
+use native.Mathlib.Nat.{zero-add, add-zero, sub-zero}
 use native.Mathlib.Omega.{arith}
 use mathlib.Core.Path.{_≡_, refl, sym, ap, _∙_}
-use mathlib.Core.Bool.{Bool, true}
-use mathlib.Core.List.{List, [], _∷_, _++_}
-use lib.ListN.{length, length-append}
+use mathlib.Core.Bool.{true}
+use mathlib.Core.List.{List, [], _∷_, _++_, map}
+use lib.ListN.{length, length-append, length-map}
 use Rattle.refusal.specs.Outcome.{outcome}
 use Rattle.byte_numbers.specs.Place.{written}
 use Rattle.byte_numbers.proofs.PlaceLaws.{written-append}
@@ -19,6 +19,8 @@ use Rattle.slots.specs.Day.{slotsOf}
 use Rattle.slots.proofs.DayLaws.{slotsMost, slots-at-most}
 use Rattle.log_header.specs.Header.{daysMost, cellsOf, isHeader, soundOf}
 use Rattle.log.specs.Image.{imageOf, allGood, AllCells}
+use Rattle.log.specs.Walk.{placeAt, walkFrom, dayWalk}
+use Rattle.log.proofs.WalkLaws.{length-seen, seen-next, seen-end}
 use Rattle.log.specs.View.{View, viewOf}
 use Rattle.log_header.specs.Interval.{dayDate, existsAt}
 use Rattle.log_header.proofs.HeaderLaws.{by-sound}
@@ -30,7 +32,7 @@ use Rattle.log_cell.specs.declared.cell.Cell.{Cell}
 use Rattle.log_cell.specs.declared.cell.CellAnswer.{CellAnswer}
 use Rattle.day_rows.specs.Figures.{dayCells}
 use Rattle.day_report.specs.Text.{space, lineFeed, dateSize, putText}
-use Rattle.day_report.specs.Strip.{mark, marksAt, marksFrom, dayMarks, stripOf, stripDated, stripOn, stripText}
+use Rattle.day_report.specs.Strip.{mark, markOf, marksAt, dayMarks, stripOf, stripDated, stripOn, stripText}
 use Rattle.day_report.specs.declared.answer.TextAnswer.the-variants.{Unsound}
 use Rattle.log.proofs.ViewLaws.{cellIn, view-image}
 use Rattle.day_report.proofs.TextLaws.{Never, text-fits}
@@ -43,15 +45,10 @@ pub length-strip : (d : Date) (marks : List ℕ) → length (stripOf d marks) �
 unfolding stripOf
 length-strip d marks = simp (length-append, length-dateText) (omega arith)
 
-length-marks : (there : ℕ → Bool) (cell : ℕ → CellAnswer) (i n : ℕ) → length (marksFrom there cell i n) ≡ n
-unfolding marksFrom
-length-marks there cell i zero = refl
-length-marks there cell i (suc n) = ap suc (length-marks there cell (suc i) n)
-
 -- a mark a slot
 pub length-day-marks : (cell : ℕ → CellAnswer) (h : Header) (d : ℕ) → length (dayMarks cell h d) ≡ slotsOf (h .minutes)
 unfolding dayMarks
-length-day-marks cell h d = length-marks (existsAt h) cell (d * slotsOf (h .minutes)) (slotsOf (h .minutes))
+length-day-marks cell h d = length-map (dayWalk h cell d) markOf ∙ length-seen (placeAt h cell (λ i. 0)) (slotsOf (h .minutes)) (d * slotsOf (h .minutes))
 
 -- no strip is longer
 abbrev pub stripMost : ℕ
@@ -59,34 +56,30 @@ stripMost = marksAt + slotsMost + 1
 
 -- ---- the walk over the slots
 
--- a day's marks are those of its slots, as many as were found for the interval
-pub day-marks : (cell : ℕ → CellAnswer) (h : Header) (d n : ℕ) → n ≡ slotsOf (h .minutes) → marksFrom (existsAt h) cell (d * n) n ≡ dayMarks cell h d
+-- the marks of n slots from index i on
+abbrev pub marksFrom : Header → (ℕ → CellAnswer) → ℕ → ℕ → List ℕ
+marksFrom h cell i n = map markOf (walkFrom h cell (λ j. 0) i n)
+
+-- before the first slot of a day all its marks are left
+pub day-marks : (cell : ℕ → CellAnswer) (h : Header) (d : ℕ) → let n = slotsOf (h .minutes) in marksFrom h cell (d * n + 0) (n - 0) ≡ dayMarks cell h d
 unfolding dayMarks
-day-marks cell h d n e = ap (λ (k : ℕ). marksFrom (existsAt h) cell (d * k) k) e
+day-marks cell h d = rw (add-zero, sub-zero) refl
 
-module _ (there : ℕ → Bool) (cell : ℕ → CellAnswer) (first i n : ℕ) (l : i < n) where
+module _ (h : Header) (cell : ℕ → CellAnswer) (first i n : ℕ) (l : i < n) where
   abbrev after : List ℕ
-  after = marksFrom there cell (first + (i + 1)) (n - (i + 1))
-
-  marks-next : marksFrom there cell (first + i) (n - i) ≡ mark (there (first + i)) (cell (first + i)) ∷ after
-  unfolding marksFrom
-  marks-next =
-      let e : n - i ≡ suc (n - (i + 1)) = omega arith in
-      let f : suc (first + i) ≡ first + (i + 1) = omega arith in
-      rw (e, ← f)
+  after = marksFrom h cell (first + (i + 1)) (n - (i + 1))
 
   -- the slot's own mark, and behind it those that are left
-  pub marks-on : (m : ℕ) (line : List ℕ) → m ≡ mark (there (first + i)) (cell (first + i))
-      → written (written line (marksAt + i) (m ∷ [])) (marksAt + (i + 1)) after ≡ written line (marksAt + i) (marksFrom there cell (first + i) (n - i))
+  pub marks-on : (m : ℕ) (line : List ℕ) → m ≡ mark (existsAt h (first + i)) (cell (first + i))
+      → written (written line (marksAt + i) (m ∷ [])) (marksAt + (i + 1)) after ≡ written line (marksAt + i) (marksFrom h cell (first + i) (n - i))
   marks-on m line p =
       let e : marksAt + (i + 1) ≡ marksAt + i + 1 = omega arith in
       ap (λ (k : ℕ). written (written line (marksAt + i) (m ∷ [])) k after) e
       ∙ sym (written-append line (marksAt + i) (m ∷ []) after)
-      ∙ ap (written line (marksAt + i)) (ap (λ (k : ℕ). k ∷ after) p ∙ sym marks-next)
+      ∙ ap (written line (marksAt + i)) (ap (λ (k : ℕ). k ∷ after) p ∙ sym (ap (map markOf) (seen-next (placeAt h cell (λ j. 0)) first i n l)))
 
-pub marks-end : (there : ℕ → Bool) (cell : ℕ → CellAnswer) (i n : ℕ) → n ≡ 0 → marksFrom there cell i n ≡ []
-unfolding marksFrom
-marks-end there cell i n e = rw e refl
+pub marks-end : (h : Header) (cell : ℕ → CellAnswer) (i n : ℕ) → n ≡ 0 → marksFrom h cell i n ≡ []
+marks-end h cell i n e = ap (map markOf) (seen-end (placeAt h cell (λ j. 0)) i n e)
 
 -- ---- a strip's parts, written one behind the other
 

@@ -1,16 +1,16 @@
 -- The strip of a day of a lent log: a character a slot, so that one look tells lost replies from an even run. Source: document 00: "a log
 -- cell is a gap, empty, or measured, and never a guess"; the date as in document 01, "Marked examples"; the refusals as the day's line has
 -- them; slots that don't exist by document 02, CR 5.
-use Prim.Native.Nat.{ℕ, zero, suc, _+_, _*_}
+use Prim.Native.Nat.{ℕ, _+_}
 use mathlib.Core.Bool.{Bool, true, false}
-use mathlib.Core.List.{List, [], _∷_, _++_}
+use mathlib.Core.List.{List, [], _∷_, _++_, map}
 use Rattle.refusal.specs.Outcome.{Outcome, outcome, check}
 use Rattle.calendar.specs.declared.date.Date.{Date}
 use Rattle.text.specs.DateText.{dateText}
-use Rattle.slots.specs.Day.{slotsOf}
 use Rattle.log_header.specs.Header.{ifSound}
 use Rattle.log.specs.Image.{allGood}
-use Rattle.log_header.specs.Interval.{dayDate, existsAt}
+use Rattle.log_header.specs.Interval.{dayDate}
+use Rattle.log.specs.Walk.{Place, dayWalk}
 use Rattle.log.specs.View.{View}
 use Rattle.log_header.specs.declared.header.Header.{Header}
 use Rattle.log_cell.specs.declared.cell.Cell.the-variants.{Gap, Empty, Measured}
@@ -32,14 +32,12 @@ mark true (Good Empty) = 111
 mark true (Good (Measured e+ e- r+ r-)) = 35
 mark true Bad = 63
 
--- of the n slots from index i on, in time order
-unfoldable pub marksFrom : (ℕ → Bool) → (ℕ → CellAnswer) → ℕ → ℕ → List ℕ
-marksFrom there cell i zero = []
-marksFrom there cell i (suc n) = mark (there i) (cell i) ∷ marksFrom there cell (suc i) n
+abbrev pub markOf : Place → ℕ
+markOf p = mark (p .there) (p .cell)
 
--- of a day's slots
+-- of a day's slots, in time order
 unfoldable pub dayMarks : (ℕ → CellAnswer) → Header → ℕ → List ℕ
-dayMarks cell h d = marksFrom (existsAt h) cell (d * slotsOf (h .minutes)) (slotsOf (h .minutes))
+dayMarks cell h d = map markOf (dayWalk h cell d)
 
 -- a day's date, a space, the marks of its slots, and a line feed
 unfoldable pub stripOf : Date → List ℕ → List ℕ

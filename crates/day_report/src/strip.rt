@@ -3,9 +3,7 @@ ghost use mathlib.Core.Path.{_≡_};
 ghost use mathlib.Core.Bool.{not};
 ghost use Rattle.refusal.specs.Outcome.{outcome};
 ghost use Rattle.byte_numbers.specs.Place.{written};
-ghost use Rattle.slots.specs.Day.{slotsOf};
 ghost use Rattle.log.specs.Image.{cellAt};
-ghost use Rattle.log_header.specs.Interval.{nightOn};
 ghost use Rattle.log.specs.View.{viewOf};
 ghost use Rattle.day_rows.specs.Figures.{dayCells};
 ghost use Rattle.day_report.specs.Text.{putText};
@@ -21,7 +19,6 @@ use log_cell::CellAnswer;
 use log_header::DayAnswer;
 use log_header::Header;
 use log_header::LogHeader;
-use season_nights::Night;
 
 // Where the marks begin: behind the date and a space.
 const MARKS: usize = DATE_BYTES + 1;
@@ -69,23 +66,21 @@ fn put_marked(log: &[u8], h: Header, date: Date, day: u8, out: &mut [u8]) -> Tex
     }
     text::put_date(out, 0, date);
     byte_numbers::put_byte(out, DATE_BYTES, SPACE);
-    put_marks(out, log, h, day, log_header::night_on(h, day), slots);
+    put_marks(out, log, h, day);
     byte_numbers::put_byte(out, end, LINE_FEED);
     TextAnswer::Done(end + 1)
 }
 
-fn put_marks(out: &mut [u8], log: &[u8], h: Header, day: u8, night: Night, slots: u8)
-    requires { ⌜ night ≡ nightOn h day ⌝ }
-    requires { ⌜ slots ≡ slotsOf (h .minutes) ⌝ }
+fn put_marks(out: &mut [u8], log: &[u8], h: Header, day: u8)
     ensures { λ _. ⌜ now (out .exit) ≡ written (now (out .entry)) marksAt (dayMarks (cellAt (now (log .entry))) h day) ⌝ }
 {
-    let first = (day as usize) * (slots as usize);
-    let mut slot: u8 = 0;
-    while slot < slots {
-        let missing = season_nights::is_missing(night, h.minutes, slot);
-        let mark = mark_at(log, missing, first + slot as usize);
-        byte_numbers::put_byte(out, MARKS + slot as usize, mark);
-        slot += 1;
+    let mut at = log::walk_day(h, day);
+    while at.slot < at.slots {
+        let night = at.night;
+        let missing = season_nights::is_missing(night, h.minutes, at.slot);
+        let mark = mark_at(log, missing, log::index_of(at));
+        byte_numbers::put_byte(out, MARKS + at.slot as usize, mark);
+        at = log::next(at);
     }
 }
 

@@ -30,7 +30,7 @@ use Rattle.log.specs.Image.{kindsBytes, columnBytes, lapsesBytes, cellsB
 use Rattle.log.proofs.ColumnLaws.{Room, room-kept, Parts, partsAt, partsOf, lapsed, cellFrom, kind-four, counts-fit, byte-stays, parts-there, parts-elsewhere, outside-stays}
 use Rattle.log.proofs.ColumnLaws.{Off, before-off, behind-off, byte-lapses, front-lapses, lapses-there, lapses-elsewhere, length-putCellAmong, length-putLapsesAmong}
 use Rattle.log.proofs.ColumnLaws.{same-cell, same-front, same-lapses, cell-in, lapses-in-log, none-past, no-lapses-past, same-bytes}
-use Rattle.log.specs.View.{seenFrom}
+use Rattle.log.specs.Walk.{seenFrom}
 use Rattle.log_header.specs.declared.header.Header.{Header}
 use Rattle.log_header.specs.declared.header.LogHeader.the-variants.{Sound}
 use Rattle.log_cell.specs.declared.cell.Cell.{Cell}

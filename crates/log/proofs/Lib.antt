@@ -1,3 +1,4 @@
+pub mod WalkLaws
 pub mod PairLaws
 pub mod ColumnLaws
 pub mod ImageLaws

@@ -1,5 +1,5 @@
 -- The laws of this layout, by which other crates know it: what is seen after a change, which bytes a change leaves, that an image is its
--- header and its cells, and what is seen of one; and the walk over a view's cells.
+-- header and its cells, and what is seen of one.
 use Prim.Native.Nat.{ℕ, zero, suc, _+_, _-_, _≤_, _<_}
 use native.Mathlib.Nat.{not-suc-le-zero}
 use native.Mathlib.Omega.{arith}
@@ -17,7 +17,8 @@ use Rattle.log_cell.specs.Cell.{IsCell}
 use Rattle.log.specs.Pair.{pairOf}
 use Rattle.log.specs.Image.{lapsesPlace, cellsAt, cellAt, lapsesAt, putCellAmong, putLapsesAmong, putCell, putLapses, OutsideCell, of-lapses, applied, imageOf}
 use Rattle.log.specs.Image.{allGood, goods, AllCells, LapsesFit}
-use Rattle.log.specs.View.{View, viewOf, seenFrom, seenWhere}
+use Rattle.log.specs.Walk.{seenFrom}
+use Rattle.log.specs.View.{View, viewOf}
 use Rattle.log_cell.proofs.CellLaws.{bad≢good}
 use Rattle.log.proofs.ColumnLaws.{outside-stays, byte-lapses}
 use Rattle.log.proofs.ImageLaws.{length-putCell, length-putLapses, soundOf-putCell, soundOf-putLapses, putCell-among, putLapses-among, cells-at, room-of, cellAt-past, lapsesAt-past}
@@ -161,46 +162,6 @@ unfolding applied
 bytes-applied s None b k = b
 bytes-applied s (Put i c) b k = bytes-putCell s i c b
 bytes-applied s (Lapses i n) b k = bytes-putLapses s i n b (k .1)
-
--- ---- the walk over a view's cells
-
-pub length-seenFrom : (cell : ℕ → CellAnswer) (i n : ℕ) → length (seenFrom cell i n) ≡ n
-unfolding seenFrom
-length-seenFrom cell i zero = refl
-length-seenFrom cell i (suc n) = ap suc (length-seenFrom cell (suc i) n)
-
-pub seen-next : (cell : ℕ → CellAnswer) (first i n : ℕ) → i < n
-    → seenFrom cell (first + i) (n - i) ≡ cell (first + i) ∷ seenFrom cell (first + (i + 1)) (n - (i + 1))
-unfolding seenFrom
-seen-next cell first i n l =
-    let e : n - i ≡ suc (n - (i + 1)) = omega arith in
-    let f : suc (first + i) ≡ first + (i + 1) = omega arith in
-    rw (e, ← f)
-
-pub seen-end : (cell : ℕ → CellAnswer) (i n : ℕ) → n ≡ 0 → seenFrom cell i n ≡ []
-unfolding seenFrom
-seen-end cell i n e = rw e refl
-
--- the same over the cells that a test names
-module _ (there : ℕ → Bool) (cell : ℕ → CellAnswer) (first i n : ℕ) (l : i < n) where
-  where-next : seenWhere there cell (first + i) (n - i)
-      ≡ cond (there (first + i)) (cell (first + i) ∷ seenWhere there cell (first + (i + 1)) (n - (i + 1))) (seenWhere there cell (first + (i + 1)) (n - (i + 1)))
-  unfolding seenWhere
-  where-next =
-      let e : n - i ≡ suc (n - (i + 1)) = omega arith in
-      let f : suc (first + i) ≡ first + (i + 1) = omega arith in
-      rw (e, ← f)
-
-  pub where-there : there (first + i) ≡ true
-      → seenWhere there cell (first + i) (n - i) ≡ cell (first + i) ∷ seenWhere there cell (first + (i + 1)) (n - (i + 1))
-  where-there e = where-next ∙ simp e
-
-  pub where-not : there (first + i) ≡ false → seenWhere there cell (first + i) (n - i) ≡ seenWhere there cell (first + (i + 1)) (n - (i + 1))
-  where-not e = where-next ∙ simp e
-
-pub where-end : (there : ℕ → Bool) (cell : ℕ → CellAnswer) (i n : ℕ) → n ≡ 0 → seenWhere there cell i n ≡ []
-unfolding seenWhere
-where-end there cell i n e = rw e refl
 
 -- ---- what is seen of bytes
 

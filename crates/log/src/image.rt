@@ -5,6 +5,7 @@ ghost use Prim.Native.Nat.{_+_, _*_, _<_, _≤_};
 ghost use lib.ListN.{length};
 ghost use Rattle.byte_numbers.specs.Place.{numberAt};
 ghost use Rattle.log_header.specs.Header.{sizeFor};
+ghost use Rattle.log.specs.Image.{kindPlace, countPlace, lapsesPlace};
 ghost use Rattle.log.specs.Image.{kindAt, countAt, cellsAt, cellAmong, lapsesAmong, cellAt, lapsesAt};
 ghost use Rattle.log.specs.Image.{putKind, putCount, putCounts, putCellAmong, putLapsesAmong, putCell, putLapses, applied};
 use log_cell::Cell;
@@ -61,19 +62,46 @@ pub fn cell_among(log: &[u8], n: u16, i: usize) -> CellAnswer
     )
 }
 
+// ---- where a log of n cells has what
+
+// The byte that has the kind of cell i.
+fn kind_place(i: usize) -> usize
+    ensures { λ r. ⌜ r ≡ kindPlace i ⌝ }
+{
+    HEADER_BYTES + i / 4
+}
+
+// The count with index m, of which cell i has i, n + i, 2 n + i and 3 n + i.
+fn count_place(n: u16, m: usize) -> usize
+    requires { ⌜ m < 4 * n ⌝ }
+    ensures { λ r. ⌜ r ≡ countPlace n m ⌝ }
+{
+    HEADER_BYTES + (n as usize) / 4 + 2 * m
+}
+
+// The lapses of cell i.
+fn lapses_place(n: u16, i: usize) -> usize
+    requires { ⌜ i < n ⌝ }
+    ensures { λ r. ⌜ r ≡ lapsesPlace n i ⌝ }
+{
+    let cells = n as usize;
+    HEADER_BYTES + cells / 4 + 8 * cells + i
+}
+
+// ---- read
+
 // Where all cells have their room: its five parts are read without a test.
 fn cell_in(log: &[u8], n: u16, i: usize) -> CellAnswer
     requires { ⌜ (i < n) × (sizeFor n ≤ length (now log)) ⌝ }
     ensures { λ r. ⌜ r ≡ cellAmong n (now (log .entry)) i ⌝ }
 {
     let cells = n as usize;
-    let counts = HEADER_BYTES + cells / 4;
     log_cell::kind_cell(
-        crate::pair::pair_of(log[HEADER_BYTES + i / 4], i % 4),
-        count_in(log, counts + 2 * i),
-        count_in(log, counts + 2 * (cells + i)),
-        count_in(log, counts + 2 * (2 * cells + i)),
-        count_in(log, counts + 2 * (3 * cells + i)),
+        crate::pair::pair_of(log[kind_place(i)], i % 4),
+        count_in(log, count_place(n, i)),
+        count_in(log, count_place(n, cells + i)),
+        count_in(log, count_place(n, 2 * cells + i)),
+        count_in(log, count_place(n, 3 * cells + i)),
     )
 }
 
@@ -90,11 +118,10 @@ fn count_in(log: &[u8], at: usize) -> u16
 pub fn lapses_among(log: &[u8], n: u16, i: usize) -> u8
     ensures { λ r. ⌜ r ≡ lapsesAmong n (now (log .entry)) i ⌝ }
 {
-    let cells = n as usize;
-    if cells <= i {
+    if (n as usize) <= i {
         return 0;
     }
-    let at = HEADER_BYTES + cells / 4 + 8 * cells + i;
+    let at = lapses_place(n, i);
     if size_for(n) <= log.len() {
         return log[at];
     }
@@ -113,7 +140,7 @@ pub fn kind_at(log: &[u8], n: u16, i: usize) -> u8
     requires { ⌜ i < n ⌝ }
     ensures { λ r. ⌜ r ≡ kindAt (now (log .entry)) i ⌝ }
 {
-    let at = HEADER_BYTES + i / 4;
+    let at = kind_place(i);
     if size_for(n) <= log.len() {
         return crate::pair::pair_of(log[at], i % 4);
     }
@@ -124,7 +151,7 @@ pub fn count_at(log: &[u8], n: u16, m: usize) -> u16
     requires { ⌜ m < 4 * n ⌝ }
     ensures { λ r. ⌜ r ≡ countAt n (now (log .entry)) m ⌝ }
 {
-    let at = HEADER_BYTES + (n as usize) / 4 + 2 * m;
+    let at = count_place(n, m);
     if size_for(n) <= log.len() {
         return count_in(log, at);
     }
@@ -169,11 +196,10 @@ pub fn put_cell_among(log: &mut [u8], n: u16, i: usize, c: Cell)
 pub fn put_lapses_among(log: &mut [u8], n: u16, i: usize, lapses: u8)
     ensures { λ _. ⌜ now (log .exit) ≡ putLapsesAmong n (now (log .entry)) i lapses ⌝ }
 {
-    let cells = n as usize;
-    if cells <= i {
+    if (n as usize) <= i {
         return;
     }
-    let at = HEADER_BYTES + cells / 4 + 8 * cells + i;
+    let at = lapses_place(n, i);
     if size_for(n) <= log.len() {
         log[at] = lapses;
         return;
@@ -185,7 +211,7 @@ fn put_kind(log: &mut [u8], i: usize, kind: u8)
     requires { ⌜ kind < 4 ⌝ }
     ensures { λ _. ⌜ now (log .exit) ≡ putKind (now (log .entry)) i kind ⌝ }
 {
-    let at = HEADER_BYTES + i / 4;
+    let at = kind_place(i);
     let kinds = byte_numbers::byte_at(log, at);
     byte_numbers::put_byte(log, at, crate::pair::put_pair(kinds, i % 4, kind));
 }
@@ -205,7 +231,7 @@ fn put_count(log: &mut [u8], n: u16, m: usize, x: u16)
     requires { ⌜ m < 4 * n ⌝ }
     ensures { λ _. ⌜ now (log .exit) ≡ putCount n (now (log .entry)) m x ⌝ }
 {
-    let at = HEADER_BYTES + (n as usize) / 4 + 2 * m;
+    let at = count_place(n, m);
     if size_for(n) <= log.len() {
         log[at] = (x % 256) as u8;
         log[at + 1] = (x / 256) as u8;

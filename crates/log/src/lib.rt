@@ -1,10 +1,11 @@
 // The log of slices as it stands in memory, its image: fourteen bytes of header, and behind them the kinds of all cells at two bits each, a
-// column for each of their counts, and their lapses. It reads and writes single cells, and makes a fresh log.
+// column for each of their counts, and their lapses. It reads and writes single cells, steps along its intervals in time order, and makes a fresh log.
 // Other crates speak of a log by these functions and their definitions alone, so that a change of the layout stays in here.
 mod fresh;
 mod image;
 mod look;
 mod pair;
+mod walk;
 
 pub use fresh::FreshAnswer;
 pub use fresh::fresh_log;
@@ -25,3 +26,7 @@ pub use look::is_good_among;
 pub use look::kind_among;
 pub use look::r_minus_among;
 pub use look::r_plus_among;
+pub use walk::Walk;
+pub use walk::index_of;
+pub use walk::next;
+pub use walk::walk_day;

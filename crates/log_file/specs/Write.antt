@@ -8,7 +8,8 @@ use Rattle.refusal.specs.Outcome.{Outcome, outcome, check}
 use Rattle.byte_numbers.specs.Place.{written}
 use Rattle.log_header.specs.Header.{cellsOf, ifSound}
 use Rattle.log.specs.Image.{goods}
-use Rattle.log.specs.View.{View, seenFrom}
+use Rattle.log.specs.Walk.{seenFrom}
+use Rattle.log.specs.View.{View}
 use Rattle.log_file.specs.File.{fileBytes, fileLength, cellsRight}
 use Rattle.log_file.specs.declared.write.WriteAnswer.{WriteAnswer}
 use Rattle.log_file.specs.declared.write.WriteAnswer.the-variants.{Done, Unsound, TooShort}

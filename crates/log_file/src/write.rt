@@ -7,10 +7,12 @@ ghost use Prim.Native.Nat.{_+_, _≤_};
 ghost use lib.ListN.{length};
 ghost use Rattle.log_header.specs.Header.{headerSize, version, isHeader, cellsOf};
 ghost use Rattle.log.specs.Image.{cellAt, lapsesAt, allGood, goods};
-ghost use Rattle.log.specs.View.{viewOf, seenFrom};
+ghost use Rattle.log.specs.Walk.{seenFrom};
+ghost use Rattle.log.specs.View.{viewOf};
 ghost use Rattle.log_file.specs.Row.{rowSizeOf, rowStart, rowsBytes, putLooked};
 ghost use Rattle.log_file.specs.File.{fileBytes, fileLength, cellsRight};
 ghost use Rattle.log_file.specs.Write.{writeNumber, writtenFile};
+use crate::missing::Held;
 use crate::row::ROW_BYTES;
 use log_header::HEADER_BYTES;
 
@@ -58,7 +60,7 @@ fn cells_right(log: &[u8], h: log_header::Header) -> bool
     ensures { λ r. ⌜ r ≡ cellsRight h (cellAt (now (log .entry))) (lapsesAt (now (log .entry))) ⌝ }
 {
     if crate::walk::cells_good(log, log_header::cells_of(h)) {
-        return crate::missing::cells_bare(log, h);
+        return crate::missing::missing_fresh(log, Held::Image, h);
     }
     false
 }

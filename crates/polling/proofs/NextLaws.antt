@@ -1,15 +1,21 @@
 -- What the interval asked for next is, that it is one of the log's, and that there is none where none is found.
 use Prim.Native.Nat.{ℕ, zero, suc, _+_, _*_, _-_, _<_, _≤_}
 use native.Mathlib.Omega.{arith}
-use mathlib.Core.Path.{_≡_, refl, sym, ap, _∙_}
-use mathlib.Core.Bool.{Bool, true, false, cond, false≢true}
+use mathlib.Core.Path.{_≡_, refl, sym, ap, ap₂, _∙_}
+use mathlib.Core.Bool.{Bool, true, false, cond, _&&_, false≢true}
+use mathlib.Core.List.{List, [], _∷_}
 use lib.Dec.{ltb}
-use borrow.Author.Tests.{ltb-true, ltb-false}
+use lib.Arith.{digits-mod}
+use lib.ListN.{length, drop, drop-of-length-le}
+use lib.Seq.{drop-cons}
+use borrow.Author.Tests.{ltb-true, ltb-false, lt-ltb}
 use Rattle.slots.specs.Day.{slotsOf}
 use Rattle.slots.proofs.DayLaws.{slotsMost, slots-at-most}
 use Rattle.log_header.specs.Header.{ifSound}
 use Rattle.log_header.specs.Interval.{intervalOf, ifAt, exists}
-use Rattle.log_header.proofs.IntervalLaws.{InLog, in-log, interval-at}
+use Rattle.log_header.proofs.IntervalLaws.{InLog, in-log, interval-at, exists-index}
+use Rattle.log.specs.Walk.{Place, placeAt, dayWalk}
+use Rattle.log.proofs.WalkLaws.{length-seen, seen-at}
 use Rattle.log.specs.View.{View}
 use Rattle.log_header.specs.declared.header.Header.{Header}
 use Rattle.log_header.specs.declared.header.LogHeader.{LogHeader}
@@ -19,7 +25,7 @@ use Rattle.log_cell.specs.declared.cell.Cell.the-variants.{Gap, Empty, Measured
 use Rattle.log_cell.specs.declared.cell.CellAnswer.{CellAnswer}
 use Rattle.log_cell.specs.declared.cell.CellAnswer.the-variants.{Good, Bad}
 use Rattle.log_header.specs.declared.header.LogHeader.the-variants as lent
-use Rattle.polling.specs.Next.{isWanted, asksFor, firstFrom, nextIn, nextWanted}
+use Rattle.polling.specs.Next.{isWanted, asksFor, asksAt, firstAsked, nextIn, nextWanted}
 use Rattle.polling.specs.declared.next.Wanted.{Wanted}
 use Rattle.polling.specs.declared.next.Wanted.the-variants.{Gaps}
 use Rattle.polling.specs.declared.next.Next.the-variants.{Slot, Nothing}
@@ -34,23 +40,65 @@ gap-is Bad e = absurd (false≢true e)
 
 -- ---- the walk's turns
 
-module _ (asks : ℕ → Bool) (i n : ℕ) (l : i < n) where
-  turn : firstFrom asks i (n - i) ≡ cond (asks i) (Slot i) (firstFrom asks (i + 1) (n - (i + 1)))
-  unfolding firstFrom
-  turn =
-      let e : n - i ≡ suc (n - (i + 1)) = omega arith in
-      let f : suc i ≡ i + 1 = omega arith in
-      rw (e, ← f)
+module _ (w : Wanted) (h : Header) (cell : ℕ → CellAnswer) (d : ℕ) where
+  abbrev slots : ℕ
+  slots = slotsOf (h .minutes)
 
-  pub walk-stops : asks i ≡ true → firstFrom asks i (n - i) ≡ Slot i
-  walk-stops e = turn ∙ simp e
+  abbrev seen : ℕ → Place
+  seen k = placeAt h cell (λ i. 0) (d * slots + k)
 
-  pub walk-on : asks i ≡ false → firstFrom asks (i + 1) (n - (i + 1)) ≡ firstFrom asks i (n - i)
-  walk-on e = sym (turn ∙ simp e)
+  -- a day outside the log has no slot that is asked for
+  pub none-outside : (k : ℕ) → ltb d (h .days) ≡ false → asksFor w h cell d k ≡ false
+  unfolding asksFor intervalOf
+  none-outside k e = rw e refl
 
-pub walk-ends : (asks : ℕ → Bool) (k n : ℕ) → n ≡ 0 → firstFrom asks k n ≡ Nothing
-unfolding firstFrom
-walk-ends asks k n e = rw e
+  -- the place of a day's slot is asked for where the slot is
+  pub place-asks : (k : ℕ) → k < slots → ltb d (h .days) ≡ true → asksAt w (seen k) ≡ asksFor w h cell d k
+  unfolding asksFor intervalOf
+  place-asks k l e = ap (λ (b : Bool). b && isWanted w (cell (d * slots + k))) (exists-index h d k l) ∙ go (exists h d k) refl
+    where
+      go : (b : Bool) → exists h d k ≡ b
+          → (b && isWanted w (cell (d * slots + k))) ≡ ifAt (cond (ltb d (h .days) && ltb k slots && exists h d k) (At (d * slots + k)) Outside) false (λ i. isWanted w (cell i))
+      go true q = simp (e, lt-ltb k slots l, q)
+      go false q = simp (e, lt-ltb k slots l, q)
+
+  -- the places from slot k on are its own and those from the next one on
+  places-from : (k : ℕ) → k < slots → drop k (dayWalk h cell d) ≡ seen k ∷ drop (k + 1) (dayWalk h cell d)
+  places-from k l =
+      let size = length-seen (placeAt h cell (λ i. 0)) slots (d * slots) in
+      let e : suc k ≡ k + 1 = omega arith in
+      drop-cons (dayWalk h cell d) k (seen 0) (omega (arith, size))
+      ∙ ap₂ (λ (p : Place) (m : ℕ). p ∷ drop m (dayWalk h cell d)) (seen-at (placeAt h cell (λ i. 0)) (seen 0) slots (d * slots) k l) e
+
+  turn : (k : ℕ) → k < slots → nextIn w h cell d k ≡ cond (asksFor w h cell d k) (Slot k) (nextIn w h cell d (k + 1))
+  unfolding nextIn firstAsked
+  turn k l = go (ltb d (h .days)) refl
+    where
+      go : (b : Bool) → ltb d (h .days) ≡ b
+          → cond b (firstAsked w (drop k (dayWalk h cell d))) Nothing
+          ≡ cond (asksFor w h cell d k) (Slot k) (cond b (firstAsked w (drop (k + 1) (dayWalk h cell d))) Nothing)
+      go true e =
+          ap (firstAsked w) (places-from k l)
+          ∙ ap₂ (λ (b : Bool) (s : ℕ). cond b (Slot s) (firstAsked w (drop (k + 1) (dayWalk h cell d)))) (place-asks k l e) (digits-mod d l)
+      go false e = sym (ap (λ (b : Bool). cond b (Slot k) Nothing) (none-outside k e))
+
+  module _ (k : ℕ) (l : k < slots) where
+    pub walk-stops : asksFor w h cell d k ≡ true → nextIn w h cell d k ≡ Slot k
+    walk-stops e = turn k l ∙ simp e
+
+    pub walk-on : asksFor w h cell d k ≡ false → nextIn w h cell d (k + 1) ≡ nextIn w h cell d k
+    walk-on e = sym (turn k l ∙ simp e)
+
+  pub walk-ends : (k : ℕ) → slots ≤ k → nextIn w h cell d k ≡ Nothing
+  unfolding nextIn firstAsked
+  walk-ends k l =
+      let size = length-seen (placeAt h cell (λ i. 0)) slots (d * slots) in
+      ap (λ (ps : List Place). cond (ltb d (h .days)) (firstAsked w ps) Nothing) (drop-of-length-le (dayWalk h cell d) {i = k} (omega (arith, size)))
+      ∙ go (ltb d (h .days))
+    where
+      go : (b : Bool) → cond b Nothing Nothing ≡ Nothing
+      go true = refl
+      go false = refl
 
 -- ---- what is found
 
@@ -73,39 +121,60 @@ none-from asks k end g rest i l m = go (ltb k i) refl
     go true e = rest i (ltb-true k i e) m
     go false e = let here : i ≡ k = omega (arith, ltb-false k i e) in rw here g
 
-from-slot : (asks : ℕ → Bool) (k n j : ℕ) → firstFrom asks k n ≡ Slot j → FirstAsked asks k (k + n) j
-unfolding firstFrom
-from-slot asks k zero j e = let z : _≡_ {A = ℕ} 0 1 = cc in absurd (omega arith)
-from-slot asks k (suc n) j e = go (asks k) refl e (from-slot asks (suc k) n j)
-  where
-    go : (b : Bool) → asks k ≡ b → cond b (Slot k) (firstFrom asks (suc k) n) ≡ Slot j
-        → (firstFrom asks (suc k) n ≡ Slot j → FirstAsked asks (suc k) (suc k + n) j) → FirstAsked asks k (k + suc n) j
-    go true g p later =
-        let here : k ≡ j = cc in
-        record {
-          from = omega arith;
-          before-end = omega arith;
-          asked = rw (← here) g;
-          none-before = λ i l m. absurd (omega arith);
-        }
-    go false g p later =
-        let rest = later p in
-        record {
-          from = omega (arith, rest .from);
-          before-end = omega (arith, rest .before-end);
-          asked = rest .asked;
-          none-before = none-from asks k j g (rest .none-before);
-        }
+module _ (w : Wanted) (h : Header) (cell : ℕ → CellAnswer) (d : ℕ) where
+  abbrev asks : ℕ → Bool
+  asks = asksFor w h cell d
 
-from-none : (asks : ℕ → Bool) (k n : ℕ) → firstFrom asks k n ≡ Nothing → NoneAsked asks k (k + n)
-unfolding firstFrom
-from-none asks k zero e = λ i l m. absurd (omega arith)
-from-none asks k (suc n) e = go (asks k) refl e (from-none asks (suc k) n)
-  where
-    go : (b : Bool) → asks k ≡ b → cond b (Slot k) (firstFrom asks (suc k) n) ≡ Nothing
-        → (firstFrom asks (suc k) n ≡ Nothing → NoneAsked asks (suc k) (suc k + n)) → NoneAsked asks k (k + suc n)
-    go true g p later = let z : _≡_ {A = ℕ} 0 1 = cc in absurd (omega arith)
-    go false g p later = none-from asks k (k + suc n) g (λ i l m. later p i l (omega arith))
+  from-slot : (n k j : ℕ) → k + n ≡ slotsOf (h .minutes) → nextIn w h cell d k ≡ Slot j → FirstAsked asks k (slotsOf (h .minutes)) j
+  from-slot zero k j p e = let q = sym (walk-ends w h cell d k (omega (arith, p))) ∙ e in let z : _≡_ {A = ℕ} 0 1 = cc in absurd (omega arith)
+  from-slot (suc n) k j p e = go (asks k) refl (from-slot n (k + 1) j (omega arith))
+    where
+      l : k < slotsOf (h .minutes)
+      l = omega (arith, p)
+
+      go : (b : Bool) → asks k ≡ b → (nextIn w h cell d (k + 1) ≡ Slot j → FirstAsked asks (k + 1) (slotsOf (h .minutes)) j) → FirstAsked asks k (slotsOf (h .minutes)) j
+      go true g later =
+          let same : Slot k ≡ Slot j = sym (walk-stops w h cell d k l g) ∙ e in
+          let here : k ≡ j = cc in
+          record {
+            from = omega arith;
+            before-end = omega (arith, l, here);
+            asked = rw (← here) g;
+            none-before = λ i x y. absurd (omega arith);
+          }
+      go false g later =
+          let rest = later (walk-on w h cell d k l g ∙ e) in
+          let behind : NoneAsked asks (suc k) j = λ i x y. rest .none-before i (omega (arith, x)) y in
+          record {
+            from = omega (arith, rest .from);
+            before-end = rest .before-end;
+            asked = rest .asked;
+            none-before = none-from asks k j g behind;
+          }
+
+  from-none : (n k : ℕ) → k + n ≡ slotsOf (h .minutes) → nextIn w h cell d k ≡ Nothing → NoneAsked asks k (slotsOf (h .minutes))
+  from-none zero k p e = λ i l m. absurd (omega arith)
+  from-none (suc n) k p e = go (asks k) refl (from-none n (k + 1) (omega arith))
+    where
+      l : k < slotsOf (h .minutes)
+      l = omega (arith, p)
+
+      go : (b : Bool) → asks k ≡ b → (nextIn w h cell d (k + 1) ≡ Nothing → NoneAsked asks (k + 1) (slotsOf (h .minutes))) → NoneAsked asks k (slotsOf (h .minutes))
+      go true g later = let same : Slot k ≡ Nothing = sym (walk-stops w h cell d k l g) ∙ e in let z : _≡_ {A = ℕ} 0 1 = cc in absurd (omega arith)
+      go false g later = none-from asks k (slotsOf (h .minutes)) g (λ i x y. later (walk-on w h cell d k l g ∙ e) i (omega (arith, x)) y)
+
+  -- from a slot past the day's last there is none
+  found-in : (k j : ℕ) → nextIn w h cell d k ≡ Slot j → FirstAsked asks k (slotsOf (h .minutes)) j
+  found-in k j e = go (ltb (slotsOf (h .minutes)) k) refl
+    where
+      go : (b : Bool) → ltb (slotsOf (h .minutes)) k ≡ b → FirstAsked asks k (slotsOf (h .minutes)) j
+      go true p =
+          let q = sym (walk-ends w h cell d k (omega (arith, ltb-true (slotsOf (h .minutes)) k p))) ∙ e in
+          let z : _≡_ {A = ℕ} 0 1 = cc in absurd (omega arith)
+      go false p = let m = ltb-false (slotsOf (h .minutes)) k p in from-slot (slotsOf (h .minutes) - k) k j (omega arith) e
+
+  none-in : (k : ℕ) → nextIn w h cell d k ≡ Nothing → NoneAsked asks k (slotsOf (h .minutes))
+  none-in k e i x y = from-none (slotsOf (h .minutes) - k) k (omega (arith, x, y)) e i x y
 
 -- ---- a slot that is asked for
 
@@ -139,13 +208,6 @@ pub record NextIs (w : Wanted) (v : View) (d k j : ℕ) : Type 0 where
   pub asks : Asks w header (v .cell) d j
   pub found : FirstAsked (asksFor w header (v .cell) d) k (slotsOf (header .minutes)) j
 
-found-in : (w : Wanted) (h : Header) (cell : ℕ → CellAnswer) (d k j : ℕ) → nextIn w h cell d k ≡ Slot j
-    → FirstAsked (asksFor w h cell d) k (slotsOf (h .minutes)) j
-unfolding nextIn
-found-in w h cell d k j e =
-    let f = from-slot (asksFor w h cell d) k (slotsOf (h .minutes) - k) j e in
-    record { from = f .from; before-end = omega (arith, f .from, f .before-end); asked = f .asked; none-before = f .none-before }
-
 next-in : (w : Wanted) (h : Header) (v : View) (d k j : ℕ) → v .lent ≡ lent.Sound h → nextIn w h (v .cell) d k ≡ Slot j → NextIs w v d k j
 next-in w h v d k j q e =
     let f = found-in w h (v .cell) d k j e in
@@ -167,10 +229,8 @@ next-exists w v h d k j q e = asks-is w h (v .cell) d j (found-in w h (v .cell) 
 -- where nothing is left to ask for, no slot of the day from k on that exists is wanted
 pub next-nothing : (w : Wanted) (v : View) (h : Header) (d k : ℕ) → v .lent ≡ lent.Sound h → d < h .days → nextWanted w v d k ≡ Nothing
     → (i : ℕ) → k ≤ i → i < slotsOf (h .minutes) → exists h d i ≡ true → isWanted w (v .cell (d * slotsOf (h .minutes) + i)) ≡ false
-unfolding nextWanted nextIn
-next-nothing w v h d k q l e i a b t =
-    let none = from-none (asksFor w h (v .cell) d) k (slotsOf (h .minutes) - k) (simp q at e) in
-    not-asked w h (v .cell) d i l b t (none i a (omega arith))
+unfolding nextWanted
+next-nothing w v h d k q l e i a b t = not-asked w h (v .cell) d i l b t (none-in w h (v .cell) d k (simp q at e) i a b)
 
 -- a slot that is asked for lies behind the one before it, and in the day, so that a day's asks end
 pub next-bounds : (w : Wanted) (v : View) (d k j : ℕ) → nextWanted w v d k ≡ Slot j → (k ≤ j) × (j < slotsMost)

@@ -1,18 +1,28 @@
 -- What is asked for next in an order: of the newest first the last that is wanted, in the log and before those that are passed; so a day's asks end.
-use Prim.Native.Nat.{ℕ, zero, suc, _-_, _<_}
+use Prim.Native.Nat.{ℕ, zero, suc, _+_, _*_, _-_, _<_, _≤_}
 use native.Mathlib.Omega.{arith}
-use mathlib.Core.Path.{_≡_, refl}
-use mathlib.Core.Bool.{Bool, true, false, cond}
+use mathlib.Core.Path.{_≡_, refl, sym, ap, ap₂, _∙_}
+use mathlib.Core.Bool.{Bool, true, false, cond, _&&_}
+use mathlib.Core.List.{List, [], _∷_, reverse, reverse-append}
 use lib.Dec.{ltb}
-use borrow.Author.Tests.{ltb-true, ltb-false, lt-leb}
+use lib.Arith.{digits-mod}
+use lib.ListN.{length, getD, take}
+use lib.Seq.{take-suc, take-all}
+use borrow.Author.Tests.{ltb-true, ltb-false, le-ltb, lt-leb}
+use Rattle.slots.specs.Day.{slotsOf}
 use Rattle.log_header.specs.Header.{ifSound}
+use Rattle.log_header.specs.Interval.{intervalOf, ifAt, exists}
+use Rattle.log.specs.Walk.{Place, placeAt, dayWalk}
+use Rattle.log.proofs.WalkLaws.{length-seen, seen-at}
 use Rattle.log.specs.View.{View}
+use Rattle.log_header.specs.declared.interval.Interval.the-variants.{At, Outside}
+use Rattle.log_cell.specs.declared.cell.CellAnswer.{CellAnswer}
 use Rattle.log_header.specs.declared.header.Header.{Header}
 use Rattle.log_header.specs.declared.header.LogHeader.{LogHeader}
 use Rattle.log_header.specs.declared.header.LogHeader.the-variants as lent
-use Rattle.polling.specs.Next.{asksFor}
-use Rattle.polling.specs.Order.{lastBelow, lastWanted, daySlots, nextInOrder, passedWith}
-use Rattle.polling.proofs.NextLaws.{Asks, asks-is, next-bounds}
+use Rattle.polling.specs.Next.{isWanted, asksFor, firstAsked}
+use Rattle.polling.specs.Order.{lastIn, lastWanted, daySlots, nextInOrder, passedWith}
+use Rattle.polling.proofs.NextLaws.{none-outside, place-asks, Asks, asks-is, next-bounds}
 use Rattle.polling.specs.declared.next.Wanted.{Wanted}
 use Rattle.polling.specs.declared.next.Next.the-variants.{Slot, Nothing}
 use Rattle.polling.specs.declared.order.Order.{Order}
@@ -20,19 +30,64 @@ use Rattle.polling.specs.declared.order.Order.the-variants.{OldestFirst,
 
 -- ---- the walk's turns, for its loop
 
-pub down-stops : (asks : ℕ → Bool) (i : ℕ) → 0 < i → asks (i - 1) ≡ true → lastBelow asks i ≡ Slot (i - 1)
-unfolding lastBelow
-down-stops asks zero l e = absurd (omega arith)
-down-stops asks (suc n) l e = let m : suc n - 1 ≡ n = omega arith in rw m (simp (rw m at e))
+module _ (w : Wanted) (h : Header) (cell : ℕ → CellAnswer) (d : ℕ) where
+  abbrev slots : ℕ
+  slots = slotsOf (h .minutes)
 
-pub down-on : (asks : ℕ → Bool) (i : ℕ) → 0 < i → asks (i - 1) ≡ false → lastBelow asks (i - 1) ≡ lastBelow asks i
-unfolding lastBelow
-down-on asks zero l e = absurd (omega arith)
-down-on asks (suc n) l e = let m : suc n - 1 ≡ n = omega arith in rw m (simp (rw m at e))
+  abbrev day : List Place
+  day = dayWalk h cell d
 
-pub down-ends : (asks : ℕ → Bool) (i : ℕ) → i ≡ 0 → lastBelow asks i ≡ Nothing
-unfolding lastBelow
-down-ends asks i e = rw e refl
+  size : length day ≡ slots
+  size = length-seen (placeAt h cell (λ i. 0)) slots (d * slots)
+
+  -- a slot past the day's last is not asked for
+  none-past : (k : ℕ) → slots ≤ k → asksFor w h cell d k ≡ false
+  unfolding asksFor intervalOf
+  none-past k l = rw (le-ltb k slots l) (go (ltb d (h .days)) (exists h d k))
+    where
+      go : (a b : Bool) → ifAt (cond (a && false && b) (At (d * slots + k)) Outside) false (λ i. isWanted w (cell i)) ≡ false
+      go true b = refl
+      go false b = refl
+
+  -- the places before the next slot, the last of them first
+  places-before : (k : ℕ) → k < slots → reverse (take (suc k) day) ≡ placeAt h cell (λ i. 0) (d * slots + k) ∷ reverse (take k day)
+  places-before k l =
+      let other = placeAt h cell (λ i. 0) 0 in
+      ap reverse (take-suc day k other (omega (arith, size, l)))
+      ∙ reverse-append (take k day) (getD day k other ∷ [])
+      ∙ ap (λ (p : Place). p ∷ reverse (take k day)) (seen-at (placeAt h cell (λ i. 0)) other slots (d * slots) k l)
+
+  turn : (k : ℕ) → lastIn w h cell d (suc k) ≡ cond (asksFor w h cell d k) (Slot k) (lastIn w h cell d k)
+  unfolding lastIn firstAsked
+  turn k = go (ltb d (h .days)) refl (ltb k slots) refl
+    where
+      go : (a : Bool) → ltb d (h .days) ≡ a → (b : Bool) → ltb k slots ≡ b
+          → cond a (firstAsked w (reverse (take (suc k) day))) Nothing ≡ cond (asksFor w h cell d k) (Slot k) (cond a (firstAsked w (reverse (take k day))) Nothing)
+      go true e true f =
+          let l = ltb-true k slots f in
+          ap (firstAsked w) (places-before k l)
+          ∙ ap₂ (λ (b : Bool) (s : ℕ). cond b (Slot s) (firstAsked w (reverse (take k day)))) (place-asks w h cell d k l e) (digits-mod d l)
+      go true e false f =
+          let l = ltb-false k slots f in
+          ap (λ (ps : List Place). firstAsked w (reverse ps)) (take-all (suc k) day (omega (arith, size, l)) ∙ sym (take-all k day (omega (arith, size, l))))
+          ∙ sym (ap (λ (b : Bool). cond b (Slot k) (firstAsked w (reverse (take k day)))) (none-past k l))
+      go false e b f = sym (ap (λ (b : Bool). cond b (Slot k) Nothing) (none-outside w h cell d k e))
+
+  pub down-stops : (i : ℕ) → 0 < i → asksFor w h cell d (i - 1) ≡ true → lastIn w h cell d i ≡ Slot (i - 1)
+  down-stops zero l e = absurd (omega arith)
+  down-stops (suc n) l e = let m : suc n - 1 ≡ n = omega arith in rw m (turn n ∙ simp (rw m at e))
+
+  pub down-on : (i : ℕ) → 0 < i → asksFor w h cell d (i - 1) ≡ false → lastIn w h cell d (i - 1) ≡ lastIn w h cell d i
+  down-on zero l e = absurd (omega arith)
+  down-on (suc n) l e = let m : suc n - 1 ≡ n = omega arith in rw m (sym (turn n ∙ simp (rw m at e)))
+
+  pub down-ends : (i : ℕ) → i ≡ 0 → lastIn w h cell d i ≡ Nothing
+  unfolding lastIn firstAsked
+  down-ends i p = rw p (go (ltb d (h .days)))
+    where
+      go : (b : Bool) → cond b Nothing Nothing ≡ Nothing
+      go true = refl
+      go false = refl
 
 -- ---- what is found
 
@@ -42,20 +97,21 @@ pub record LastAsked (asks : ℕ → Bool) (end j : ℕ) : Type 0 where
   pub asked : asks j ≡ true
   pub none-behind : (i : ℕ) → j < i → i < end → asks i ≡ false
 
-pub last-is : (asks : ℕ → Bool) (n j : ℕ) → lastBelow asks n ≡ Slot j → LastAsked asks n j
-unfolding lastBelow
-last-is asks zero j e = let z : _≡_ {A = ℕ} 0 1 = cc in absurd (omega arith)
-last-is asks (suc n) j e = go (asks n) refl e (last-is asks n j)
+pub last-is : (w : Wanted) (h : Header) (cell : ℕ → CellAnswer) (d n j : ℕ) → lastIn w h cell d n ≡ Slot j → LastAsked (asksFor w h cell d) n j
+last-is w h cell d zero j e = let q = sym (down-ends w h cell d 0 refl) ∙ e in let z : _≡_ {A = ℕ} 0 1 = cc in absurd (omega arith)
+last-is w h cell d (suc n) j e = go (asksFor w h cell d n) refl (sym (turn w h cell d n) ∙ e) (last-is w h cell d n j)
   where
-    go : (b : Bool) → asks n ≡ b → cond b (Slot n) (lastBelow asks n) ≡ Slot j → (lastBelow asks n ≡ Slot j → LastAsked asks n j) → LastAsked asks (suc n) j
+    go : (b : Bool) → asksFor w h cell d n ≡ b → cond (asksFor w h cell d n) (Slot n) (lastIn w h cell d n) ≡ Slot j
+        → (lastIn w h cell d n ≡ Slot j → LastAsked (asksFor w h cell d) n j) → LastAsked (asksFor w h cell d) (suc n) j
     go true g p later =
+        let same : Slot n ≡ Slot j = rw g at p in
         let here : n ≡ j = cc in
         record { before-end = omega (arith, here); asked = rw (← here) g; none-behind = λ i l m. absurd (omega (arith, here)) }
     go false g p later =
-        let rest = later p in
+        let rest = later (rw g at p) in
         record { before-end = omega (arith, rest .before-end); asked = rest .asked; none-behind = λ i l m. behind i (rest .none-behind i l) m (ltb i n) refl }
       where
-        behind : (i : ℕ) → (i < n → asks i ≡ false) → i < suc n → (b : Bool) → ltb i n ≡ b → asks i ≡ false
+        behind : (i : ℕ) → (i < n → asksFor w h cell d i ≡ false) → i < suc n → (b : Bool) → ltb i n ≡ b → asksFor w h cell d i ≡ false
         behind i k m true e = k (ltb-true i n e)
         behind i k m false e = let here : i ≡ n = omega (arith, ltb-false i n e) in rw here g
 
@@ -70,10 +126,10 @@ pub newest-is : (w : Wanted) (v : View) (d passed j : ℕ) → nextInOrder Newes
 unfolding nextInOrder lastWanted
 newest-is w v d passed j e = go (v .lent) refl e
   where
-    go : (a : LogHeader) → v .lent ≡ a → ifSound a Nothing (λ h. lastBelow (asksFor w h (v .cell) d) (daySlots - passed)) ≡ Slot j → NewestIs w v d passed j
+    go : (a : LogHeader) → v .lent ≡ a → ifSound a Nothing (λ h. lastIn w h (v .cell) d (daySlots - passed)) ≡ Slot j → NewestIs w v d passed j
     go lent.Unsound q p = let z : _≡_ {A = ℕ} 0 1 = cc in absurd (omega arith)
     go (lent.Sound h) q p =
-        let f = last-is (asksFor w h (v .cell) d) (daySlots - passed) j p in
+        let f = last-is w h (v .cell) d (daySlots - passed) j p in
         record { header = h; sound = q; asks = asks-is w h (v .cell) d j (f .asked); found = f }
 
 -- a slot that is asked for passes more slots than before, and no more than a day has, so that a day's asks end

@@ -1,24 +1,28 @@
 -- The order in which intervals are asked for. Source: document 02, CR 13: "We want to ask newest first"; document 01, "The reader and the log": "cells in time order".
-use Prim.Native.Nat.{ℕ, zero, suc, _+_, _-_}
-use mathlib.Core.Bool.{Bool, cond}
+use Prim.Native.Nat.{ℕ, _+_, _-_}
+use mathlib.Core.Bool.{cond}
+use mathlib.Core.List.{reverse}
 use lib.Dec.{leb, ltb}
+use lib.ListN.{take}
 use Rattle.log_header.specs.Header.{ifSound}
+use Rattle.log.specs.Walk.{dayWalk}
 use Rattle.log.specs.View.{View}
-use Rattle.polling.specs.Next.{asksFor, nextWanted}
+use Rattle.log_header.specs.declared.header.Header.{Header}
+use Rattle.log_cell.specs.declared.cell.CellAnswer.{CellAnswer}
+use Rattle.polling.specs.Next.{firstAsked, nextWanted}
 use Rattle.polling.specs.declared.next.Wanted.{Wanted}
 use Rattle.polling.specs.declared.next.Next.{Next}
-use Rattle.polling.specs.declared.next.Next.the-variants.{Slot, Nothing}
+use Rattle.polling.specs.declared.next.Next.the-variants.{Nothing}
 use Rattle.polling.specs.declared.order.Order.{Order}
 use Rattle.polling.specs.declared.order.Order.the-variants.{OldestFirst, NewestFirst}
 
--- the last that a test names among the n first slots
-unfoldable pub lastBelow : (ℕ → Bool) → ℕ → Next
-lastBelow asks zero = Nothing
-lastBelow asks (suc n) = cond (asks n) (Slot n) (lastBelow asks n)
+-- the last that is asked for among a day's n first slots; a day outside the log has none
+unfoldable pub lastIn : Wanted → Header → (ℕ → CellAnswer) → ℕ → ℕ → Next
+lastIn w h cell d n = cond (ltb d (h .days)) (firstAsked w (reverse (take n (dayWalk h cell d)))) Nothing
 
 -- the last of a day's n first slots that is asked for; bytes that are no log have none
 unfoldable pub lastWanted : Wanted → View → ℕ → ℕ → Next
-lastWanted w v d n = ifSound (v .lent) Nothing (λ h. lastBelow (asksFor w h (v .cell) d) n)
+lastWanted w v d n = ifSound (v .lent) Nothing (λ h. lastIn w h (v .cell) d n)
 
 -- "Every day has 48 or 96 slots": the most that a day has
 abbrev pub daySlots : ℕ

@@ -1,7 +1,6 @@
 // The order in which the intervals of a day, and the days, are asked for.
 ghost use mathlib.Core.Path.{_≡_};
-ghost use Rattle.polling.specs.Order.{nextInOrder, lastWanted, lastBelow, slotsLeft, passedWith, dayInOrder};
-ghost use Rattle.polling.specs.Next.{asksFor};
+ghost use Rattle.polling.specs.Order.{nextInOrder, lastWanted, lastIn, slotsLeft, passedWith, dayInOrder};
 ghost use Rattle.log.specs.Image.{cellAt};
 ghost use Rattle.log.specs.View.{viewOf};
 use crate::next;
@@ -38,7 +37,7 @@ fn last_wanted(log: &[u8], day: u8, end: u8, wanted: Wanted) -> Next
 }
 
 fn last_in(log: &[u8], h: Header, day: u8, end: u8, wanted: Wanted) -> Next
-    ensures { λ r. ⌜ r ≡ lastBelow (asksFor wanted h (cellAt (now (log .entry))) day) end ⌝ }
+    ensures { λ r. ⌜ r ≡ lastIn wanted h (cellAt (now (log .entry))) day end ⌝ }
 {
     let mut i = end;
     while 0 < i {

@@ -42,9 +42,6 @@ put-date-requires c κs = search needs
 put-byte-requires : tie.Need-put-byte-requires
 put-byte-requires c κs = search needs
 
-night-on-requires : tie.Need-night-on-requires
-night-on-requires c κs = search needs
-
 put-marks-requires : tie.Need-put-marks-requires
 put-marks-requires c κs = search needs
 
@@ -61,7 +58,7 @@ returns-2 : tie.Need-returns-2
 unfolding putText
 returns-2 c =
     let put-marks = c .before .before .before .before .before .before .put-marks in
-    let spaced = c .before .before .before .before .before .before .before .before .before .before .before in
+    let spaced = c .before .before .before .before .before .before .before .before .before .before in
     let dated = spaced .before .before .before .before in
     let if1 = dated .before .before .if1 in
     let slots-of = dated .before .before .before .slots-of in
@@ -90,7 +87,6 @@ put-marked-spec =
     returns
     put-date-requires
     put-byte-requires
-    night-on-requires
     put-marks-requires
     put-byte-requires-2
     add-t8

@@ -1,6 +1,7 @@
 -- `lapses_among` meets its contract: past the last cell none, else the byte at the place, which with the room of all cells is there.
-use borrow.Author.Tests.{lt-ltb, le-ltb}
 use Rattle.log.specs.Image.{lapsesAmong}
+use borrow.Author.Tests.{lt-ltb, le-ltb}
+use mathlib.Core.Path.{_∙_}
 use borrow.Author.Needs.{needs}
 use Rattle.log.proofs.image.lapses_among.Statement.{statement}
 use Rattle.log.proofs.image.lapses_among.Tie as tie
@@ -9,17 +10,8 @@ returns : tie.Need-returns
 unfolding lapsesAmong
 returns c = simp (le-ltb _ _ (c .if1 .taken))
 
-add-at : tie.Need-add-at
-add-at c = search needs
-
-mul-at : tie.Need-mul-at
-mul-at c = search needs
-
-add-at-2 : tie.Need-add-at-2
-add-at-2 c = search needs
-
-add-at-3 : tie.Need-add-at-3
-add-at-3 c = search needs
+lapses-place-requires : tie.Need-lapses-place-requires
+lapses-place-requires c κs = search needs
 
 size-for-requires : tie.Need-size-for-requires
 size-for-requires c κs = search needs
@@ -30,8 +22,9 @@ shared-slice-read-result c = search needs
 returns-2 : tie.Need-returns-2
 unfolding lapsesAmong
 returns-2 c =
-    let at-if1 = c .before .before .before .if1 in
-    simp (lt-ltb _ _ (at-if1 .left))
+    let at-if1 = c .before .before .before .before .if1 in
+    let at-lapses-place = c .before .before .before .lapses-place in
+    simp (lt-ltb _ _ (at-if1 .left), at-lapses-place .ensures)
 
 byte-at-requires : tie.Need-byte-at-requires
 byte-at-requires c κs = search needs
@@ -39,18 +32,16 @@ byte-at-requires c κs = search needs
 returns-3 : tie.Need-returns-3
 unfolding lapsesAmong
 returns-3 c =
-    let at-if1 = c .before .before .before .if1 in
-    simp (lt-ltb _ _ (at-if1 .left)) (c .byte-at .ensures)
+    let at-if1 = c .before .before .before .before .if1 in
+    let at-lapses-place = c .before .before .before .lapses-place in
+    simp (lt-ltb _ _ (at-if1 .left)) (c .byte-at .ensures ∙ simp (at-lapses-place .ensures))
 
 pub lapses-among-spec : {M : Type 1} → statement M
 lapses-among-spec =
     tie.close
     (tie.spec
     returns
-    add-at
-    mul-at
-    add-at-2
-    add-at-3
+    lapses-place-requires
     size-for-requires
     shared-slice-read-result
     returns-2

@@ -5,8 +5,8 @@ use borrow.Author.Needs.{needs}
 use Rattle.log.proofs.image.put_kind.Statement.{statement}
 use Rattle.log.proofs.image.put_kind.Tie as tie
 
-add-at : tie.Need-add-at
-add-at c = search needs
+kind-place-requires : tie.Need-kind-place-requires
+kind-place-requires c κs = search needs
 
 byte-at-requires : tie.Need-byte-at-requires
 byte-at-requires c κs = search needs
@@ -25,9 +25,16 @@ unfolding putKind
 returns c =
     let at-put-pair = c .before .before .before .put-pair in
     let at-byte-at = c .before .before .before .before .before .byte-at in
-    c .before .before .put-byte .ensures ∙ simp (at-put-pair .ensures, at-byte-at .ensures)
+    let at-kind-place = c .before .before .before .before .before .before .before .kind-place in
+    c .before .before .put-byte .ensures ∙ simp (at-put-pair .ensures, at-byte-at .ensures, at-kind-place .ensures)
 
 pub put-kind-spec : {M : Type 1} → statement M
 put-kind-spec =
     tie.close
-    (tie.spec add-at byte-at-requires put-pair-requires put-byte-requires same-length returns)
+    (tie.spec
+    kind-place-requires
+    byte-at-requires
+    put-pair-requires
+    put-byte-requires
+    same-length
+    returns)

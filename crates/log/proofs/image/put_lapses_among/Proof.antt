@@ -1,7 +1,8 @@
 -- `put_lapses_among` meets its contract: past the last cell nothing, else the byte written at the place, which with the room of all cells is there.
-use borrow.Author.Tests.{lt-ltb, le-ltb}
-use Rattle.byte_numbers.specs.Place.{written}
 use Rattle.log.specs.Image.{putLapsesAmong}
+use Rattle.byte_numbers.specs.Place.{written}
+use borrow.Author.Tests.{lt-ltb, le-ltb}
+use mathlib.Core.Path.{_∙_}
 use borrow.Author.Needs.{needs}
 use Rattle.log.proofs.image.put_lapses_among.Statement.{statement}
 use Rattle.log.proofs.image.put_lapses_among.Tie as tie
@@ -10,17 +11,8 @@ returns : tie.Need-returns
 unfolding putLapsesAmong written
 returns c = simp (le-ltb _ _ (c .if1 .taken))
 
-add-at : tie.Need-add-at
-add-at c = search needs
-
-mul-at : tie.Need-mul-at
-mul-at c = search needs
-
-add-at-2 : tie.Need-add-at-2
-add-at-2 c = search needs
-
-add-at-3 : tie.Need-add-at-3
-add-at-3 c = search needs
+lapses-place-requires : tie.Need-lapses-place-requires
+lapses-place-requires c κs = search needs
 
 size-for-requires : tie.Need-size-for-requires
 size-for-requires c κs = search needs
@@ -33,7 +25,9 @@ same-length c = search needs
 
 returns-2 : tie.Need-returns-2
 unfolding putLapsesAmong written
-returns-2 c = simp (lt-ltb _ _ (c .before .before .if1 .left))
+returns-2 c =
+    let at-if1 = c .before .before .before .if1 in
+    simp (lt-ltb _ _ (at-if1 .left), c .before .before .lapses-place .ensures)
 
 put-byte-requires : tie.Need-put-byte-requires
 put-byte-requires c κs = search needs
@@ -44,18 +38,16 @@ same-length-2 c = search needs
 returns-3 : tie.Need-returns-3
 unfolding putLapsesAmong written
 returns-3 c =
-    let at-if1 = c .before .before .before .before .before .before .if1 in
-    simp (lt-ltb _ _ (at-if1 .left)) (c .before .before .put-byte .ensures)
+    let at-if1 = c .before .before .before .before .before .before .before .if1 in
+    let at-lapses-place = c .before .before .before .before .before .before .lapses-place in
+    simp (lt-ltb _ _ (at-if1 .left)) (c .before .before .put-byte .ensures ∙ simp (at-lapses-place .ensures))
 
 pub put-lapses-among-spec : {M : Type 1} → statement M
 put-lapses-among-spec =
     tie.close
     (tie.spec
     returns
-    add-at
-    mul-at
-    add-at-2
-    add-at-3
+    lapses-place-requires
     size-for-requires
     slice-write-log
     same-length

@@ -13,8 +13,8 @@ cells-of-requires c κs = search needs
 cells-good-requires : tie.Need-cells-good-requires
 cells-good-requires c κs = search needs
 
-cells-bare-requires : tie.Need-cells-bare-requires
-cells-bare-requires c κs = search needs
+missing-fresh-requires : tie.Need-missing-fresh-requires
+missing-fresh-requires c κs = search needs
 
 returns : tie.Need-returns
 returns c =
@@ -22,7 +22,7 @@ returns c =
     let entry = walked .before .before .before in
     let f = entry .args .log .now in
     let good = ap (λ (k : ℕ). goodFrom (cellAt f) 0 k) (sym (walked .before .cells-of .ensures)) ∙ sym (walked .cells-good .ensures) ∙ c .before .if1 .taken in
-    c .cells-bare .ensures ∙ sym (right-by-run (entry .args .h) (cellAt f) (lapsesAt f) (entry .pre) good)
+    c .missing-fresh .ensures ∙ sym (right-by-run (entry .args .h) (cellAt f) (lapsesAt f) (entry .pre) good)
 
 returns-2 : tie.Need-returns-2
 returns-2 c =
@@ -35,4 +35,4 @@ returns-2 c =
 pub cells-right-spec : {M : Type 1} → statement M
 cells-right-spec =
     tie.close
-    (tie.spec cells-of-requires cells-good-requires cells-bare-requires returns returns-2)
+    (tie.spec cells-of-requires cells-good-requires missing-fresh-requires returns returns-2)

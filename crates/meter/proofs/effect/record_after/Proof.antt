@@ -55,7 +55,9 @@ returns c =
 
 returns-2 : tie.Need-returns-2
 unfolding afterOf
-returns-2 c = simp (c .before .before .enum-told2 .given .1) (c .renewed2 .ensures ∙ rw (c .before .zeroed .ensures))
+returns-2 c =
+    let arm = c .before .before .enum-told2 in
+    simp (arm .given .1) (c .renewed2 .ensures ∙ rw (c .before .zeroed .ensures))
 
 returns-3 : tie.Need-returns-3
 unfolding afterOf

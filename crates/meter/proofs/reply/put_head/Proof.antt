@@ -23,7 +23,8 @@ same-length c = search needs
 returns : tie.Need-returns
 unfolding headOf
 returns c =
-    c .before .before .put-bytes .ensures ∙ rw (c .before .before .before .before .before .before .function-for .ensures, c .before .before .before .before .before .result-of .ensures)
+    let result = c .before .before .before .before .before in
+    c .before .before .put-bytes .ensures ∙ rw (result .before .function-for .ensures, result .result-of .ensures)
 
 pub put-head-spec : {M : Type 1} → statement M
 put-head-spec =
