@@ -1,6 +1,6 @@
 -- The row of a day's line; what the line says of a log's image; where there is none; and that there is always room for it.
-use Prim.Native.Nat.{ℕ, _+_, _<_, _≤_}
-use mathlib.Core.Path.{_≡_, refl, ap, subst, _∙_}
+use Prim.Native.Nat.{ℕ, _+_, _≤_}
+use mathlib.Core.Path.{_≡_, refl, ap, _∙_}
 use mathlib.Core.List.{List, [], _++_, append-nil}
 use mathlib.Core.Bool.{Bool, true, false}
 use native.Mathlib.Omega.{arith}
@@ -10,28 +10,21 @@ use borrow.Author.Tests.{le-leb, le-ltb, ltb-true}
 use Rattle.test_laws.proofs.Test.{either}
 use Rattle.refusal.specs.Outcome.{outcome, check}
 use Rattle.byte_numbers.proofs.PlaceLaws.{written-fits}
-use Rattle.calendar.specs.Date.{dayNumber, dateOf}
-use Rattle.log_header.specs.Header.{daysMost, cellsOf, isHeader, soundOf}
-use Rattle.log.specs.Image.{imageOf, AllCells}
+use Rattle.log_header.specs.Header.{daysMost, soundOf}
 use Rattle.log_header.specs.Interval.{dayDate}
-use Rattle.log.specs.View.{View, viewOf}
 use Rattle.log_header.proofs.HeaderLaws.{header-ranges, sound-log, by-sound}
-use Rattle.log_header.proofs.IntervalLaws.{day-on}
-use Rattle.log.proofs.ViewLaws.{cellIn, view-image}
-use Rattle.log_cell.specs.declared.cell.Cell.{Cell}
 use Rattle.log_header.specs.declared.header.Header.{Header}
 use Rattle.log_header.specs.declared.header.LogHeader.the-variants.{Sound}
 use Rattle.log_header.specs.declared.interval.DayAnswer.{DayAnswer}
 use Rattle.log_header.specs.declared.interval.DayAnswer.the-variants.{On, Outside}
 use Rattle.day_rows.specs.Figures.{rowNumbers}
-use Rattle.day_rows.specs.Rows.{figuresOf, hasDay, rowAt, copied, Right}
+use Rattle.day_rows.specs.Rows.{figuresOf, hasDay, rowAt, copied}
 use Rattle.day_rows.specs.LogAndRows.{enough}
 use Rattle.day_rows.proofs.RowsLaws.{figuresMost, figures-at-most, has-day, length-row, copied-row, Small, small-row}
 use Rattle.day_report.specs.declared.answer.TextAnswer.the-variants.{TooShort}
-use Rattle.day_report.specs.Text.{lineText, lineMost, putText}
+use Rattle.day_report.specs.Text.{lineMost}
 use Rattle.day_report.specs.Day.{zeros, dayOnText, dayText}
 use Rattle.day_report.proofs.TextLaws.{line-most, Never, text-fits}
-use Rattle.day_report.proofs.ReportLaws.{dayFigures, walk-seen}
 
 -- ---- the row
 
@@ -57,17 +50,6 @@ copied-on h figs d out e = go (ltb d (h .days)) refl
     go false t = rw t refl
 
 -- ---- the line of an image
-
--- where its figures are right, the line of a day has the day's date, and the figures of that day's cells
-pub day-text-image : (h : Header) (cs : List Cell) (lapses : ℕ → ℕ) (figs : List ℕ) (d : ℕ) (out : List ℕ) → isHeader h ≡ true → (l : length cs ≡ cellsOf h)
-    → AllCells cs → let v = viewOf (imageOf h cs lapses) in
-    Right h (v .cell) figs → enough h figs ≡ true → (day : d < h .days)
-    → dayText (v .lent) figs d out ≡ putText (lineText (dateOf (dayNumber (h .start) + d)) (dayFigures h cs d l day)) out
-unfolding dayText dayOnText
-day-text-image h cs lapses figs d out e l k right lent day =
-    let same = view-image h cs lapses e l k in
-    let kept : Right h (cellIn cs) figs = subst (λ (v : View). Right h (v .cell) figs) same right in
-    ap (λ (v : View). dayText (v .lent) figs d out) same ∙ simp (lent, day-on h d e day, kept .rows d day, walk-seen h cs d l day)
 
 -- ---- past the most days that a log has
 

@@ -1,4 +1,3 @@
-pub mod ReportLaws
 pub mod Examples
 pub mod TextLaws
 pub mod DayLaws

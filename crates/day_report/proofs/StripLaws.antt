@@ -4,40 +4,32 @@ use Prim.Native.Nat.{ℕ, _+_, _*_, _-_, _<_, _≤_}
 use native.Mathlib.Nat.{zero-add, add-zero, sub-zero}
 use native.Mathlib.Omega.{arith}
 use mathlib.Core.Path.{_≡_, refl, sym, ap, _∙_}
-use mathlib.Core.Bool.{true}
 use mathlib.Core.List.{List, [], _∷_, _++_, map}
 use lib.ListN.{length, length-append, length-map}
-use Rattle.refusal.specs.Outcome.{outcome}
 use Rattle.byte_numbers.specs.Place.{written}
 use Rattle.byte_numbers.proofs.PlaceLaws.{written-append}
 use Rattle.test_laws.proofs.Test.{either}
-use Rattle.calendar.specs.Date.{dayNumber, dateOf}
 use Rattle.calendar.specs.declared.date.Date.{Date}
 use Rattle.text.specs.DateText.{dateText}
 use Rattle.text.proofs.DateTextLaws.{length-dateText}
 use Rattle.slots.specs.Day.{slotsOf}
 use Rattle.slots.proofs.DayLaws.{slotsMost, slots-at-most}
-use Rattle.log_header.specs.Header.{daysMost, cellsOf, isHeader, soundOf}
-use Rattle.log.specs.Image.{imageOf, allGood, AllCells}
+use Rattle.log_header.specs.Header.{daysMost, soundOf}
+use Rattle.log.specs.Image.{allGood}
 use Rattle.log.specs.Walk.{placeAt, walkFrom, dayWalk}
 use Rattle.log.proofs.WalkLaws.{length-seen, seen-next, seen-end}
 use Rattle.log.specs.View.{View, viewOf}
 use Rattle.log_header.specs.Interval.{dayDate, existsAt}
 use Rattle.log_header.proofs.HeaderLaws.{by-sound}
-use Rattle.log_header.proofs.IntervalLaws.{day-on}
 use Rattle.log_header.specs.declared.interval.DayAnswer.{DayAnswer}
 use Rattle.log_header.specs.declared.interval.DayAnswer.the-variants as day
 use Rattle.log_header.specs.declared.header.Header.{Header}
-use Rattle.log_cell.specs.declared.cell.Cell.{Cell}
 use Rattle.log_cell.specs.declared.cell.CellAnswer.{CellAnswer}
 use Rattle.day_rows.specs.Figures.{dayCells}
-use Rattle.day_report.specs.Text.{space, lineFeed, dateSize, putText}
+use Rattle.day_report.specs.Text.{space, lineFeed, dateSize}
 use Rattle.day_report.specs.Strip.{mark, markOf, marksAt, dayMarks, stripOf, stripDated, stripOn, stripText}
-use Rattle.day_report.specs.declared.answer.TextAnswer.the-variants.{Unsound}
-use Rattle.log.proofs.ViewLaws.{cellIn, view-image}
 use Rattle.day_report.proofs.TextLaws.{Never, text-fits}
 use Rattle.day_report.proofs.DayLaws.{day-past}
-use Rattle.day_report.proofs.ReportLaws.{all-good, day-seen}
 
 -- ---- how long a strip is
 
@@ -98,13 +90,6 @@ written-strip s d marks n e =
     ∙ sym (written-append s 0 (dateText d) (space ∷ rest))
 
 -- ---- the strip of an image
-
--- the strip of a day has the day's date, and a mark for each of that day's slots
-pub strip-image : (h : Header) (cs : List Cell) (lapses : ℕ → ℕ) (d : ℕ) (out : List ℕ) → isHeader h ≡ true → length cs ≡ cellsOf h → AllCells cs → d < h .days
-    → stripText (viewOf (imageOf h cs lapses)) d out ≡ putText (stripOf (dateOf (dayNumber (h .start) + d)) (dayMarks (cellIn cs) h d)) out
-unfolding stripText stripOn stripDated
-strip-image h cs lapses d out e l k day =
-    ap (λ (v : View). stripText v d out) (view-image h cs lapses e l k) ∙ simp (day-on h d e day, day-seen h cs d l day, all-good)
 
 -- ---- where there is no strip, and that there is always room
 

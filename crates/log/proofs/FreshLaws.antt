@@ -1,30 +1,26 @@
 -- What follows from the definition of a fresh log: it is a log with its header, and every cell is a gap.
-use Prim.Native.Nat.{ℕ, zero, suc, _+_, _*_, _-_, _/_, _%_, _<_, _≤_}
+use Prim.Native.Nat.{ℕ, zero, suc, _+_, _*_, _-_, _/_, _%_, _<_}
 use native.Mathlib.Nat.{zero-add}
 use native.Mathlib.Omega.{arith}
 use mathlib.Core.Path.{_≡_, refl, sym, ap, ap₂, subst, _∙_}
 use mathlib.Core.Bool.{true}
-use mathlib.Core.List.{List, [], _∷_, _++_}
-use lib.ListN.{length, getD, drop, set, replicate, length-replicate, getD-replicate, replicate-append-replicate}
-use borrow.Author.Tests.{le-leb}
-use Rattle.refusal.specs.Outcome.{outcome}
+use mathlib.Core.List.{List, _∷_, _++_}
+use lib.ListN.{length, getD, set, replicate, length-replicate, getD-replicate, replicate-append-replicate}
 use Rattle.byte_numbers.specs.Place.{written}
 use Rattle.byte_numbers.specs.Number.{bytesOf}
-use Rattle.byte_numbers.proofs.PlaceLaws.{onward, written-fits}
-use Rattle.log_header.specs.Header.{headerSize, version, sizeFor, cellsOf, lengthOf, isHeader, headerBytes, soundOf}
+use Rattle.byte_numbers.proofs.PlaceLaws.{onward}
+use Rattle.log_header.specs.Header.{headerSize, version, sizeFor, cellsOf, lengthOf, isHeader, headerBytes}
 use Rattle.log_header.proofs.HeaderLaws.{cells-fours, length-headerBytes}
 use Rattle.log_cell.specs.Cell.{e+Of, e-Of, r+Of, r-Of, IsCell}
 use Rattle.log_cell.proofs.CellLaws.{gap-is-cell}
 use Rattle.log.specs.Pair.{packed}
 use Rattle.log.specs.Image.{cellAt, kindsBytes, columnBytes, lapsesBytes, cellsBytes, imageOf}
-use Rattle.log.proofs.ImageLaws.{sound-image, cellAt-image, length-imageOf}
-use Rattle.log.specs.Fresh.{gaps, noLapses, freshImage, freshOf}
+use Rattle.log.proofs.ImageLaws.{cellAt-image, length-imageOf}
+use Rattle.log.specs.Fresh.{gaps, noLapses, freshImage}
 use Rattle.log_header.specs.declared.header.Header.{Header}
-use Rattle.log_header.specs.declared.header.LogHeader.the-variants.{Sound}
 use Rattle.log_cell.specs.declared.cell.Cell.{Cell}
 use Rattle.log_cell.specs.declared.cell.Cell.the-variants.{Gap}
 use Rattle.log_cell.specs.declared.cell.CellAnswer.the-variants.{Good}
-use Rattle.log.specs.declared.fresh.FreshAnswer.the-variants.{Done}
 
 pub length-gaps : (n : ℕ) → length (gaps n) ≡ n
 unfolding gaps
@@ -33,10 +29,6 @@ length-gaps n = length-replicate n Gap
 pub gap-at : (n i : ℕ) → i < n → getD (gaps n) i Gap ≡ Gap
 unfolding gaps
 gap-at n i h = getD-replicate n i Gap Gap h
-
-pub fresh-sound : (h : Header) → isHeader h ≡ true → soundOf (freshImage h) ≡ Sound h
-unfolding freshImage
-fresh-sound h e = sound-image noLapses h (gaps (cellsOf h)) e (length-gaps (cellsOf h))
 
 pub fresh-gaps : (h : Header) (i : ℕ) → isHeader h ≡ true → i < cellsOf h → cellAt (freshImage h) i ≡ Good Gap
 unfolding freshImage
@@ -47,14 +39,6 @@ fresh-gaps h i right l =
 pub length-freshImage : (h : Header) → length (freshImage h) ≡ lengthOf h
 unfolding freshImage lengthOf
 length-freshImage h = length-imageOf noLapses h (gaps (cellsOf h)) ∙ ap (λ (n : ℕ). sizeFor n) (length-gaps (cellsOf h))
-
--- after a fresh log was made, it stands at the output's front
-pub fresh-front : (h : Header) (s : List ℕ) → isHeader h ≡ true → lengthOf h ≤ length s
-    → freshOf h s ≡ outcome (Done (lengthOf h)) (freshImage h ++ drop (lengthOf h) s)
-unfolding freshOf
-fresh-front h s e l =
-    let f : written s 0 (freshImage h) ≡ freshImage h ++ drop (0 + length (freshImage h)) s = written-fits s 0 (freshImage h) (rw (zero-add, length-freshImage) l) in
-    simp (e, le-leb _ _ l) (ap (outcome _) (f ∙ rw (zero-add, length-freshImage)))
 
 -- ---- a fresh log is zeros behind its header
 

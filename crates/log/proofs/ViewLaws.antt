@@ -1,6 +1,6 @@
 -- The laws of this layout, by which other crates know it: what is seen after a change, which bytes a change leaves, that an image is its
 -- header and its cells, and what is seen of one.
-use Prim.Native.Nat.{ℕ, zero, suc, _+_, _-_, _≤_, _<_}
+use Prim.Native.Nat.{ℕ, zero, suc, _+_, _≤_, _<_}
 use native.Mathlib.Nat.{not-suc-le-zero}
 use native.Mathlib.Omega.{arith}
 use mathlib.Core.Path.{_≡_, refl, sym, ap, ap₂, subst, _∙_, fun-ext}
@@ -164,12 +164,6 @@ bytes-applied s (Put i c) b k = bytes-putCell s i c b
 bytes-applied s (Lapses i n) b k = bytes-putLapses s i n b (k .1)
 
 -- ---- what is seen of bytes
-
--- past a log's cells there is none
-pub seen-past : (s : List ℕ) (h : Header) (i : ℕ) → soundOf s ≡ Sound h → cellsOf h ≤ i → (viewOf s .cell i ≡ Bad) × (viewOf s .lapses i ≡ 0)
-seen-past s h i p l =
-    let m : cellsAt s ≤ i = omega (arith, cells-at s h p) in
-    (rw p (cellAt-past s i m), rw p (lapsesAt-past s i m))
 
 -- what is seen as a cell is one
 abbrev pub AreCells : (ℕ → CellAnswer) → Type 0

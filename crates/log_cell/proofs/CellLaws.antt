@@ -12,7 +12,7 @@ use Rattle.byte_numbers.specs.Number.{number, bytesOf, Bytes}
 use Rattle.byte_numbers.specs.Place.{byteAt, numberAt}
 use Rattle.test_laws.proofs.Test.{both, chosen}
 use Rattle.byte_numbers.proofs.NumberLaws.{bytes-bytesOf}
-use Rattle.byte_numbers.proofs.ByteLaws.{run, take-run, two, low, high, bytes-nil, bytes-cons, bytes-append}
+use Rattle.byte_numbers.proofs.ByteLaws.{run, take-run, two, low, high, bytes-cons, bytes-append}
 use Rattle.log_cell.specs.Cell.{kindOf, e+Of, e-Of, r+Of, r-Of}
 use Rattle.log_cell.specs.Cell.{countsSize, cellSize, cellBytes, noCounts, isCell, kindBytes, countsBytes, kindFits}
 use Rattle.log_cell.specs.Cell.{cellBy, kindCell, kindNames, cellOf, ifGood, CountsFit, CellFits, IsCell}
@@ -58,10 +58,6 @@ bytes-cell (Measured e+ e- r+ r-) = bytes-kind 2 e+ e- r+ r- (omega arith)
 pub length-cellBytes : (c : Cell) (lapses : ℕ) → length (cellBytes c lapses) ≡ cellSize
 unfolding cellBytes
 length-cellBytes c lapses = length-append (countsBytes c) (lapses ∷ []) ∙ ap (λ (n : ℕ). n + 1) (length-countsBytes c)
-
-pub bytes-cellBytes : (c : Cell) (lapses : ℕ) → lapses < 256 → Bytes (cellBytes c lapses)
-unfolding cellBytes
-bytes-cellBytes c lapses l = bytes-append (countsBytes c) (lapses ∷ []) (bytes-cell c) (bytes-cons lapses [] l bytes-nil)
 
 low-high : (n : ℕ) → n < 65536 → (0 * 256 + n / 256 % 256) * 256 + n % 256 ≡ n
 low-high n h = omega arith
@@ -156,10 +152,6 @@ fits-below kind false p = omega (arith, eqb-true kind 2 p)
 pub fits-named : (kind e+ e- r+ r- : ℕ) (n : Bool) → kindFits kind n ≡ true → kindNames kind e+ e- r+ r- ≡ Good (cellBy kind e+ e- r+ r-)
 unfolding kindNames
 fits-named kind e+ e- r+ r- n p = simp (lt-ltb kind 3 (fits-below kind n p))
-
--- what is read as a cell is one
-pub good-right : (bs : List ℕ) (c : Cell) → cellOf bs ≡ Good c → isCell c ≡ true
-good-right bs c p = nine-of bs c p .kind .right
 
 pub two-below : (bs : List ℕ) (i : ℕ) → Bytes bs → numberAt bs i 2 < 65536
 two-below bs i h = omega (arith, two bs i, h i, h (i + 1))

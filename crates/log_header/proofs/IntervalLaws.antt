@@ -5,7 +5,7 @@ use native.Mathlib.Nat.{mul-le-mul-right, div-mul-le-self}
 use native.Mathlib.Omega.{arith}
 use mathlib.Core.Path.{_≡_, refl, sym, ap, _∙_}
 use mathlib.Core.Bool.{Bool, true, false, cond, not, _&&_}
-use lib.Dec.{ltb, eqb}
+use lib.Dec.{ltb}
 use lib.Arith.{digits-lt, digits-div, digits-mod}
 use borrow.Author.Tests.{ltb-true, ltb-false, lt-ltb}
 use Rattle.test_laws.proofs.Test.{both, chosen}
@@ -55,17 +55,6 @@ unfolding cellsOf
 interval-below h d s i p =
     let w = in-log h d s i p in
     rw (sym (w .index)) (digits-lt (w .day-below) (w .slot-below))
-
--- two intervals with one cell are one interval
-pub same-interval : (h : Header) (d s e t i : ℕ) → intervalOf h d s ≡ At i → intervalOf h e t ≡ At i → (d ≡ e) × (s ≡ t)
-same-interval h d s e t i p q =
-    let v = in-log h d s i p in
-    let w = in-log h e t i q in
-    let n = slotsOf (h .minutes) in
-    let m : d * n + s ≡ e * n + t = v .index ∙ sym (w .index) in (
-      sym (digits-div d (v .slot-below)) ∙ ap (λ (x : ℕ). x / n) m ∙ digits-div e (w .slot-below),
-      sym (digits-mod d (v .slot-below)) ∙ ap (λ (x : ℕ). x % n) m ∙ digits-mod e (w .slot-below),
-    )
 
 -- ---- slots that do not exist
 

@@ -31,6 +31,7 @@ use Rattle.old_log.proofs.SameLaws as same
 
 -- ---- calls that alter a log
 
+-- the field `lapse` of `SameForC`
 pub same-lapse : (s t : List ℕ) → Alike s t → (a : AskRead) (bs : List ℕ) → SameLapse (lapseForCIn rows a s bs) (lapseForCIn columns a t bs)
 unfolding lapseForCIn
 same-lapse s t e (Read held) bs =
@@ -42,6 +43,7 @@ same-lapse s t e (Read held) bs =
     }
 same-lapse s t e Unreadable bs = record { answer = refl; seen = e; ask = refl }
 
+-- its field `take`
 pub same-take : (b c : LogAndRows) → Alike (b .log) (c .log) → b .figures ≡ c .figures → (a : AskRead) (bs y : List ℕ) (result size : ℕ) → Bytes y
     → SameTake (takeForCIn rows a b bs y result size) (takeForCIn columns a c bs y result size)
 unfolding takeForCIn
@@ -89,10 +91,12 @@ module _ {A : Type 0} (number : A → ℕ) (done : ℕ → A) (size : A → ℕ 
         };
   }
 
+-- its field `fresh`
 pub same-fresh : (h : Header) (a b figs : List ℕ) (word : ℕ) → Rooms h a b → SameMadeForC a b word (freshForCIn rows h a figs word) (freshForCIn columns h b figs word)
 unfolding imageLength
 same-fresh h a b figs word room = made-for-c freshNumber fresh.Done imageLength (λ n w. refl) image-kept a b word _ _ (same.same-fresh h a b figs room)
 
+-- its field `read`
 pub same-read : (f a b figs : List ℕ) (word : ℕ) → Bytes f → FileRooms f a b → SameMadeForC a b word (readForCIn rows f a figs word) (readForCIn columns f b figs word)
 unfolding lengthAfter
 same-read f a b figs word bytes room = made-for-c readNumber read.Done lengthAfter (λ n w. refl) length-kept a b word _ _ (same.same-read f a b figs bytes room)
@@ -136,6 +140,7 @@ same-step m n (reply y) w k =
       left = record { seen = z .seen; figures = z .figures; ask = z .ask; result = z .result; size = z .size };
     }
 
+-- its field `run`, call by call
 pub same-run : (m n : Lent) → SameLent m n → (calls : List Call) → AllBytes calls → SameRunForC (runForCIn rows m calls) (runForCIn columns n calls)
 unfolding runOf
 same-run m n w [] k = record { answers = refl; left = w }

@@ -84,6 +84,7 @@ module _ (line a b : List ℕ) (k j : ConsoleLog) (w : SameKept a k b j) where
   new-size : length t ≡ j .length
   new-size = length-take-le (j .length) b (w .new-room)
 
+  -- the field `ask` of `SameLines`
   pub same-ask : SameKept a (askLineIn rows line a k) b (askLineIn columns line b j)
   unfolding askLineIn partOf
   same-ask = go (isForm line (255 ∷ 255 ∷ 255 ∷ [])) refl
@@ -98,6 +99,7 @@ module _ (line a b : List ℕ) (k j : ConsoleLog) (w : SameKept a k b j) where
             held = λ i. asked (w .seen i) (w .held i) (byteIn line 1) (byteIn line 2) (byteIn line 3) (replicate readSize 0) .result .held;
           })
 
+  -- its field `lapse`
   pub same-lapse : let o = lapseLineIn rows line a k in let n = lapseLineIn columns line b j in SameKept (o .left) (o .result) (n .left) (n .result)
   unfolding lapseLineIn lapsedIn
   same-lapse = go (eqb (spacesIn line) 0) refl
@@ -193,6 +195,7 @@ part-bytes n s k = either (λ (x : List ℕ). Bytes x) (leb n (length s)) (bytes
 abbrev typed : List ℕ → Outcome BytesAnswer (List ℕ)
 typed line = replyRead line 1 (replicate 2048 0)
 
+-- its field `reply`
 pub same-reply : (line a b figs : List ℕ) (k j : ConsoleLog) → SameKept a k b j
     → SameLine (replyLineIn rows line (logAndRows a figs) k) (replyLineIn columns line (logAndRows b figs) j)
 unfolding replyLineIn replyBytes
@@ -226,6 +229,7 @@ module _ {A : Type 0} (number : A → ℕ) (done : ℕ → A) (keep : A → Cons
         held = refl;
       })
 
+  -- a log that a line makes is held or not, alike: for `same-fresh` and `same-load`
   pub new-kept : (a b : List ℕ) (k j : ConsoleLog) (o n : Outcome A LogAndRows) → SameKept a k b j → SameMade number done a b o n
       → SameLine (outcome (keep (o .result) k) (o .left)) (outcome (keep (n .result) j) (n .left))
   new-kept a b k j o n w m = go (eqb (number (n .result)) 0) refl
@@ -250,6 +254,7 @@ read-left : (x : ReadAnswer) (k : ConsoleLog) → (readNumber x ≡ 0 → ⊥) �
 unfolding keptLoaded
 read-left x k r = read-refused x k _ r
 
+-- its field `fresh`
 pub same-fresh : (line a b figs : List ℕ) (k j : ConsoleLog) → SameKept a k b j → LineRooms line a b
     → SameLine (freshLineIn rows line (logAndRows a figs) k) (freshLineIn columns line (logAndRows b figs) j)
 unfolding freshLineIn freshYear keptAfter
@@ -262,6 +267,7 @@ same-fresh line a b figs k j w room = go (isForm line (65535 ∷ 255 ∷ 255 ∷
     go true OutOfRange e = record { kept = w; figures = refl }
     go false y e = record { kept = w; figures = refl }
 
+-- its field `load`
 pub same-load : (f a b figs : List ℕ) (k j : ConsoleLog) → SameKept a k b j → Bytes f → FileRooms f a b
     → SameLine (loadedIn rows f (logAndRows a figs) k) (loadedIn columns f (logAndRows b figs) j)
 unfolding keptLoaded

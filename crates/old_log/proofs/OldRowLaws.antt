@@ -164,6 +164,7 @@ module _ (lapses : ℕ → ℕ) where
   length-cellsBytes i (c ∷ cs) =
       length-append (cellBytes c (lapses i)) (cellsBytes (suc i) cs lapses) ∙ omega (arith, length-cellBytes c (lapses i), length-cellsBytes (suc i) cs)
 
+  -- the old image's length, by which it is a log
   pub length-imageOf : (h : Header) (cs : List Cell) → length (imageOf h cs lapses) ≡ headerSize + cellSize * length cs
   unfolding imageOf
   length-imageOf h cs = length-append (headerBytes h) (cellsBytes 0 cs lapses) ∙ omega (arith, length-headerBytes version h, length-cellsBytes 0 cs)
@@ -276,6 +277,7 @@ view-applied s None k = refl
 view-applied s (Put i c) k = let w = within (soundOf s) i (k .0) in view-put s (w .0) i (w .1 .0) (w .1 .1) c (k .1)
 view-applied s (Lapses i n) k = let w = within (soundOf s) i (k .0) in view-lapses s (w .0) i (w .1 .0) (w .1 .1) n
 
+-- what is seen of an old image is what it was made of, as of a new one
 pub view-image : (h : Header) (cs : List Cell) (lapses : ℕ → ℕ) → isHeader h ≡ true → length cs ≡ cellsOf h → AllCells cs
     → viewOf (imageOf h cs lapses) ≡ viewBy h cs lapses
 view-image h cs lapses e l k =

@@ -68,6 +68,7 @@ same-lapse s t h k e p = record {
   seen = same-after s t _ _ e (λ i. Lapse.lapsing (e i) (p i) .change) (lapsing-holds (viewOf t) k);
 }
 
+-- the field `take` of `SameAnswers`, and a reply's part in other calls
 pub same-take : (b c : LogAndRows) (h k : OpenAsk) (y : List ℕ) → Alike (b .log) (c .log) → b .figures ≡ c .figures → h ≡ k → Bytes y
     → SameBoth (takenIn rows b h y) (takenIn columns c k y)
 unfolding takenIn
@@ -88,6 +89,7 @@ same-heard s t figs h (x ∷ y) e bytes =
       figures = w .figures;
     }
 
+-- its field `settle`
 pub same-settle : (s t figs : List ℕ) (h : OpenAsk) (y : List ℕ) → Alike s t → Bytes y → SameBoth (settledIn rows (logAndRows s figs) h y) (settledIn columns (logAndRows t figs) h y)
 unfolding settledIn
 same-settle s t figs h y e bytes =
@@ -147,6 +149,7 @@ room-check number done a b h p q x y room f = rw (le-leb _ _ (room .of-rows), le
 gaps-cells : (n : ℕ) → AllCells (gaps n)
 gaps-cells n i l = rw (gap-at n i (rw length-gaps at l)) gap-is-cell
 
+-- its field `fresh`
 pub same-fresh : (h : Header) (a b figs : List ℕ) → Rooms h a b → SameMade freshNumber fresh.Done a b (freshIn rows h a figs) (freshIn columns h b figs)
 unfolding freshIn
 same-fresh h a b figs room =
@@ -196,6 +199,7 @@ module _ (f a b figs : List ℕ) (bytes : Bytes f) where
           same-check readNumber Done a b figs (eqb (length f) (fileLengthAs (versionAt f) h)) WrongLength _ _ (omega arith) (λ size.
           same-check readNumber Done a b figs (crcFits f) WrongCrc _ _ (omega arith) (λ crc. same-cells h (file-header-right f h p) (room h p)))
 
+  -- its field `read`
   pub same-read : FileRooms f a b → SameMade readNumber Done a b (readIn rows f a figs) (readIn columns f b figs)
   unfolding readIn
   same-read room =
@@ -230,6 +234,7 @@ same-step s t (reply y) w k =
       left = record { seen = z .seen; figures = z .figures; held = λ i. z .answer i .held };
     }
 
+-- its field `run`, call by call
 pub same-run : (s t : State) → SameState s t → (calls : List Call) → AllBytes calls → SameRun (runIn rows s calls) (runIn columns t calls)
 unfolding runOf
 same-run s t w [] k = record { answers = refl; left = w }

@@ -62,8 +62,3 @@ reply-small Displayed p detail = lit≤ tt
 reply-small Stored p detail =
     phase-small ((parameterRow p) .fields) detail ((parameterRow p) .«reply_bytes»)
     (leb-true _ _ (every-row (λ (p : Parameter). leb ((parameterRow p) .«reply_bytes») 48) refl p))
-
--- a password's eight, and telemetry's
-pub change-small : (p : Parameter) → (parameterRow p) .«change_bytes» ≤ 8
-unfolding all
-change-small p = leb-true _ _ (every-row (λ (p : Parameter). leb ((parameterRow p) .«change_bytes») 8) refl p)

@@ -17,7 +17,7 @@ use crate::code::TELEMETRY;
 use crate::code::UNKNOWN;
 use crate::code::WINTER_DATE;
 ghost use mathlib.Core.Path.{_≡_};
-ghost use Rattle.parameters.specs.Table.{line, read, readBoth, plain, unread, byMain, byAuxiliary, fixed, parameterRow, codeOf};
+ghost use Rattle.parameters.specs.Table.{line, read, readBoth, plain, unread, byMain, byAuxiliary, fixed, parameterRow};
 ghost use Rattle.parameters.specs.Table.{opensTo, parameterOf, byPhase, bytesIn, replyBytes, figureCount};
 
 // What offset, tariff and detail of a read are.
@@ -207,12 +207,6 @@ fn fixed() -> Changes
     }
 }
 
-pub fn code_of(p: Parameter) -> u8
-    ensures { λ r. ⌜ r ≡ codeOf p ⌝ }
-{
-    parameter_row(p).code
-}
-
 // Whether a read opens a parameter.
 pub fn opens_to(reading: Reading, row: Row) -> bool
     ensures { λ r. ⌜ r ≡ opensTo reading row ⌝ }
@@ -223,7 +217,7 @@ pub fn opens_to(reading: Reading, row: Row) -> bool
     }
 }
 
-// The other direction of `code_of`.
+// The parameter that has a code in the table.
 pub fn parameter_of(code: u8) -> Parameter
     ensures { λ r. ⌜ r ≡ parameterOf code ⌝ }
 {

@@ -51,12 +51,15 @@ run-sane h b [] s k = s
 run-sane h b (c ∷ calls) s k = run-sane h (bookStep h b c .left) calls (step-sane h b c s (k .0)) (k .1)
 
 module _ {b : LogAndRows} (start : Start b) (calls : List Call) (k : AllBytes calls) where
+  -- the header of the log that a history starts from
   abbrev pub h : Header
   h = start .header
 
+  -- the book behind the history
   abbrev pub told : Book
   told = booked start calls .left
 
+  -- the cells that the book makes
   abbrev pub cells : List Cell
   cells = workedOut (told .kept) 0 (cellsOf h)
 
@@ -73,6 +76,7 @@ module _ {b : LogAndRows} (start : Start b) (calls : List Call) (k : AllBytes ca
       ap viewOf (claims.demand-3 .log b start calls k)
       ∙ view-image h cells (lapsesOut (told .lapses)) (start .right) (length-workedOut (told .kept) 0 (cellsOf h)) all-cells
 
+  -- a cell after a history is the book's: where two histories are compared cell by cell
   pub seen-cell : (i : ℕ) → i < cellsOf h → viewOf (ran b calls .left .log) .cell i ≡ Good (afresh (told .kept i))
   seen-cell i l = ap (λ (v : View). v .cell i) seen ∙ cell-in cells i (rw length-workedOut l) ∙ ap Good (cell-at i l)
 
@@ -211,6 +215,7 @@ module _ (b : LogAndRows) (start : Start b) (these those : List Call) (k : AllBy
       go i m (inl free) = inl (cell-at start these k i m ∙ same-afresh i free ∙ sym (cell-at start those l i m))
       go i m (inr out) = inr out
 
+  -- the claim `elsewhere`
   pub elsewhere : SameElsewhere start (asksIn start these) one two
   elsewhere = record {
     header = (ap (λ (v : View). v .lent) (seen start these k), ap (λ (v : View). v .lent) (seen start those l));
@@ -228,6 +233,7 @@ module _ (b : LogAndRows) (start : Start b) (these those : List Call) (k : AllBy
       let place : j ≡ rowNumbers * (j / rowNumbers) + j % rowNumbers = omega arith in
       ap (λ (n : ℕ). getD figs n 0) place ∙ sym (figure-at figs (j / rowNumbers) (j % rowNumbers) less)
 
+  -- the claim `equal`
   pub equal : OneReplyEach start (asksIn start these) → one ≡ two
   equal free =
       ap₂ logAndRows
@@ -259,11 +265,13 @@ module _ (b : LogAndRows) (start : Start b) (these those : List Round) (c : AllC
   reordered : Reordered (asksIn start (callsOf these)) (asksIn start (callsOf those))
   reordered = rw (asks-are b start these c, asks-are b start those d) p
 
+  -- the claim `list-elsewhere`, by the same of the histories that the lists are
   pub list-elsewhere : SameElsewhere start (asksOf (start .header) these) (after b (callsOf these)) (after b (callsOf those))
   list-elsewhere =
       subst (λ (ds : List Completed). SameElsewhere start ds (after b (callsOf these)) (after b (callsOf those))) (asks-are b start these c)
       (elsewhere b start (callsOf these) (callsOf those) (calls-bytes (start .header) these c) (calls-bytes (start .header) those d) reordered)
 
+  -- the claim `list-equal`, likewise
   pub list-equal : OneReplyEach start (asksOf (start .header) these) → (after b (callsOf these) ≡ after b (callsOf those))
   list-equal free =
       equal b start (callsOf these) (callsOf those) (calls-bytes (start .header) these c) (calls-bytes (start .header) those d) reordered

@@ -66,6 +66,7 @@ afresh-members xs ys one k l = same-by (firstOf xs) (firstOf ys) xs ys one k l (
 abbrev pub rowsOf : ℕ → Completed → List Row
 rowsOf i d = cond (eqb i (d .place)) (rowsWith (d .ending)) []
 
+-- the replies of two histories, one behind the other
 pub rows-append : (i : ℕ) (ds es : List Completed) → rowsAt i (ds ++ es) ≡ rowsAt i ds ++ rowsAt i es
 unfolding rowsAt
 rows-append i [] es = refl
@@ -94,6 +95,7 @@ taken-out : (i : ℕ) (d : Completed) (before behind others : List Completed) �
 unfolding rowsAt
 taken-out i d before behind others e = ap (rowsAt i) e ∙ rows-append i before (d ∷ behind)
 
+-- in another order an interval has no reply that it had not
 pub rows-on : (i : ℕ) (ds es : List Completed) → Reordered ds es → Within (rowsAt i ds) (rowsAt i es)
 unfolding rowsAt
 rows-on i [] es p = λ r m. absurd (List·Memᴰ·not-nil m)
@@ -101,6 +103,7 @@ rows-on i (d ∷ ds) es p =
     let rest = subst (Within (rowsAt i ds)) (rows-append i (p .0) (p .1)) (rows-on i ds (p .0 ++ p .1) (p .3)) in
     subst (Within (rowsOf i d ++ rowsAt i ds)) (sym (taken-out i d (p .0) (p .1) es (p .2))) (forward (rowsOf i d) (rowsAt i (p .0)) (rowsAt i ds) (rowsAt i (p .1)) rest)
 
+-- and loses none
 pub rows-back : (i : ℕ) (ds es : List Completed) → Reordered ds es → Within (rowsAt i es) (rowsAt i ds)
 unfolding rowsAt
 rows-back i [] es p = λ r m. absurd (List·Memᴰ·not-nil (subst (λ (l : List Completed). List·Memᴰ r (rowsAt i l)) p m))
@@ -117,6 +120,7 @@ same-cell came i ds es p one =
 
 -- ---- the lapses of completed asks
 
+-- what an ending counts for in a cell's lapses
 abbrev pub lapseOf : Ending → ℕ
 lapseOf (counted r) = 0
 lapseOf (refused result) = 0
@@ -126,15 +130,18 @@ lapseOf lapsed = 1
 abbrev pub lapsesOf : ℕ → Completed → ℕ
 lapsesOf i d = cond (eqb i (d .place)) (lapseOf (d .ending)) 0
 
+-- how many lapses an interval has in a list
 unfoldable pub lapsesIn : ℕ → List Completed → ℕ
 lapsesIn i [] = 0
 lapsesIn i (d ∷ ds) = lapsesOf i d + lapsesIn i ds
 
+-- the lapses of two histories add up
 pub lapses-append : (i : ℕ) (ds es : List Completed) → lapsesIn i (ds ++ es) ≡ lapsesIn i ds + lapsesIn i es
 unfolding lapsesIn
 lapses-append i [] es = omega arith
 lapses-append i (d ∷ ds) es = let rest = lapses-append i ds es in omega (arith, rest)
 
+-- in another order they are as many
 pub same-lapses : (i : ℕ) (ds es : List Completed) → Reordered ds es → lapsesIn i ds ≡ lapsesIn i es
 unfolding lapsesIn
 same-lapses i [] es p = sym (ap (lapsesIn i) p)

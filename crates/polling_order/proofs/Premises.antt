@@ -108,9 +108,11 @@ at-place h day slot i e = e ∙ ap At (sym (in-log h day slot i e .index))
 completes : (h : Header) (address day slot i : ℕ) (x : Closing) → intervalOf h day slot ≡ At i → Closes address x → Completes h (roundOf address day slot x)
 completes h address day slot i x e c = record { room = omega arith; interval = at-place h day slot i e; stays = tt; closed = c }
 
+-- the claim that the premises can be met: by a lapse
 pub lapse-completes : (h : Header) (address day slot i : ℕ) → intervalOf h day slot ≡ At i → Completes h (roundOf address day slot lapses)
 lapse-completes h address day slot i e = completes h address day slot i lapses e tt
 
+-- by a reply
 pub reply-completes : (h : Header) (address day slot i : ℕ) (r : Row) → address < 256 → RowFits r → intervalOf h day slot ≡ At i
     → Completes h (roundOf address day slot (answers (replyWith address r))) × (endingOf (replyWith address r) ≡ counted r)
 reply-completes h address day slot i r l f e =
@@ -164,6 +166,7 @@ once-row i (d ∷ ds) q r o m n =
     not-both : (x : Row) → List·Memᴰ x (rowsOf i d) → (y : Row) → List·Memᴰ y (rowsAt i ds) → ⊥
     not-both x a y b = let t = asked-for i ds y b in o .0 (t .0) (t .1) (sym (t .2) ∙ row-for i d x a .0)
 
+-- by a list that asks for each interval once
 pub once-each : (b : LogAndRows) (start : Start b) (asks : List Completed) → OnceEach asks → NoneMeasured start asks → OneReplyEach start asks
 once-each b start asks o none i l q r m n z w =
     ⊎-elim (λ (a : List·Memᴰ q came).
@@ -186,6 +189,7 @@ once-each b start asks o none i l q r m n z w =
 
 -- ---- newest first
 
+-- the claim on `poll .. newest`
 pub newest-first : (b : LogAndRows) (start : Start b) (rounds : List Round) → let h = start .header in AllComplete h rounds → OneReplyEach start (asksOf h rounds)
     → AllComplete h (reverse rounds) × Reordered (asksOf h rounds) (asksOf h (reverse rounds))
     × (after b (callsOf rounds) ≡ after b (callsOf (reverse rounds)))
@@ -194,6 +198,7 @@ newest-first b start rounds c one =
     let order = turned (askOf (start .header)) rounds in
     (all, order, list-equal b start rounds (reverse rounds) c all order one)
 
+-- the claim that a list's calls complete what the list says
 pub held : (b : LogAndRows) (start : Start b) (rounds : List Round) → AllComplete (start .header) rounds
     → AllBytes (callsOf rounds) × (asksIn start (callsOf rounds) ≡ asksOf (start .header) rounds)
 held b start rounds c = (calls-bytes (start .header) rounds c, asks-are b start rounds c)
@@ -252,6 +257,7 @@ module _ (b : LogAndRows) (start : Start b) (day slot i : ℕ) (at : intervalOf 
       ∙ ap₂ (λ (c : Cell) (rows : List Row). cameFirst c ++ rows) gap (rows-are q r f g))
       ∙ ap Good (first-measured q r z)
 
+  -- the claim that two different replies do make a difference
   pub differ : (q r : Row) → RowFits q → RowFits r → isZero q ≡ false → isZero r ≡ false → (q ≡ r → ⊥)
       → Reordered (asksOf (start .header) (reading q ∷ reading r ∷ [])) (asksOf (start .header) (reading r ∷ reading q ∷ []))
       × (ran b (callsOf (reading q ∷ reading r ∷ [])) .left .log ≡ ran b (callsOf (reading r ∷ reading q ∷ [])) .left .log → ⊥)

@@ -18,6 +18,7 @@ use Rattle.logger.specs.declared.held.OpenAsk.the-variants.{Closed, Open}
 use Rattle.polling_order.specs.Completed.{lapsed, Completed, endedAt, endingOf, completedBy, completed}
 use Rattle.polling_order.specs.Rounds.{Closing, lapses, answers, Round, closingCall, repliesThen, callsOf, AllMalformed, Closes, Completes, AllComplete, endingBy, asksOf}
 
+-- a book by its three parts
 abbrev pub book : OpenAsk → (ℕ → List Row) → (ℕ → ℕ) → Book
 book held kept counts = record { held = held; kept = kept; lapses = counts }
 
@@ -57,6 +58,7 @@ closes h kept counts a d t (answers y) calls ds c k =
     (ap (λ (l : List Completed). endedAt (placeOf h d t) (endingOf y) ∷ l)
     (by-ok (λ (e : Outcome Answer Book). completed h (e .left) calls ≡ ds) (resultOf y) (λ n. k kept counts) (λ n. k _ counts)))
 
+-- the calls of a list complete its asks, whatever the book held before
 pub completes-all : (h : Header) (rs : List Round) → AllComplete h rs → Behind h (callsOf rs) (asksOf h rs)
 unfolding completed
 completes-all h [] c kept counts = refl
@@ -77,6 +79,7 @@ closing-bytes : (a : ℕ) (x : Closing) (calls : List Call) → Closes a x → A
 closing-bytes a lapses calls c l = (tt, l)
 closing-bytes a (answers y) calls c l = (c .0, l)
 
+-- the calls of a list carry bytes, which the laws of histories ask for
 pub calls-bytes : (h : Header) (rs : List Round) → AllComplete h rs → AllBytes (callsOf rs)
 calls-bytes h [] c = tt
 calls-bytes h (r ∷ rs) c =

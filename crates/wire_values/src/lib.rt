@@ -32,7 +32,6 @@ pub use power::put_phases;
 pub use power::put_power;
 pub use power::put_powers;
 pub use row::Row;
-pub use row::put_row;
 pub use row::row_at;
 pub use row::row_of;
 pub use telemetry::Telemetry;
