@@ -7,7 +7,7 @@ use lib.ListN.{length}
 use Rattle.refusal.specs.Outcome.{Outcome, outcome}
 use Rattle.byte_numbers.specs.Place.{byteAt}
 use Rattle.log.specs.Pair.{pairOf}
-use Rattle.log.specs.View.{View, viewOf}
+use Rattle.log.specs.View.{viewOf}
 use Rattle.day_rows.specs.LogAndRows.{LogAndRows, logAndRows}
 use Rattle.day_rows.specs.Rows.{rowAt, Right}
 use Rattle.logger.specs.Ask as ask-of

@@ -1,12 +1,11 @@
 -- What a thrown away reply is told: the length of an answer is that of the form, whose laws stand in `reader`.
 use mathlib.Core.Path.{_≡_, refl, sym, ap, _∙_}
-use mathlib.Core.Bool.{Bool, true, false, cond, false≢true}
+use mathlib.Core.Bool.{Bool, true, false, false≢true}
 use mathlib.Core.List.{List}
 use Prim.Native.Nat.{ℕ, _+_}
 use lib.Dec.{eqb}
 use lib.ListN.{length}
 use Rattle.test_laws.proofs.Test.{either}
-use Rattle.byte_numbers.specs.Place.{byteAt}
 use Rattle.parameters.specs.declared.code.Parameter.{Parameter}
 use Rattle.parameters.specs.declared.code.Parameter.the-variants as parameter
 use Rattle.parameters.specs.declared.code.Reading.{Reading}
@@ -29,8 +28,7 @@ use Rattle.reader.specs.Rows.{replyData}
 use Rattle.reader.specs.Reply.{powersFigure, powerFigure, energiesFigure, phaseFigures, readFigures, readAs, figuresOf, decodedOf}
 use Rattle.reader.specs.declared.form.Fault.{Fault}
 use Rattle.reader.specs.declared.form.Fault.the-variants as fault
-use Rattle.reader.specs.declared.form.Form.{Form}
-use Rattle.reader.specs.declared.form.Form.the-variants.{WellFormed, Faulty}
+use Rattle.reader.specs.declared.form.Form.the-variants.{Faulty}
 use Rattle.reader.specs.declared.reply.Decoded.{Decoded}
 use Rattle.reader.specs.declared.reply.Decoded.the-variants as decoded
 use Rattle.reader.proofs.FormLaws.{length-told, by-reply}

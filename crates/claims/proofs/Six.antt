@@ -1,6 +1,6 @@
 -- Demand 2, the six rows of parameter 40: what the reader takes from the meter's data are the store's six slices.
 use mathlib.Core.Path.{_≡_, sym, ap, _∙_}
-use mathlib.Core.List.{List, [], _∷_, _++_, append-assoc}
+use mathlib.Core.List.{List, _++_, append-assoc}
 use Prim.Native.Nat.{ℕ, _+_}
 use native.Mathlib.Nat.{add-assoc}
 use Rattle.byte_numbers.specs.Number.{Bytes}

@@ -1,13 +1,12 @@
 // The bench meter on a serial line: it is made by a script of the console's lines, and then answers the frames that come in. What is
 // right is decided in the libraries.
+mod bench;
 mod help;
 mod line;
-mod mercury_line;
 mod say;
 mod script;
 
-use mercury_bench::Meter;
-use meter_record::Record;
+use bench::Bench;
 use script::Ready;
 use text::NumberAnswer;
 
@@ -57,13 +56,12 @@ fn made(count: u64) {
     let mut path = io::buffer();
     let n = os::arg(SCRIPT, &mut path);
     match script::made_by(&path[..n], &mut store) {
-        Ready::Meter(record) => opened(count, &mut store, record),
-        Ready::Mercury(m) => opened_as_mercury(count, m),
+        Ready::Made(bench) => opened(count, &mut store, bench),
         Ready::Stopped => {}
     }
 }
 
-fn opened(count: u64, store: &mut [u8], record: Record) {
+fn opened(count: u64, store: &mut [u8], bench: Bench) {
     let mut path = io::buffer();
     let n = os::arg(DEVICE, &mut path);
     let fd = os::open_update(&path[..n]);
@@ -71,20 +69,7 @@ fn opened(count: u64, store: &mut [u8], record: Record) {
         say::failed(&path[..n]);
         return;
     }
-    say::waiting(&path[..n], record.address);
-    line::serve(fd, count, &path[..n], store, record);
-    libc::close(fd);
-}
-
-fn opened_as_mercury(count: u64, m: Meter) {
-    let mut path = io::buffer();
-    let n = os::arg(DEVICE, &mut path);
-    let fd = os::open_update(&path[..n]);
-    if fd < 0 {
-        say::failed(&path[..n]);
-        return;
-    }
-    say::waiting_as_mercury(&path[..n], m.address);
-    mercury_line::serve(fd, count, &path[..n], m);
+    say::waiting(&path[..n], bench);
+    line::serve(fd, count, &path[..n], store, bench);
     libc::close(fd);
 }

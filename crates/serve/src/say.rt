@@ -1,4 +1,5 @@
 // Messages, on standard error, by the program's name.
+use crate::bench::Bench;
 use libc::STDERR_FILENO;
 
 // A file or the device failed, and why, by errno.
@@ -12,15 +13,17 @@ pub fn wrong_count() {
 }
 
 // What it waits for.
-pub fn waiting(device: &[u8], address: u8) {
-    put(b"serve: answering as meter ");
-    io::print_decimal(STDERR_FILENO, address as u64);
-    on(device);
-}
-
-pub fn waiting_as_mercury(device: &[u8], address: u32) {
-    put(b"serve: answering as Mercury 206 ");
-    io::print_decimal(STDERR_FILENO, address as u64);
+pub fn waiting(device: &[u8], bench: Bench) {
+    match bench {
+        Bench::Meter(record) => {
+            put(b"serve: answering as meter ");
+            io::print_decimal(STDERR_FILENO, record.address as u64);
+        }
+        Bench::Mercury(m) => {
+            put(b"serve: answering as Mercury 206 ");
+            io::print_decimal(STDERR_FILENO, m.address as u64);
+        }
+    }
     on(device);
 }
 

@@ -1,4 +1,5 @@
 // The script: the console's lines that make the meter.
+use crate::bench::Bench;
 use crate::say;
 use console_io::Rest;
 use console_meter::Answer;
@@ -9,9 +10,7 @@ use meter_record::Record;
 use meter_record::RecordAnswer;
 
 pub enum Ready {
-    Meter(Record),
-    // The script says `mercury`.
-    Mercury(Meter),
+    Made(Bench),
     // And it was said why.
     Stopped,
 }
@@ -94,12 +93,13 @@ fn walk(
     Ready::Stopped
 }
 
+// A script that says `mercury` makes that one.
 fn ready_of(made: Made) -> Ready {
     let record = made.record;
     let second = made.second;
     match second {
-        Second::Mercury(m) => Ready::Mercury(m),
-        Second::None => Ready::Meter(record),
+        Second::Mercury(m) => Ready::Made(Bench::Mercury(m)),
+        Second::None => Ready::Made(Bench::Meter(record)),
     }
 }
 

@@ -1,44 +1,44 @@
--- `answer` meets its contract: record and store are those of the meter's answer to one frame.
-use Rattle.console_meter.proofs.ServedLaws.{answers}
+-- `answer` meets its contract: each meter goes on by its own turn; a Mercury 206 and the store stay.
+use Rattle.serve.specs.Served.{GoesOn}
+use mathlib.Core.Path.{refl}
 use borrow.Author.Needs.{needs}
 use Rattle.serve.proofs.line.answer.Statement.{statement}
 use Rattle.serve.proofs.line.answer.Tie as tie
 
-slice-aggregate-answer : tie.Need-slice-aggregate-answer
-slice-aggregate-answer c = search needs
+enum-known-bench : tie.Need-enum-known-bench
+enum-known-bench c = search needs
 
-answer-requires : tie.Need-answer-requires
-answer-requires c κs = search needs
+by-meter-requires : tie.Need-by-meter-requires
+by-meter-requires c κs = search needs
 
-next-requires : tie.Need-next-requires
-next-requires c κs = search needs
+enum-known-bench-2 : tie.Need-enum-known-bench-2
+enum-known-bench-2 c = search needs
 
-slice-aggregate-part : tie.Need-slice-aggregate-part
-slice-aggregate-part c = search needs
-
-part-requires : tie.Need-part-requires
-part-requires c κs = search needs
-
-replied-requires : tie.Need-replied-requires
-replied-requires c κs = search needs
+by-mercury-requires : tie.Need-by-mercury-requires
+by-mercury-requires c κs = search needs
 
 same-length : tie.Need-same-length
 same-length c = search needs
 
 returns : tie.Need-returns
 returns c =
-    let at-answer = c .before .before .before .before .before .before .before .before .answer in
-    answers _ _ _ _ _ _ (at-answer .ensures)
+    let at-bench = c .before .before .before .before .before .bench in
+    rw (at-bench .given .1) (c .before .before .by-meter .ensures)
+
+returns-2 : tie.Need-returns-2
+unfolding GoesOn
+returns-2 c =
+    let at-bench = c .before .before .bench2 in
+    rw (at-bench .given .1, c .by-mercury .ensures) (refl, refl)
 
 pub answer-spec : {M : Type 1} → statement M
 answer-spec =
     tie.close
     (tie.spec
-    slice-aggregate-answer
-    answer-requires
-    next-requires
-    slice-aggregate-part
-    part-requires
-    replied-requires
+    enum-known-bench
+    by-meter-requires
+    enum-known-bench-2
+    by-mercury-requires
     same-length
-    returns)
+    returns
+    returns-2)

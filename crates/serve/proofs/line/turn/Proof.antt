@@ -1,5 +1,5 @@
--- `turn` meets its contract: the seconds since the last look come first, and then the frame; where nothing was read, the meter stays.
-use Rattle.console_meter.proofs.ServedLaws.{stays, after-seconds}
+-- `turn` meets its contract: where nothing was read, the meter stays; else its answer is the turn.
+use Rattle.serve.proofs.BenchLaws.{same}
 use borrow.Author.Needs.{needs}
 use Rattle.serve.proofs.line.turn.Statement.{statement}
 use Rattle.serve.proofs.line.turn.Tie as tie
@@ -14,22 +14,13 @@ nothing-read-requires : tie.Need-nothing-read-requires
 nothing-read-requires c κs = search needs
 
 returns : tie.Need-returns
-returns c = stays _
+returns c = same _ _
 
 slice-aggregate-count : tie.Need-slice-aggregate-count
 slice-aggregate-count c = search needs
 
 count-requires : tie.Need-count-requires
 count-requires c κs = search needs
-
-seconds-requires : tie.Need-seconds-requires
-seconds-requires c κs = search needs
-
-seconds-between-requires : tie.Need-seconds-between-requires
-seconds-between-requires c κs = search needs
-
-seconds-later-requires : tie.Need-seconds-later-requires
-seconds-later-requires c κs = search needs
 
 array-share-prefix-frame : tie.Need-array-share-prefix-frame
 array-share-prefix-frame c = search needs
@@ -44,9 +35,7 @@ same-length : tie.Need-same-length
 same-length c = search needs
 
 returns-2 : tie.Need-returns-2
-returns-2 c =
-    let at-seconds-later = c .before .before .before .before .before .seconds-later in
-    after-seconds _ _ _ _ _ (at-seconds-later .ensures) (c .before .before .answer .ensures)
+returns-2 c = search needs
 
 pub turn-spec : {M : Type 1} → statement M
 turn-spec =
@@ -58,9 +47,6 @@ turn-spec =
     returns
     slice-aggregate-count
     count-requires
-    seconds-requires
-    seconds-between-requires
-    seconds-later-requires
     array-share-prefix-frame
     slice-aggregate-answer
     answer-requires
