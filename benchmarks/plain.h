@@ -52,6 +52,9 @@ uint8_t c_log_fresh(uint8_t *log, size_t room, uint32_t *figures, size_t numbers
                     uint8_t minutes, uint16_t ke, uint8_t seasons, size_t *length);
 uint8_t c_cell(const uint8_t *log, size_t n, uint8_t day, uint8_t slot, uint8_t *kind, uint16_t *counts, uint8_t *lapses);
 uint8_t c_lapse(uint8_t *log, size_t n, uint8_t *ask, size_t size);
+uint8_t c_ask(c_crc *crc, const uint8_t *log, size_t n, uint8_t *ask, size_t size, uint8_t address, uint8_t day, uint8_t slot, uint8_t *out,
+              size_t room);
+uint8_t c_next_gap(const uint8_t *log, size_t n, uint8_t day, uint8_t from, uint8_t *slot);
 
 // A day's report by its row of the figures, and by a walk over its cells without them.
 uint8_t c_day_report(const uint8_t *log, size_t n, const uint32_t *figures, size_t numbers, uint8_t day, uint32_t *row, size_t room);

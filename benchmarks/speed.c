@@ -488,6 +488,33 @@ static void same_cell(size_t n, unsigned day, unsigned slot)
     refused += x != 0;
 }
 
+// An ask for a slot, with one open and with none.
+static void same_ask(size_t n, const uint8_t *open, size_t size, unsigned day, unsigned slot, size_t room)
+{
+    uint8_t a[5], b[5], ours[9], c[9];
+    memcpy(a, open, sizeof a);
+    memcpy(b, open, sizeof b);
+    memset(ours, 0xEE, sizeof ours);
+    memset(c, 0xEE, sizeof c);
+    uint8_t x = metlazuel_ask(image, n, a, size, 7, (uint8_t)day, (uint8_t)slot, ours, room);
+    uint8_t y = c_ask(c_crc_fold, image, n, b, size, 7, (uint8_t)day, (uint8_t)slot, c, room);
+    if (x != y || memcmp(a, b, sizeof a) != 0 || memcmp(ours, c, sizeof c) != 0)
+        differ("ask");
+    compared++;
+    refused += x != 0;
+}
+
+// The first gap of a day from a slot on.
+static void same_gap(size_t n, unsigned day, unsigned from)
+{
+    uint8_t ours = 7, c = 7;
+    uint8_t x = metlazuel_next_gap(image, n, (uint8_t)day, (uint8_t)from, &ours), y = c_next_gap(image, n, (uint8_t)day, (uint8_t)from, &c);
+    if (x != y || ours != c)
+        differ("next gap");
+    compared++;
+    refused += x != 0;
+}
+
 // Each value of each byte of the ask, of a cell's lapses and of the byte with its kind, and other lengths.
 static void compare_lapses(void)
 {
@@ -519,16 +546,28 @@ static void compare_lapses(void)
     }
 }
 
-// Every cell, and days, slots and lengths that the log does not have.
+// Every cell, and days, slots and lengths that the log does not have; asks for them, and the gaps from them on.
 static void compare_cells(void)
 {
+    static const uint8_t none[5] = {0, 9, 9, 9, 0x55}, open[5] = {1, 1, 30, 7, 0x55}, other[5] = {2};
     for (unsigned day = 0; day < 256; day++)
-        for (unsigned slot = 0; slot < 256; slot++)
+        for (unsigned slot = 0; slot < 256; slot++) {
             same_cell(IMAGE, day, slot);
+            same_ask(IMAGE, none, 4, day, slot, 8);
+            same_gap(IMAGE, day, slot);
+        }
     for (size_t n = 0; n < 20; n++) {
         same_cell(n, 30, 7);
         same_cell(IMAGE + 1 - n, 30, 7);
+        same_ask(IMAGE + 1 - n, none, 4, 30, 7, 8);
+        same_gap(IMAGE + 1 - n, 30, 7);
     }
+    for (size_t size = 3; size < 6; size++)
+        for (size_t room = 7; room < 10; room++) {
+            same_ask(IMAGE, none, size, 30, 7, room);
+            same_ask(IMAGE, open, size, 30, 7, room);
+            same_ask(IMAGE, other, size, 30, 7, room);
+        }
 }
 
 // All that goes by one cell of the image, with a reply with counts, one without, and the cell's own counts.
