@@ -1,5 +1,6 @@
-// The functions of target/staticlib/libmetlazuel.a (crates/metlazuel), as C and C++ see them; tests/c/example.c uses them all. The archive
-// is for Linux on x86-64, as the Rattle kit's compiler is; it calls memcpy and memset and nothing else.
+// The functions of libmetlazuel.a (crates/metlazuel), as C and C++ see them; tests/c/example.c uses them all. target/staticlib has the archive for Linux on
+// x86-64, as the Rattle kit's compiler is, and target/MACHINE, by tools/build-for, those for other machines. It calls memcpy and memset, and where the
+// processor lacks some arithmetic the compiler's own functions for it, and nothing else.
 //
 // A slice is a pointer and its length. What a caller owes is what C always asks: memory as long as it says, aligned for its type, and no
 // lent memory that overlaps another argument. No pointer is null, not even where its length is 0. Everything else is refused by a number:
