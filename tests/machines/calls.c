@@ -475,23 +475,32 @@ static void reads(void)
     fold_row(row, METLAZUEL_FIGURES + 4);
 }
 
-// A change, a zeroing, an unlocking or anything else, with the factory's password or other bytes.
+// The factory's password, which opens every change and zeroing.
+static void unlock(void)
+{
+    static const uint8_t head[4] = {METER, METLAZUEL_FUNCTION_UNLOCK, 0, 0};
+    fresh(&frame);
+    memcpy(frame.at, head, sizeof head);
+    memset(frame.at + 4, '0', UNLOCK_BYTES);
+    seal(frame.at, 4 + UNLOCK_BYTES + 2);
+    exchange(4 + UNLOCK_BYTES + 2);
+}
+
+// A change, a zeroing, a locking or anything else, of a length that fits or does not.
 static void command(void)
 {
-    static const uint8_t functions[] = {16, 16, 30, 31, 31, 32, 3, 4}, parameters[] = {0, 21, 24, 27, 28, 32, 35, 36, 37}, lengths[] = {0, 1, 2, 4, 6, 7, 8, 8, 9, 10, 12};
-    metlazuel_size bytes = 4 + lengths[roll(sizeof lengths)];
+    static const uint8_t functions[] = {16, 16, 16, 30, 30, 31, 32, 3, 4}, parameters[] = {0, 21, 24, 27, 28, 32, 35, 36, 37};
+    static const uint8_t lengths[] = {0, 1, 2, 4, 6, 7, 8, 8, 9, 10, 12};
+    if (seldom(2))
+        unlock();
     fresh(&frame);
     frame.at[0] = (uint8_t)(seldom(5) ? roll(3) : METER);
     frame.at[1] = seldom(20) ? byte() : functions[roll(sizeof functions)];
     frame.at[2] = seldom(20) ? byte() : parameters[roll(sizeof parameters)];
     frame.at[3] = (uint8_t)(seldom(10) ? roll(4) : 0);
+    metlazuel_size bytes = 4u + (frame.at[1] == METLAZUEL_FUNCTION_ZERO && seldom(2) ? 0u : lengths[roll(sizeof lengths)]);
     for (metlazuel_size i = 4; i < bytes; i++)
         frame.at[i] = (uint8_t)(seldom(2) ? roll(13) : '0');
-    if (frame.at[1] == METLAZUEL_FUNCTION_UNLOCK && !seldom(3)) {
-        bytes = 4 + UNLOCK_BYTES;
-        frame.at[2] = 0;
-        memset(frame.at + 4, '0', UNLOCK_BYTES);
-    }
     seal(frame.at, bytes + 2);
     exchange(bytes + 2);
 }
