@@ -505,10 +505,14 @@ static void command(void)
     exchange(bytes + 2);
 }
 
+// A figure of so many at most: any, or at times the most or one above it.
+static uint32_t figure_to(int k, uint32_t most) { return dice[k] % 16 == 0 ? most + (dice[k] >> 16 & 1) : die(k, most + 1); }
+
 static void mercury(void)
 {
     static const uint8_t commands[] = {METLAZUEL_MERCURY_TARIFFS, METLAZUEL_MERCURY_LOAD, METLAZUEL_MERCURY_FREQUENCY};
-    uint32_t address = roll(0xFFFFFFFF), tariff = seldom(20) ? 0xFFFFFFFF : 120000000;
+    enum { EIGHT_DIGITS = 99999999, SIX_DIGITS = 999999, FOUR_DIGITS = 9999 };
+    uint32_t address = roll(0xFFFFFFFF);
     uint8_t order = seldom(10) ? byte() : commands[roll(sizeof commands)], got;
     fresh(&frame);
     throw_dice();
@@ -519,9 +523,9 @@ static void mercury(void)
     fresh(&reply);
     metlazuel_size bytes = damaged(&frame, METLAZUEL_MERCURY_REQUEST_BYTES, 10);
     throw_dice();
-    got = metlazuel_mercury_answer(address, die(0, tariff), die(1, tariff), die(2, tariff), die(3, 99999999), (uint16_t)die(4, 10100), (uint16_t)die(5, 10100),
-                                   die(6, 1100000), (uint16_t)die(7, 10100), rest.at, near(8, METLAZUEL_MERCURY_REST, 4), frame.at, bytes, reply.at,
-                                   near(9, METLAZUEL_FRAME_BYTES, 20), &length);
+    got = metlazuel_mercury_answer(address, figure_to(0, EIGHT_DIGITS), figure_to(1, EIGHT_DIGITS), figure_to(2, EIGHT_DIGITS), figure_to(3, EIGHT_DIGITS),
+                                   (uint16_t)figure_to(4, FOUR_DIGITS), (uint16_t)figure_to(5, FOUR_DIGITS), figure_to(6, SIX_DIGITS), (uint16_t)figure_to(7, FOUR_DIGITS),
+                                   rest.at, near(8, METLAZUEL_MERCURY_REST, 4), frame.at, bytes, reply.at, near(9, METLAZUEL_FRAME_BYTES, 20), &length);
     bytes = got == METLAZUEL_DONE ? length : roll(30);
     answered("mercury_answer", got);
     left(&reply, reply.room);
