@@ -18,6 +18,7 @@ unfoldable pub run : List ℕ → ℕ → ℕ → List ℕ
 run s i zero = []
 run s i (suc n) = byteAt s i ∷ run s (suc i) n
 
+-- a part that is all there, listed byte by byte: for a header and a cell, whose bytes are told one by one
 pub take-run : (n i : ℕ) (s : List ℕ) → i + n ≤ length s → take n (drop i s) ≡ run s i n
 unfolding run
 take-run zero i s h = refl
@@ -28,9 +29,11 @@ take-run (suc n) i s h =
 pub two : (s : List ℕ) (i : ℕ) → numberAt s i 2 ≡ byteAt s (i + 1) * 256 + byteAt s i
 two s i = numberAt-split s i 1 1 ∙ simp numberAt-one
 
+-- the lower byte of such a number
 pub low : (s : List ℕ) → Bytes s → (i : ℕ) → byteAt s i ≡ numberAt s i 2 % 256
 low s h i = omega (arith, two s i, h i, h (i + 1))
 
+-- the upper byte of such a number
 pub high : (s : List ℕ) → Bytes s → (i : ℕ) → byteAt s (i + 1) ≡ numberAt s i 2 / 256 % 256
 high s h i = omega (arith, two s i, h i, h (i + 1))
 
@@ -38,6 +41,7 @@ high s h i = omega (arith, two s i, h i, h (i + 1))
 pub low-of : (s : List ℕ) (i n : ℕ) → Bytes s → numberAt s i 2 ≡ n → byteAt s i ≡ n % 256
 low-of s i n h e = low s h i ∙ ap (λ (x : ℕ). x % 256) e
 
+-- and so its upper byte
 pub high-of : (s : List ℕ) (i n : ℕ) → Bytes s → numberAt s i 2 ≡ n → byteAt s (i + 1) ≡ n / 256 % 256
 high-of s i n h e = high s h i ∙ ap (λ (x : ℕ). x / 256 % 256) e
 
@@ -45,10 +49,12 @@ high-of s i n h e = high s h i ∙ ap (λ (x : ℕ). x / 256 % 256) e
 pub bytes-nil : Bytes []
 bytes-nil i = zero-lt-suc 255
 
+-- a byte before bytes
 pub bytes-cons : (x : ℕ) (xs : List ℕ) → x < 256 → Bytes xs → Bytes (x ∷ xs)
 bytes-cons x xs h k zero = h
 bytes-cons x xs h k (suc i) = k i
 
+-- two runs of bytes put together
 pub bytes-append : (xs ys : List ℕ) → Bytes xs → Bytes ys → Bytes (xs ++ ys)
 bytes-append [] ys h k i = k i
 bytes-append (x ∷ xs) ys h k zero = h 0

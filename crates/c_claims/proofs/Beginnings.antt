@@ -39,6 +39,7 @@ use Rattle.metlazuel.specs.LogCalls.{headerFrom, imageLength, lengthAfter}
 use Rattle.c_claims.specs.Demand3.{Lent}
 use Rattle.c_claims.specs.Beginnings.{freshForC, readForC, lentAfter, BeginsAs, BeginsFrom}
 
+-- `beginnings`, "with no ask open": four zero bytes are read as no ask
 pub none-open : askOf (0 ∷ 0 ∷ 0 ∷ 0 ∷ []) ≡ Read Closed
 unfolding askOf
 none-open = refl
@@ -89,6 +90,7 @@ fresh-done (fresh-answer.Done n) word e = refl
 fresh-done fresh-answer.OutOfRange word e = absurd (omega (arith, e))
 fresh-done fresh-answer.TooShort word e = absurd (omega (arith, e))
 
+-- `beginnings`: a fresh log that C was told is made is a start, of the header that its numbers are, all gaps and without lapses
 pub fresh : (year month day days minutes ke seasons : ℕ) (log figs : List ℕ) (word : ℕ) (bs : List ℕ) (result size : ℕ) → askOf bs ≡ Read Closed
     → let h = headerFrom year month day days minutes ke seasons in let o = freshForC h log figs word in
     o .result ≡ 0 → BeginsAs (lentAfter o bs result size) h (gaps (cellsOf h)) noLapses
@@ -100,6 +102,7 @@ fresh year month day days minutes ke seasons log figs word bs result size closed
     let a = fresh-made h log figs (o .left) n (ap (λ (r : FreshAnswer). outcome r (o .left)) (fresh-done (o .result) word z)) in
     begins-as _ h (gaps (cellsOf h)) noLapses (all-gaps h (a .header)) (a .image) (a .right) closed
 
+-- `beginnings`: with the room for it a fresh log of every right header is made, and its length is told
 pub fresh-had : (year month day days minutes ke seasons : ℕ) (log figs : List ℕ) (word : ℕ)
     → let h = headerFrom year month day days minutes ke seasons in let o = freshForC h log figs word in
     isHeader h ≡ true → lengthOf h ≤ length log → figuresOf h ≤ length figs → (o .result ≡ 0) × (o .left .0 ≡ lengthOf h)
@@ -120,6 +123,7 @@ read-done read-answer.WrongCrc word e = absurd (omega (arith, e))
 read-done read-answer.WrongCell word e = absurd (omega (arith, e))
 read-done read-answer.TooShort word e = absurd (omega (arith, e))
 
+-- `beginnings`: a log that C was told is read is a start, with the header, cells and lapses that stand in the file
 pub file : (f log figs : List ℕ) (word : ℕ) (bs : List ℕ) (result size : ℕ) → Bytes f → askOf bs ≡ Read Closed → let o = readForC f log figs word in
     o .result ≡ 0 → BeginsFrom f (lentAfter o bs result size)
 file f log figs word bs result size bytes closed z =
@@ -136,6 +140,7 @@ file f log figs word bs result size bytes closed z =
       begins = begins-as _ (a .header) (a .cells) (a .lapses) (a .whole) (image-front f log figs (o .left .log) (o .left .figures) n a) (a .right) closed;
     }
 
+-- `beginnings`: with the room for it the file of every start is read, and gives that log
 pub file-had : (b : LogAndRows) (start : Start b) (log figs : List ℕ) (word : ℕ)
     → let h = start .header in let o = readForC (fileBytes h (start .cells) (start .lapses)) log figs word in
     length (b .log) ≤ length log → figuresOf h ≤ length figs → (o .result ≡ 0) × (take (o .left .0) (o .left .1 .log) ≡ b .log)

@@ -111,24 +111,29 @@ pub length-kept : (a : ReadAnswer) (n : ℕ) → (readNumber a ≡ 0 → ⊥) �
 unfolding lengthAfter
 length-kept a n r = read-refused a n (λ k. k) r
 
+-- demand 1 of `metlazuel_log_fresh`: a refused one leaves the length, the log and the figures
 pub log-fresh : (year month day days minutes ke seasons : ℕ) (log figs : List ℕ) (n : ℕ)
     → EndsForC (n, logAndRows log figs) (sized freshNumber imageLength (freshWith (headerFrom year month day days minutes ke seasons) log figs) n)
 log-fresh year month day days minutes ke seasons log figs n =
     let h = headerFrom year month day days minutes ke seasons in
     sized-ends freshNumber imageLength image-kept (freshWith h log figs) (logAndRows log figs) n (claims.demand-1 .fresh-log h log figs)
 
+-- demand 1 of `metlazuel_day_report`: a refused one leaves the row
 pub day-report : (lent : LogHeader) (figs : List ℕ) (day : ℕ) (row : List ℕ) → EndsForC row (numbered reportNumber (reportOf lent figs day row))
 day-report lent figs day row = claims.demand-1 .day-report lent figs day row
 
+-- demand 1 of `metlazuel_write_file`: a refused one leaves the length and the lent output
 pub write-file : (v : View) (out : List ℕ) (n : ℕ) → EndsForC (n, out) (sized writeNumber fileLength (writtenFile v out) n)
 write-file v out n = sized-ends writeNumber fileLength file-kept (writtenFile v out) out n (claims.demand-1 .write-file v out)
 
+-- demand 1 of `metlazuel_read_file`: a refused one leaves the length, the lent log and the figures
 pub read-file : (f out figs : List ℕ) (n : ℕ) → EndsForC (n, logAndRows out figs) (sized readNumber lengthAfter (readFile f out figs) n)
 read-file f out figs n =
     sized-ends readNumber lengthAfter length-kept (readFile f out figs) (logAndRows out figs) n (claims.demand-1 .read-file f out figs)
 
 -- ---- single cells
 
+-- demand 1 of `metlazuel_cell`: a refused one leaves kind, counts and lapses
 pub cell : (v : View) (day slot kind : ℕ) (counts : List ℕ) (lapses : ℕ) → EndsForC (kind, counts, lapses) (cellForC v day slot kind counts lapses)
 unfolding cellForC inTable
 cell v day slot kind counts lapses =
@@ -137,6 +142,7 @@ cell v day slot kind counts lapses =
     by-at (EndsForC before) (intervalOf h day slot) (λ n. stays 22 before refl) (λ i n.
     by-good (EndsForC before) (v .cell i) (λ b. stays 28 before refl) (λ c g. done before _)))
 
+-- demand 1 of `metlazuel_next_gap`: a refused one leaves the slot
 pub next-gap : (v : View) (day from slot : ℕ) → EndsForC slot (nextGapForC v day from slot)
 unfolding nextGapForC inTable
 next-gap v day from slot =
@@ -156,6 +162,7 @@ ask-read (Read held) v bs address day slot out =
     }
 ask-read Unreadable v bs address day slot out = unread (length out) readSize (bs, out)
 
+-- demand 1 of `metlazuel_ask`: a refused one leaves the ask's bytes and the output
 pub ask : (v : View) (bs : List ℕ) (address day slot : ℕ) (out : List ℕ) → EndsForC (bs, out) (askForC (askOf bs) v bs address day slot out)
 ask v bs address day slot out = ask-read (askOf bs) v bs address day slot out
 
@@ -170,9 +177,11 @@ lapse-read (Read held) log bs =
     }
 lapse-read Unreadable log bs = stays 28 (log, bs) refl
 
+-- demand 1 of `metlazuel_lapse`: a refused one leaves the log and the ask's bytes
 pub lapse : (log bs : List ℕ) → EndsForC (log, bs) (lapseForC (askOf bs) log bs)
 lapse log bs = lapse-read (askOf bs) log bs
 
+-- demand 1 of `metlazuel_lapse`, "with nothing open a lapse does nothing and answers 0", over any log
 pub lapse-none : (log bs : List ℕ) → askOf bs ≡ Read Closed → lapseForC (askOf bs) log bs ≡ outcome 0 (log, bs)
 unfolding lapseForC askLeft lapse-of.lapsed lapse-of.lapsing applied
 lapse-none log bs e = rw e
@@ -187,6 +196,7 @@ take-read (Read held) b bs reply result size =
     record { in-table = e .in-table; unchanged = λ n. rw (e .unchanged n, g .result-is, g .length-is, g .ask-is) refl }
 take-read Unreadable b bs reply result size = record { in-table = refl; unchanged = λ n. refl }
 
+-- demand 1 of `metlazuel_take`: a refused one keeps log and figures, 24 and 25 close the ask, 24 gives the result and 50 the length
 pub take : (b : LogAndRows) (bs reply : List ℕ) (result size : ℕ) → let o = takeForC (askOf bs) b bs reply result size in let n = o .result in
     Ends {A = ℕ × ℕ × LogAndRows × List ℕ} n
     (resultAfter n reply result, receivedAfter n reply size, b, cond (closesAsk n) (written bs 0 (askBytes Closed)) bs) (o .left)
@@ -198,12 +208,14 @@ unfolding takeForC receivedAfter
 read-length (Read held) b bs reply result size = taken-given held reply bs result size b .length-is
 read-length Unreadable b bs reply result size = refl
 
+-- demand 1 of `metlazuel_take`: 50 alone gives the length received, and every other answer leaves the lent one
 pub take-length : (b : LogAndRows) (bs reply : List ℕ) (result size : ℕ) → let o = takeForC (askOf bs) b bs reply result size in
     o .left .1 ≡ receivedAfter (o .result) reply size
 take-length b bs reply result size = read-length (askOf bs) b bs reply result size
 
 -- ---- requests, and replies decoded
 
+-- demand 1 of `metlazuel_request` and `metlazuel_request4`: a refused one leaves the output
 pub request : (reading : Reading) (address parameter offset tariff detail : ℕ) (out : List ℕ)
     → EndsForC out (numbered request-of.numberOf (request-of.requested (requestFrom reading address parameter offset tariff detail) out))
 request reading address parameter offset tariff detail out =
@@ -233,12 +245,14 @@ module _ (q : Request) (reply row : List ℕ) (count result size : ℕ) where
   unfolding countAfter
   decoded-ends d = record { in-table = claims.demand-1 .decode d; unchanged = λ n. rw (ne-eqb _ _ n, row-kept d reply row n) }
 
+  -- demand 1 of `metlazuel_decode` and `metlazuel_decode4`: a refused one leaves count and row, and gives result or length by its number
   pub decode : Told (decodeForC q reply row count result size)
   unfolding decodeForC resultAfter receivedAfter inTable
   decode =
       either Told (ltb (length row) (figuresFor (subjectOf q mostSlots))) (record { in-table = refl; unchanged = λ n. refl })
       (decoded-ends (reader.decodedOf q reply))
 
+  -- demand 1 of `metlazuel_decode` and `metlazuel_decode4`: 50 alone gives the length received
   pub decode-length : let o = decodeForC q reply row count result size in o .left .2 ≡ receivedAfter (o .result) reply size
   unfolding decodeForC receivedAfter
   decode-length =
@@ -256,6 +270,7 @@ bytes-kept given.Unsound bs n = refl
 bench : (a : RecordAnswer) (bs : List ℕ) → EndsForC bs (benchForC a bs)
 bench a bs = record { in-table = claims.demand-1 .record-given a; unchanged = bytes-kept a bs }
 
+-- demand 1 of `metlazuel_meter_make`: a refused one leaves the record's bytes
 pub meter-make : (address minutes k ke reserve year month day hour minute second season : ℕ) (bs : List ℕ)
     → EndsForC bs (makeForC (madeIn address minutes (telemetryFrom k ke reserve) (clockFrom year month day hour minute second) season) bs)
 unfolding makeForC inTable
@@ -263,12 +278,15 @@ meter-make address minutes k ke reserve year month day hour minute second season
     let a = madeIn address minutes (telemetryFrom k ke reserve) (clockFrom year month day hour minute second) season in
     either (EndsForC bs) (ltb (length bs) recordSize) (stays 1 bs refl) (bench a bs)
 
+-- demand 1 of `metlazuel_meter_second`: a refused one leaves the record's bytes
 pub meter-second : (bs : List ℕ) → EndsForC bs (benchForC (secondIn (recordOf bs)) bs)
 meter-second bs = bench (secondIn (recordOf bs)) bs
 
+-- demand 1 of `metlazuel_meter_powers`: a refused one leaves the record's bytes
 pub meter-powers : (bs : List ℕ) (parameter a b c : ℕ) → EndsForC bs (benchForC (powersIn (recordOf bs) parameter (phasesFrom a b c)) bs)
 meter-powers bs parameter a b c = bench (powersIn (recordOf bs) parameter (phasesFrom a b c)) bs
 
+-- demand 1 of `metlazuel_meter_ratios`: a refused one leaves the record's bytes
 pub meter-ratios : (bs : List ℕ) (ki ku : ℕ) → EndsForC bs (benchForC (ratiosIn (recordOf bs) (ratiosFrom ki ku)) bs)
 meter-ratios bs ki ku = bench (ratiosIn (recordOf bs) (ratiosFrom ki ku)) bs
 
@@ -279,6 +297,7 @@ slice-ends (of-record.Read r) bs s k counts =
     record { in-table = e .in-table; unchanged = λ n. rw (bytes-kept _ bs n, e .unchanged n) }
 slice-ends of-record.Unreadable bs s k counts = stays 28 (bs, s) refl
 
+-- demand 1 of `metlazuel_meter_slice`: a refused one leaves the record's bytes and the store
 pub meter-slice : (bs s : List ℕ) (month day number e+ e- r+ r- : ℕ)
     → EndsForC (bs, s) (putForC (sliceIn (recordOf bs) s (key month day number) (row e+ e- r+ r-)) bs)
 meter-slice bs s month day number e+ e- r+ r- = slice-ends (recordOf bs) bs s (key month day number) (row e+ e- r+ r-)
@@ -323,6 +342,7 @@ module _ (n : ℕ) (bs s f out : List ℕ) where
       }
   read-answers of-record.Unreadable = unread-answers (ltb (length out) longest)
 
+  -- demand 1 of `metlazuel_meter_answer`: a refused frame leaves record and store, and the length unless a refusal frame is sent
   pub meter-answer : Answers (answerForC (recordOf bs) n bs s f out)
   meter-answer = read-answers (recordOf bs)
 
@@ -336,6 +356,7 @@ module _ (n : ℕ) (bs s f out : List ℕ) where
       record { verdict = (answerOf r s f out) .answer .verdict; its-number = refl; output = claims.demand-1 .answer-output r s f out k }
   read-output of-record.Unreadable k = unread-output (ltb (length out) longest)
 
+  -- demand 1 of `metlazuel_meter_answer`: a refused frame leaves "the short refusal frame where the table gives one" in the output
   pub meter-output : let o = answerForC (recordOf bs) n bs s f out in (o .result ≡ 0 → ⊥) → RefusedOutput (o .result) f out (o .left .3)
   meter-output = read-output (recordOf bs)
 
@@ -358,6 +379,7 @@ module _ (r : Record) (n : ℕ) (s f out : List ℕ) where
       (λ e. absurd (omega arith)))
       (λ e. absurd (omega arith)))
 
+-- demand 1 of `metlazuel_meter_answer`: with 0 the length of the reply is told
 pub meter-length : (r : Record) (n : ℕ) (bs s f out : List ℕ) → recordOf bs ≡ of-record.Read r
     → let o = answerForC (recordOf bs) n bs s f out in o .result ≡ 0 → o .left .0 ≡ (answerOf r s f out) .answer .length
 unfolding answerForC

@@ -109,6 +109,7 @@ run-alike m s (c ∷ calls) h =
     (rest .0, ap₂ (λ (x : Answer) (xs : List Answer). x ∷ xs) (next .answer) (rest .1))
 
 module _ (m : Lent) (b : Begins m) (calls : List Call) (k : AllBytes calls) where
+  -- the log and the figures that C lends at the start
   abbrev pub first : LogAndRows
   first = logAndRows (m .log) (m .figures)
 
@@ -120,34 +121,42 @@ module _ (m : Lent) (b : Begins m) (calls : List Call) (k : AllBytes calls) wher
   pub same-both : let after = ranForC m calls .left in let s = run (begin first) calls .left in logAndRows (after .log) (after .figures) ≡ logAndRows (s .log) (s .figures)
   same-both = ap₂ logAndRows (whole .0 .log) (whole .0 .figures)
 
+  -- demand 3's `log`: "After every such list the log is byte for byte the one worked out afresh from that history"
   pub log : ranForC m calls .left .log ≡ logAfresh (b .start) calls
   log = whole .0 .log ∙ claims.demand-3 .log first (b .start) calls k
 
+  -- demand 3's `answers`: what C is told after each call is what the plain book answers
   pub answers : ranForC m calls .result ≡ booked (b .start) calls .result
   answers = whole .1 ∙ claims.demand-3 .answers first (b .start) calls k
 
+  -- demand 3's `ask-left`: the ask's bytes are read as the ask that the plain book leaves open
   pub ask-left : askOf (ranForC m calls .left .ask) ≡ Read (booked (b .start) calls .left .held)
   ask-left = whole .0 .ask ∙ ap Read (claims.demand-3 .ask-left first (b .start) calls k)
 
+  -- demand 3's `figures`: "the figures must be those that a walk over the cells gives" (CR 8)
   pub figures : let after = ranForC m calls .left in Right (b .start .header) (viewOf (after .log) .cell) (after .figures)
   figures = rw (whole .0 .log, whole .0 .figures) (claims.day-figures .kept first (b .start) calls k)
 
 -- ---- what a call leaves alone
 
+-- demand 3's `others`: a call leaves every cell but the one whose ask was open before it
 pub others : (m : Lent) (held : OpenAsk) (c : Call) (j : ℕ) → CallBytes c → askOf (m .ask) ≡ Read held → OtherCell (stateOf m held) j
     → SameCell (stepForC m c .left .log) (m .log) j
 others m held c j b e k = rw (step-alike m held c e .holds .log) (claims.demand-3 .others (stateOf m held) c j b k)
 
+-- demand 3's `elsewhere`: a call leaves every pair of the log's bits that is none of the open ask's cell (CR 9)
 pub elsewhere : (m : Lent) (held : OpenAsk) (c : Call) (q j : ℕ) → j < 4 → askOf (m .ask) ≡ Read held → Elsewhere (stateOf m held) q j
     → pairOf (byteAt (stepForC m c .left .log) q) j ≡ pairOf (byteAt (m .log) q) j
 elsewhere m held c q j l e k =
     ap (λ (s : List ℕ). pairOf (byteAt s q) j) (step-alike m held c e .holds .log) ∙ claims.demand-3 .elsewhere (stateOf m held) c q j l k
 
+-- demand 3's `other-days`: a call leaves the figures of every day but the open ask's
 pub other-days : (m : Lent) (held : OpenAsk) (c : Call) (d : ℕ) → askOf (m .ask) ≡ Read held → OtherDay (stateOf m held) d
     → rowAt (stepForC m c .left .figures) d ≡ rowAt (m .figures) d
 other-days m held c d e k =
     ap (λ (l : List ℕ). rowAt l d) (step-alike m held c e .holds .figures) ∙ claims.day-figures .other-days (stateOf m held) c d k
 
+-- demand 3's `unread`: bytes that are read as no ask leave all that is lent
 pub unread : (m : Lent) (c : Call) → askOf (m .ask) ≡ Unreadable → stepForC m c .left ≡ m
 unfolding stepForC askForC lapseForC takeForC
 unread m (ask address day slot out) e = rw e refl
@@ -162,11 +171,13 @@ by-read P m c before after = go (askOf (m .ask)) refl
     go (Read held) e = after held e
     go Unreadable e = subst P (sym (unread m c e)) before
 
+-- demand 3's `as-long`: a call leaves the log its length
 pub as-long : (m : Lent) (c : Call) → length (stepForC m c .left .log) ≡ length (m .log)
 as-long m c =
     by-read (λ (x : Lent). length (x .log) ≡ length (m .log)) m c refl (λ held e.
     ap length (step-alike m held c e .holds .log) ∙ claims.demand-3 .as-long (stateOf m held) c)
 
+-- demand 3's `as-many`: a call leaves as many figures as there were
 pub as-many : (m : Lent) (c : Call) → length (stepForC m c .left .figures) ≡ length (m .figures)
 as-many m c =
     by-read (λ (x : Lent). length (x .figures) ≡ length (m .figures)) m c refl (λ held e.

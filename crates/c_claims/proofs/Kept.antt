@@ -200,9 +200,11 @@ step-alike bs s r (frame f out word) e b =
     let o = answer-reads bs r s f out e b in
     record { told = rw (e .0) refl; left = record { bytes = rw (e .0) (o .0); widths = o .1; store = rw (e .0) refl } }
 
+-- demand 2's `start`: any bytes that are read as a record hold that meter
 pub start : (bs s : List ℕ) (r : Record) → Bytes bs → recordOf bs ≡ Read r → Holds (meter bs s) (meter r s)
 start bs s r b e = record { bytes = e; widths = read-fits bs b r e; store = refl }
 
+-- demand 2's `make-start`: a meter made over 89 bytes is held by them, whatever they held before
 pub make-start : (address minutes : ℕ) (t : Telemetry) (c : DateTime) (season : ℕ) (bs s : List ℕ) (r : Record) → address < 256 → FitsTelemetry t
     → length bs ≡ recordSize → madeIn address minutes t c season ≡ given.Done r → let o = makeForC (madeIn address minutes t c season) bs in
     (o .result ≡ 0) × Holds (meter (o .left) s) (meter r s)
@@ -213,11 +215,13 @@ make-start address minutes t c season bs s r a f l e =
     let back = subst (λ (x : RecordAnswer). handsBack x ≡ true) e (made-back address minutes t c season) in
     rw (whole, e) (refl, record { bytes = read-back bs r l fits back; widths = fits; store = refl })
 
+-- demand 2's `call`: what one call leaves is what the next one reads, and it tells what the call on the record tells
 pub call : (m : Meter (List ℕ)) (x : Meter Record) (c : MeterCall) → Holds m x → CallFits c → EndAlike (bytesStep m c) (recordStep x c)
 call m x c h b =
     let same : meter (m .kept) (m .store) ≡ meter (m .kept) (x .store) = ap (meter (m .kept)) (h .store) in
     rw same (step-alike (m .kept) (x .store) (x .kept) c (h .bytes, h .widths) b)
 
+-- demand 2's `list`: the same of any list of calls, whatever is answered
 pub list : (m : Meter (List ℕ)) (x : Meter Record) (cs : List MeterCall) → Holds m x → AllFit cs
     → EndAlike (meterRun bytesStep m cs) (meterRun recordStep x cs)
 unfolding meterRun
@@ -227,6 +231,7 @@ list m x (c ∷ cs) h b =
     let rest = list (bytesStep m c .left) (recordStep x c .left) cs (first .left) (b .1) in
     record { told = ap₂ (λ (t : Told) (ts : List Told). t ∷ ts) (first .told) (rest .told); left = rest .left }
 
+-- demand 2's `change`, "changes the named parameter alone": the bytes after one are read as the record of which demand 2 says it
 pub change : (m : Meter (List ℕ)) (x : Meter Record) (f out : List ℕ) (word : ℕ) → Holds m x → Bytes f → functionIn f ≡ function.Change
     → bytesStep m (frame f out word) .result .number ≡ 0 → let o = answerOf (x .kept) (x .store) f out in
     (recordOf (bytesStep m (frame f out word) .left .kept) ≡ Read (o .answer .after))

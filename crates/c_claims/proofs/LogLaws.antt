@@ -70,6 +70,7 @@ module _ (bs : List ℕ) where
       by-at (Opened held) (intervalOf h day slot) (λ n. kept) (λ i n.
       rw o (ask-again bs (Open address day slot) (ask-size bs held e))))))
 
+  -- the bytes after `metlazuel_ask` are read as the ask that `put_ask` leaves
   pub ask-left : (v : View) (held : OpenAsk) (address day slot : ℕ) (out : List ℕ) → askOf bs ≡ Read held
       → askOf (askForC (askOf bs) v bs address day slot out .left .0) ≡ Read (ask.asked v held address day slot out .result .held)
   unfolding askForC
@@ -79,6 +80,7 @@ module _ (bs : List ℕ) where
   abbrev Lapses : OpenAsk → LapseDecision → Type 0
   Lapses held d = askOf (askLeft held (d .lapsed .held) bs) ≡ Read (d .lapsed .held)
 
+  -- the bytes after `metlazuel_lapse` are read as the ask that `lapse` leaves
   pub lapse-left : (log : List ℕ) (held : OpenAsk) → askOf bs ≡ Read held
       → askOf (lapseForC (askOf bs) log bs .left .1) ≡ Read (lapse.lapsed log held .result .held)
   unfolding lapseForC lapse.lapsed
@@ -102,6 +104,7 @@ module _ (bs : List ℕ) where
         put = λ h i old c s o g is done. closed-left held e;
       })
 
+  -- the bytes after `metlazuel_take` are read as the ask that `take_reply` leaves
   pub take-left : (b : LogAndRows) (held : OpenAsk) (y : List ℕ) (result size : ℕ) → askOf bs ≡ Read held
       → askOf (takeForC (askOf bs) b bs y result size .left .3) ≡ Read (take.taken b held y .result .held)
   unfolding takeForC

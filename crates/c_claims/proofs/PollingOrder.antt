@@ -24,11 +24,13 @@ module _ (m : Lent) (b : Begins m) where
       → SameElsewhere (b .start) asks (afterForC m these) (afterForC m those)
   above asks these those k l same = rw (below these k, below those l) same
 
+  -- CR 13's `equal`: the same completed asks, no interval with two different nonzero replies, give C equal logs
   pub equal : (these those : List Call) → AllBytes these → AllBytes those
       → Reordered (asksIn (b .start) these) (asksIn (b .start) those) → OneReplyEach (b .start) (asksIn (b .start) these)
       → afterForC m these ≡ afterForC m those
   equal these those k l p one = below these k ∙ claims.polling-order .equal lent (b .start) these those k l p one ∙ sym (below those l)
 
+  -- CR 13's `elsewhere`: where an interval has two such replies, "the logs differ at most in the cells concerned"
   pub elsewhere : (these those : List Call) → AllBytes these → AllBytes those
       → Reordered (asksIn (b .start) these) (asksIn (b .start) those)
       → SameElsewhere (b .start) (asksIn (b .start) these) (afterForC m these) (afterForC m those)
@@ -37,6 +39,7 @@ module _ (m : Lent) (b : Begins m) where
   bytes-of : (rounds : List Round) → AllComplete (b .start .header) rounds → AllBytes (callsOf rounds)
   bytes-of rounds c = claims.polling-order .held lent (b .start) rounds c .0
 
+  -- CR 13's `list-equal`: under the same condition so do lists of completed asks in another order, each ask closed before the next
   pub list-equal : (these those : List Round) → let h = b .start .header in AllComplete h these → AllComplete h those
       → Reordered (asksOf h these) (asksOf h those) → OneReplyEach (b .start) (asksOf h these)
       → afterForC m (callsOf these) ≡ afterForC m (callsOf those)
@@ -45,6 +48,7 @@ module _ (m : Lent) (b : Begins m) where
       ∙ claims.polling-order .list-equal lent (b .start) these those c d p one
       ∙ sym (below (callsOf those) (bytes-of those d))
 
+  -- CR 13's `list-elsewhere`: of such lists too "the logs differ at most in the cells concerned"
   pub list-elsewhere : (these those : List Round) → let h = b .start .header in AllComplete h these → AllComplete h those
       → Reordered (asksOf h these) (asksOf h those)
       → SameElsewhere (b .start) (asksOf h these) (afterForC m (callsOf these)) (afterForC m (callsOf those))

@@ -180,6 +180,7 @@ module _ (bs s : List ℕ) (r : Record) (q : Request) (out : List ℕ) (word : �
         ap (λ (x : List ℕ). decodeForC q x row count result size) reply-told
         ∙ decoded-for-c q y (ownNumbers r s q) row count result size decoded-done row-own room
 
+-- `reading`: whatever request the meter answers with 0 is decoded for C to the record's own figures
 pub read : (bs s : List ℕ) (r : Record) (q : Request) (out row : List ℕ) (word count result size : ℕ) → Bytes bs → recordOf bs ≡ Read r → Bytes s → FitsRequest q
     → let o = answering bs s (requestFrame q) out word in let figures = ownNumbers r s q in
     o .result ≡ 0 → length figures ≤ length row → Tells figures row result size (decoding q o row count result size)
@@ -198,6 +199,7 @@ by-address own address (inl e) = rw (eq-eqb address own e) (or-true (eqb address
     or-true false = refl
 by-address own address (inr e) = rw (eq-eqb address 0 e) refl
 
+-- `reading`: a request for figures that a sound meter has is made, answered with 0 and decoded to those figures
 pub inquired : (bs s : List ℕ) (r : Record) (q : Request) (room out row : List ℕ) (word count result size : ℕ) → Asks bs s r q
     → 8 ≤ length room → 64 ≤ length out → let figures = ownNumbers r s q in length figures ≤ length row
     → let m = making q room in let o = answering bs s (take 8 (m .left)) out word in

@@ -213,6 +213,7 @@ module _ (bs : List ℕ) (r : Record) (store : List ℕ) (b : LogAndRows) (h : H
       rw (ap (λ (x : Outcome ℕ (ℕ × ℕ × LogAndRows × List ℕ)). telling x day slot kind counts lapses) taken-whole ∙ seen)
       (record { number = refl; kind = kind-shown (cellAfter c row); counts = counts-shown (cellAfter c row); lapsed = lapses-stay i })
 
+  -- `register-to-cell`: ask, answer, take and cell in a row tell C the meter's slice, joined to what the cell held
   pub joined : (kind : ℕ) (counts : List ℕ) (lapses : ℕ)
       → AskedFor asked-c address day slot date room × AnsweredBy answered-c bs store address row × TakenBy taken-c c row result size
       × CellTold (telling taken-c day slot kind counts lapses) (cellAfter c row) (viewOf (b .log) .lapses (day * slotsOf (h .minutes) + slot))
@@ -220,6 +221,7 @@ module _ (bs : List ℕ) (r : Record) (store : List ℕ) (b : LogAndRows) (h : H
 
 -- ---- a log that C's calls leave
 
+-- `register-to-cell`: what a round asks of a log is met of every cell, after any calls on memory to begin with
 pub met : (m : Lent) (b : Begins m) (calls : List Call) → AllBytes calls → let h = b .start .header in let after = ranForC m calls .left in
     (i : ℕ) → i < h .days * slotsOf (h .minutes) → (c : Cell) × LogWith (logAndRows (after .log) (after .figures)) h i c
 met m b calls k i l =

@@ -132,6 +132,7 @@ module _ (r : Record) (f : FitsRecord r) where
 protection-fits : (r : Record) (p : Protection) → FitsRecord r → FitsRecord (withProtection r p)
 protection-fits r p f = timed-fits r f p (r .time)
 
+-- for `metlazuel_meter_second`: a second later the numbers still fit
 pub later-fits : (r : Record) → FitsRecord r → FitsRecord (later r)
 unfolding later
 later-fits r f = timed-fits r f _ _
@@ -161,6 +162,7 @@ fresh-fits address minutes t c s a f =
       ku = omega arith;
     }
 
+-- for `metlazuel_meter_powers`: with powers that fit the record fits
 pub powers-fit : (r : Record) (p q : Phases) → FitsPhases p → FitsPhases q → FitsRecord r → FitsRecord (withPowers r p q)
 powers-fit r p q a b f = record {
   address = f .address;
@@ -177,6 +179,7 @@ powers-fit r p q a b f = record {
   ku = f .ku;
 }
 
+-- for `metlazuel_meter_ratios`: with ratios of 32 bits the record fits
 pub ratios-fit : (r : Record) (ki ku : ℕ) → ki < 2 ^ 32 → ku < 2 ^ 32 → FitsRecord r → FitsRecord (withRatios r (ratiosFrom ki ku))
 ratios-fit r ki ku i u f = record {
   address = f .address;
@@ -236,6 +239,7 @@ after-by function.Unlock r f b w = protection-fits r _ w
 after-by function.Lock r f b w = protection-fits r _ w
 after-by function.Unknown r f b w = w
 
+-- for `metlazuel_meter_answer`: whatever a frame of bytes asks for, the record after it fits
 pub after-fits : (r : Record) (f : List ℕ) → Bytes f → FitsRecord r → FitsRecord (afterOf r (commandOf f) f)
 unfolding afterOf
 after-fits r f b w = after-by (functionIn f) r f b w
@@ -247,6 +251,7 @@ finite-phases p e =
     let h = powers-bounds p e in
     record { a = bounds-finite (p .a) (h .a); b = bounds-finite (p .b) (h .b); c = bounds-finite (p .c) (h .c) }
 
+-- a record put over bytes that were read as one is read there
 pub read-again : (bs : List ℕ) (r x : Record) → recordOf bs ≡ Read r → FitsRecord x → isWithin x ≡ true → recordOf (written bs 0 (recordBytes x)) ≡ Read x
 read-again bs r x e f h =
     let w = within x h in
@@ -315,5 +320,6 @@ module _ (bs : List ℕ) (b : Bytes bs) where
   unfolding recordOf recordIn
   bytes-fit = either FitsRead (eqb (length bs) 89) (parts-fit _ _ _ _ (phases-fit (drop 54 bs)) (phases-fit (drop 66 bs))) tt
 
+  -- for `start`: a record that was read from bytes has numbers that fit
   pub read-fits : (r : Record) → recordOf bs ≡ Read r → FitsRecord r
   read-fits r e = subst FitsRead e bytes-fit

@@ -67,6 +67,7 @@ own-done r s q out k room sound e h =
     or-true true = refl
     or-true false = refl
 
+-- demand 2's `own`: what a sound meter has, the reader decodes from its answer
 pub own : (r : Record) (s : List ℕ) (q : Request) (out : List ℕ) → FitsRecord r → Bytes s → BytesRequest q → 64 ≤ length out
     → isSound r s ≡ true → q .address ≡ r .address → askable (subjectOf q (slotsOf (r .minutes))) ≡ true
     → readBack r s q out ≡ ownAs (q .reading) (parameterOf (q .parameter)) r s q
@@ -89,6 +90,7 @@ pub record Bounds (k : Key) : Type 0 where
   pub day : k .day < 256
   pub number : k .number < 256
 
+-- a legal key's month, day and number pass as the bytes of a request
 pub bounds : (k : Key) (slots : ℕ) → slots ≤ 96 → isLegal k slots ≡ true → Bounds k
 unfolding isLegal
 bounds k slots most h =
@@ -103,11 +105,13 @@ bounds k slots most h =
       number = omega (arith, ltb-true (k .number) slots (a .1), most);
     }
 
+-- a read of slices by a legal key has bytes for its fields, so the meter hears it
 pub slice-bytes : (r : Record) (n : ℕ) (k : Key) (slots : ℕ) → FitsRecord r → n < 256 → slots ≤ 96 → isLegal k slots ≡ true → BytesRequest (sliceRead r n k)
 slice-bytes r n k slots f small most h =
     let b = bounds k slots most h in
     record { repeated = record { address = f .address; parameter = small }; offset = b .month; tariff = b .day; detail = b .number }
 
+-- a legal key of a meter's interval can be asked for
 pub slice-askable : (r : Record) (k : Key) (slots : ℕ) → isLegal k slots ≡ true → askable (subjectOf (sliceRead r 36 k) slots) ≡ true
 unfolding subjectOf subjectFor parameterOf firstOf isLegal
 slice-askable r k slots h = simp h
@@ -185,6 +189,7 @@ parameter-small f b =
     let small : ℕ → Type 0 = λ n. n < 256 in
     either small (leb (length f) 4) (lit≤ tt) (either small (named (functionIn f)) (b 2) (lit≤ tt))
 
+-- demand 2's `change-read`: the bytes that a change wrote are decoded from the next read, by the address that the meter then has
 pub change-read : (r : Record) (s f out room : List ℕ) → Bytes f → functionIn f ≡ function.Change → (parameterRow (parameterIn f)) .readable ≡ true
     → let o = answerOf r s f out in Next r s o room
     → readBack (o .answer .after) (o .store) (readOf (o .answer .after) (parameterByte f) 0) room ≡ readFigures (parameterIn f) 0 (dataIn f)
@@ -213,6 +218,7 @@ date-askable : (p : Parameter) (r : Record) (n slots : ℕ) → parameterOf n �
 unfolding subjectOf
 date-askable p r n slots e c w = ap (λ (z : Parameter). askable (subjectFor z (readOf r n 0) slots)) e ∙ plain-askable p r n slots c w
 
+-- demand 2's `summer-zeroed`: a zeroing brings back March's last Sunday of the clock's year, and it is read
 pub summer-zeroed : (r : Record) (s f out room : List ℕ) → functionIn f ≡ function.Zero → parameterIn f ≡ parameter.SummerDate
     → let o = answerOf r s f out in Next r s o room
     → readBack (o .answer .after) (o .store) (readOf (o .answer .after) 27 0) room ≡ decoded.DateTime (onHour (sunday (r .time .clock .date .year) 3) 2)
@@ -225,6 +231,7 @@ summer-zeroed r s f out room e g n =
     (date-askable parameter.SummerDate y 27 (slotsOf (y .minutes)) refl refl refl)
     ∙ ap (λ (z : Record). ownFigures parameter.SummerDate z (o .store) q) (zeroed-is r s f out room parameter.SummerDate e g n)
 
+-- demand 2's `winter-zeroed`: a zeroing brings back October's last Sunday of the clock's year, and it is read
 pub winter-zeroed : (r : Record) (s f out room : List ℕ) → functionIn f ≡ function.Zero → parameterIn f ≡ parameter.WinterDate
     → let o = answerOf r s f out in Next r s o room
     → readBack (o .answer .after) (o .store) (readOf (o .answer .after) 28 0) room ≡ decoded.DateTime (onHour (sunday (r .time .clock .date .year) 10) 3)
@@ -237,6 +244,7 @@ winter-zeroed r s f out room e g n =
     (date-askable parameter.WinterDate y 28 (slotsOf (y .minutes)) refl refl refl)
     ∙ ap (λ (z : Record). ownFigures parameter.WinterDate z (o .store) q) (zeroed-is r s f out room parameter.WinterDate e g n)
 
+-- the figures of a slice read are the four counts of the store's row for that key
 pub slice-figures : (r : Record) (s : List ℕ) (k : Key) (row : List ℕ) → sliceOf s k ≡ row
     → ownFigures (parameterOf 36) r s (sliceRead r 36 k) ≡ decoded.Slice (fourCounts row)
 unfolding parameterOf firstOf
@@ -254,6 +262,7 @@ unfolding clearsBy
 store-clear r s f out room e g n =
     store-done r s f out function.Zero e (n .zero) ∙ ap (λ (z : Parameter). cond (clearsBy function.Zero (codeOf z)) (cleared s) s) g
 
+-- demand 2's `slices-zeroed`: after a zeroing of the slices any legal key reads zeros
 pub slices-zeroed : (r : Record) (s f out room : List ℕ) (k : Key) → functionIn f ≡ function.Zero → parameterIn f ≡ parameter.Slice
     → isLegal k (slotsOf (r .minutes)) ≡ true → let o = answerOf r s f out in Next r s o room
     → readBack (o .answer .after) (o .store) (sliceRead (o .answer .after) 36 k) room ≡ decoded.Slice (fourCounts zeroRow)
@@ -287,6 +296,7 @@ is-six : parameterOf 40 ≡ parameter.SixSlices
 unfolding parameterOf firstOf
 is-six = refl
 
+-- demand 2's `six-zeroed`: and so do six of them
 pub six-zeroed : (r : Record) (s f out room : List ℕ) (k : Key) → functionIn f ≡ function.Zero → parameterIn f ≡ parameter.Slice
     → isLegal k (slotsOf (r .minutes) - 5) ≡ true → let o = answerOf r s f out in Next r s o room
     → rows.sixOf (rows.replyData (replyIn (answered (o .answer .after) (o .store) (sliceRead (o .answer .after) 40 k) room)))
@@ -307,6 +317,7 @@ six-zeroed r s f out room k e g h n =
 
 -- ---- the bench
 
+-- demand 2's `put-done`: a sound meter takes a slice with a legal key
 pub put-done : (r : Record) (s : List ℕ) (k : Key) (row : List ℕ) → isSound r s ≡ true → isLegal k (slotsOf (r .minutes)) ≡ true
     → numberOf ((slicePut r s k row) .result) ≡ 0
 unfolding slicePut
@@ -318,17 +329,20 @@ handed (Done r) z = r
 handed OutOfRange z = z
 handed Unsound z = z
 
+-- whether a bench call handed over a record: tells an answer of 0 from the refusals
 abbrev pub isHanded : RecordAnswer → Bool
 isHanded (Done r) = true
 isHanded OutOfRange = false
 isHanded Unsound = false
 
+-- what a put that was done has passed, and what it left: the interval, and the store with the row in it
 pub record Put (r y : Record) (s : List ℕ) (k : Key) (row : List ℕ) : Type 0 where
   pub sound : isSound r s ≡ true
   pub legal : isLegal k (slotsOf (r .minutes)) ≡ true
   pub after : y .minutes ≡ r .minutes
   pub left : (slicePut r s k row) .left ≡ putStore s (r .next) k row
 
+-- a put that handed over a record is such a one
 pub put-is : (r y : Record) (s : List ℕ) (k : Key) (row : List ℕ) → (slicePut r s k row) .result ≡ Done y → Put r y s k row
 unfolding slicePut
 put-is r y s k row h = go (isSound r s) refl (isLegal k (slotsOf (r .minutes))) refl
@@ -343,6 +357,7 @@ put-is r y s k row h = go (isSound r s) refl (isLegal k (slotsOf (r .minutes))) 
       left = simp (e, g);
     }
 
+-- demand 2's `put-read`: the counts that the bench put under a key are read by that key
 pub put-read : (r y : Record) (s : List ℕ) (k : Key) (row room : List ℕ) → let o = slicePut r s k row in o .result ≡ Done y
     → FitsRecord y → Bytes (o .left) → length row ≡ 4 → ((i : ℕ) → countAt row i < 65536) → 64 ≤ length room
     → readBack y (o .left) (sliceRead y 36 k) room ≡ decoded.Slice (fourCounts row)
@@ -361,6 +376,7 @@ put-read r y s k row room h f b four below space =
 
 -- powers
 
+-- demand 2's `powers-done`: a record within its ranges takes active and reactive powers that are within theirs
 pub powers-done : (r : Record) (p : Phases) → isWithin r ≡ true → arePowers p ≡ true → (numberOf (setPowers r 8 p) ≡ 0) × (numberOf (setPowers r 9 p) ≡ 0)
 unfolding setPowers powersSet
 powers-done r p w h = (simp (w, h), simp (w, h))
@@ -383,6 +399,7 @@ phase-askable : (r : Record) (detail slots : ℕ) → detail ≤ 3
 unfolding subjectOf subjectFor parameterOf firstOf isPhase
 phase-askable r detail slots h = (simp (le-leb detail 3 h), simp (le-leb detail 3 h))
 
+-- demand 2's `active-read`: active powers that the bench set are read bit for bit, the total with the phases or one phase
 pub active-read : (r y : Record) (p : Phases) (s : List ℕ) (detail : ℕ) (room : List ℕ) → setPowers r 8 p ≡ Done y
     → FitsRecord y → Bytes s → length s ≡ storeBytes → detail ≤ 3 → 64 ≤ length room → readBack y s (readOf y 8 detail) room ≡ ownPower p detail
 unfolding parameterOf firstOf powersSet
@@ -392,6 +409,7 @@ active-read r y p s detail room h f b l d space =
     (phase-askable y detail (slotsOf (y .minutes)) d .0)
     ∙ ap (λ (z : Phases). ownPower z detail) a
 
+-- demand 2's `reactive-read`: and so are reactive ones
 pub reactive-read : (r y : Record) (p : Phases) (s : List ℕ) (detail : ℕ) (room : List ℕ) → setPowers r 9 p ≡ Done y
     → FitsRecord y → Bytes s → length s ≡ storeBytes → detail ≤ 3 → 64 ≤ length room → readBack y s (readOf y 9 detail) room ≡ ownPower p detail
 unfolding parameterOf firstOf powersSet

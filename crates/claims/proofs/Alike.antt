@@ -55,6 +55,7 @@ use Rattle.claims.proofs.Wire.{OfBytes, bytes-cons}
 
 -- ---- a frame's length, and its bytes that no address changes
 
+-- a frame by an address is as long as its message and the four bytes around it, whatever the address
 pub length-by : (a fn : ℕ) (m : List ℕ) → length (frameBy a fn m) ≡ length m + 4
 length-by a fn m =
     let e : suc (suc (length m)) + 2 ≡ length m + 4 = omega arith in
@@ -70,6 +71,7 @@ byte-by : (a fn : ℕ) (m : List ℕ) (i : ℕ) → i < length m → byteAt (fra
 unfolding framed
 byte-by a fn m i h = List·getD-append m (bytesOf 2 (crcOf (a ∷ fn ∷ m))) 0 i h
 
+-- the password of an unlocking frame is its message's last eight bytes, whatever the address
 pub number-by : (a fn : ℕ) (m : List ℕ) → length m ≡ 10 → numberAt (frameBy a fn m) 4 8 ≡ number (drop 2 m)
 unfolding numberAt framed
 number-by a fn m h =
@@ -248,6 +250,7 @@ store-by s a fn m c =
 
 -- ---- both frames reach the meter
 
+-- a message of bytes that a frame has room for makes a frame with a right length and CRC
 pub sealed-by : (a fn : ℕ) (m : List ℕ) → a < 256 → fn < 256 → Bytes m → length m ≤ 60 → isSealed (frameBy a fn m) ≡ true
 unfolding isSealed
 sealed-by a fn m ha hf hm l =
@@ -260,6 +263,7 @@ met-by-zero : (r : Record) (fn : ℕ) (m : List ℕ) → isSealed (frameBy 0 fn 
 unfolding met framed
 met-by-zero r fn m e = ap (λ (b : Bool). cond b Zero Neither) e
 
+-- a frame by the meter's own address, which is not 0, met that address
 pub met-by-own : (r : Record) (fn : ℕ) (m : List ℕ) → isSealed (frameBy (r .address) fn m) ≡ true → (r .address ≡ 0 → ⊥) → met r (frameBy (r .address) fn m) ≡ Own
 unfolding met framed
 met-by-own r fn m e n =
@@ -267,6 +271,7 @@ met-by-own r fn m e n =
     ap (λ (b : Bool). cond b (cond (eqb own 0) Zero (cond (eqb own own) Own Neither)) Neither) e
     ∙ ap₂ (λ (x y : Bool). cond x Zero (cond y Own Neither)) (ne-eqb own 0 n) (eq-eqb own own refl)
 
+-- a sound meter with room replies to a frame that it hears, by the verdict for the address that was met
 pub answered-by : (r : Record) (s f out : List ℕ) (x : Met) → 64 ≤ length out → isSound r s ≡ true → met r f ≡ x → isHeard x ≡ true
     → answerOf r s f out ≡ replied (verdictOf x r (commandOf f) f) r s f out
 unfolding answerOf heard
@@ -312,6 +317,7 @@ module _ (r : Record) (s : List ℕ) (fn : ℕ) (m out : List ℕ) (c : changes 
       go true k = done-alike (ap isDone e ∙ k)
       go false k = refused-alike
 
+-- demand 2's `others-alike`, CR 6: what is no change and no zeroing is answered by 0 as by the meter's own address
 pub others-alike : (r : Record) (s : List ℕ) (fn : ℕ) (m out : List ℕ) → changes (functionOf fn) ≡ false → fn < 256 → Bytes m → length m ≤ 60
     → r .address < 256 → isSound r s ≡ true → 64 ≤ length out
     → Alike (r .address) out (answerOf r s (frameBy 0 fn m) out) (answerOf r s (frameBy (r .address) fn m) out)

@@ -32,6 +32,7 @@ use Rattle.claims.specs.Demand1.{inTable, Ends, givesFrame, answerNumber
 
 -- ---- a command that is heard
 
+-- a verdict of a command that was heard: 0, or one that has a refusal frame
 unfoldable pub Judged : Verdict → Type 0
 Judged v = (eqb (numberOf v) 0 || givesFrame (numberOf v)) ≡ true
 
@@ -64,6 +65,7 @@ module _ (r : Record) (f : List ℕ) where
       either Judged (eqb (length f) 6) (either Judged (eqb (byteAt f 2) 0) (either Judged (eqb (byteAt f 3) 0) refl refl) refl) refl
   judged-by function.Unknown m = refl
 
+  -- the meter's verdict on any frame is such a one
   pub judged : Judged (verdictOn r f)
   unfolding verdictOf
   judged = judged-by (functionIn f) (met r f)
@@ -105,21 +107,26 @@ module _ (r : Record) (s f out : List ℕ) where
       (either (AnswerEnds r s f out) (heard r f) (replied-ends (verdictOn r f) (judged r f)) (unheard-ends verdict.Silent refl refl))
       (unheard-ends verdict.Unsound refl refl))
 
+  -- demand 1's `answer`: the meter's number is the table's, and a refused command leaves record and store
   pub answer : let o = answerOf r s f out in Ends {A = Record × List ℕ} (answerNumber o) (r, s) (o .answer .after, o .store)
   answer = answer-ends .ends
 
+  -- demand 1's `answer-output`: a refused command puts the refusal frame into the output where the table gives one, else nothing
   pub answer-output : let o = answerOf r s f out in (answerNumber o ≡ 0 → ⊥)
       → o .out ≡ cond (givesFrame (answerNumber o)) (written out 0 (framed (headOf (o .answer .verdict) (commandOf f)))) out
   answer-output = answer-ends .output
 
+  -- demand 1's `answer-length`: and so many bytes are the reply, the short frame's or none
   pub answer-length : let o = answerOf r s f out in (answerNumber o ≡ 0 → ⊥) → o .answer .length ≡ cond (givesFrame (answerNumber o)) bareSize 0
   answer-length = answer-ends .sent
 
 -- ---- the refusal frame is short: six bytes, and the output past them is as it was
 
+-- demand 1's `frame-short`: a refusal frame has six bytes
 pub frame-short : (v : Verdict) (f : List ℕ) → length (framed (headOf v (commandOf f))) ≡ bareSize
 unfolding headOf
 frame-short v f = length-framed (headOf v (commandOf f))
 
+-- demand 1's `past-frame`: the output behind it is as it was
 pub past-frame : (v : Verdict) (f out : List ℕ) → drop bareSize (written out 0 (framed (headOf v (commandOf f)))) ≡ drop bareSize out
 past-frame v f out = drop-written bareSize out 0 (framed (headOf v (commandOf f))) (omega (arith, frame-short v f))

@@ -48,6 +48,7 @@ met-own r f h = go (isSealed f) (eqb (byteAt f 0) 0) refl (eqb (byteAt f 0) (r .
     go true false e false k m = absurd (false≢true (ap byOwn m))
     go true false e true k m = (eqb-true (byteAt f 0) (r .address) k, λ z. false≢true (sym e ∙ eq-eqb (byteAt f 0) 0 z))
 
+-- demand 2's `came-by-own`, CR 6: a change or zeroing that was done came by the meter's own address and not by 0
 pub came-by-own : (r : Record) (s f out : List ℕ) → changes (functionIn f) ≡ true → answerNumber (answerOf r s f out) ≡ 0
     → (byteAt f 0 ≡ r .address) × (byteAt f 0 ≡ 0 → ⊥)
 came-by-own r s f out c h = met-own r f (go (functionIn f) refl c)
@@ -62,6 +63,7 @@ came-by-own r s f out c h = met-own r f (go (functionIn f) refl c)
 
 -- ---- address 0
 
+-- demand 2's `by-zero-refused`, CR 6: one by 0 is never answered 0, and leaves record and store
 pub by-zero-refused : (r : Record) (s f out : List ℕ) → changes (functionIn f) ≡ true → byteAt f 0 ≡ 0
     → Leaves r s (answerOf r s f out) × (answerNumber (answerOf r s f out) ≡ 0 → ⊥)
 by-zero-refused r s f out c z =
@@ -86,6 +88,7 @@ zero-verdict function.Unlock r f c h = absurd (false≢true c)
 zero-verdict function.Lock r f c h = absurd (false≢true c)
 zero-verdict function.Unknown r f c h = absurd (false≢true c)
 
+-- demand 2's `sixteen`, CR 6: one by 0 that passes 11, 12 and 13 is 16, whatever the access and the argument
 pub sixteen : (r : Record) (s f out : List ℕ) → Ready r s f out → met r f ≡ Zero → changes (functionIn f) ≡ true
     → formFits (functionIn f) f ≡ true → answerNumber (answerOf r s f out) ≡ 16
 unfolding answerOf replied verdictOf
@@ -108,6 +111,7 @@ four verdict.NotOpen h = absurd (false≢true h)
 four verdict.WrongLength h = absurd (false≢true h)
 four verdict.WrongArgument h = absurd (false≢true h)
 
+-- demand 2's `result`, CR 6: the refusal frames of 14 and 16 have Appendix B's 4 for their result
 pub result : (r : Record) (s f out : List ℕ) → let o = answerOf r s f out in 64 ≤ length out → (eqb (answerNumber o) 14 || eqb (answerNumber o) 16) ≡ true
     → byteAt (o .out) 3 ≡ 4
 unfolding headOf framed

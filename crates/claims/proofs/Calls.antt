@@ -96,6 +96,7 @@ by-right P (Right h) x k = k h
 
 -- ---- requests, and replies decoded
 
+-- demand 1's `put-request`: a request that is refused leaves the lent output
 pub put-request : (q : Request) (out : List ℕ) → EndsBy request.numberOf out (request.requested q out)
 unfolding request.requested inTable
 put-request q out =
@@ -111,6 +112,7 @@ fault-in-table fault.Address = refl
 fault-in-table fault.Function = refl
 fault-in-table fault.Parameter = refl
 
+-- demand 1's `decode`: each answer of the reader has a number of the table
 pub decode : (d : Decoded) → inTable (reader.numberOf d) ≡ true
 unfolding inTable
 decode decoded.OutOfRange = refl
@@ -129,12 +131,14 @@ decode (decoded.Displayed e) = refl
 
 -- ---- the bench
 
+-- demand 1's `record-given`: so has each answer of the calls that hand over a record
 pub record-given : (a : RecordAnswer) → inTable (record-of.numberOf a) ≡ true
 unfolding inTable
 record-given (given.Done r) = refl
 record-given given.OutOfRange = refl
 record-given given.Unsound = refl
 
+-- demand 1's `put-slice`: a slice that is refused leaves the store
 pub put-slice : (r : Record) (s : List ℕ) (k : Key) (row : List ℕ) → EndsBy record-of.numberOf s (bench.slicePut r s k row)
 unfolding bench.slicePut inTable
 put-slice r s k row =
@@ -143,6 +147,7 @@ put-slice r s k row =
 
 -- ---- a fresh log
 
+-- demand 1's `fresh-log`: a fresh log that is refused leaves the lent bytes and figures
 pub fresh-log : (h : Header) (out figs : List ℕ) → EndsBy freshNumber (logAndRows out figs) (freshWith h out figs)
 unfolding freshWith inTable
 fresh-log h out figs =
@@ -152,6 +157,7 @@ fresh-log h out figs =
     by-check P (enough h figs) (stays 1 b refl) (
     by-check P (leb (lengthOf h) (length out)) (stays 1 b refl) (done b _)))
 
+-- demand 1's `fresh-image`: the same of `log`'s own call, which is lent no figures
 pub fresh-image : (h : Header) (out : List ℕ) → EndsBy freshNumber out (freshOf h out)
 unfolding freshOf inTable
 fresh-image h out =
@@ -160,6 +166,7 @@ fresh-image h out =
 
 -- ---- day reports and their text
 
+-- demand 1's `day-report`: a report that is refused leaves the lent row
 pub day-report : (lent : LogHeader) (figs : List ℕ) (d : ℕ) (row : List ℕ) → EndsBy report.reportNumber row (report.reportOf lent figs d row)
 unfolding report.reportOf inTable
 day-report lent figs d row =
@@ -169,6 +176,7 @@ day-report lent figs d row =
     by-check P (enough h figs) (stays 1 row refl) (
     by-check P (ltb d (h .days)) (stays 22 row refl) (done row _))))
 
+-- demand 1's `put-text`: a line or heading that has no room leaves the lent output
 pub put-text : (line out : List ℕ) → EndsBy text.textNumber out (text.putText line out)
 unfolding text.putText inTable
 put-text line out = either (EndsBy text.textNumber out) (leb (length line) (length out)) (done out _) (stays 1 out refl)
@@ -179,6 +187,7 @@ module _ (lent : LogHeader) (figs : List ℕ) (d : ℕ) (out : List ℕ) where
   dated-put on-day.Outside = stays 22 out refl
   dated-put (on-day.On date) = put-text (text.lineText date (rowAt figs d)) out
 
+  -- demand 1's `put-day`: a day's line that is refused leaves the lent output
   pub put-day : EndsBy text.textNumber out (day.dayText lent figs d out)
   unfolding day.dayText inTable
   put-day =
@@ -192,12 +201,14 @@ module _ (v : View) (d : ℕ) (out : List ℕ) where
   stripped h (on-day.On date) =
       by-check (EndsBy text.textNumber out) (allGood (dayCells (v .cell) h d)) (stays 28 out refl) (put-text _ out)
 
+  -- demand 1's `put-strip`: a day's strip that is refused leaves the lent output
   pub put-strip : EndsBy text.textNumber out (strip.stripText v d out)
   unfolding strip.stripText inTable
   put-strip = by-sound (EndsBy text.textNumber out) (v .lent) (λ e. stays 28 out refl) (λ h e. stripped h (dayDate h d))
 
 -- ---- files
 
+-- demand 1's `read-file`: a file that is refused leaves the lent bytes and figures
 pub read-file : (f out figs : List ℕ) → EndsBy reading.readNumber (logAndRows out figs) (reading.readFile f out figs)
 unfolding reading.readFile reading.readFields reading.readCells inTable
 read-file f out figs =
@@ -213,6 +224,7 @@ read-file f out figs =
     by-check P (leb (lengthOf h) (length out)) (stays 1 b refl) (
     by-check P (enough h figs) (stays 1 b refl) (done b _)))))))))
 
+-- demand 1's `write-file`: a log that is not written out leaves the lent output
 pub write-file : (v : View) (out : List ℕ) → EndsBy writing.writeNumber out (writing.writtenFile v out)
 unfolding writing.writtenFile inTable
 write-file v out =
@@ -241,11 +253,13 @@ goes-on : (p : Page) (out : List ℕ) (o : Outcome TextAnswer (List ℕ)) → En
 goes-on p out o e =
     record { in-table = e .in-table; unchanged = λ q. ap₂ (λ (x : Page) (y : List ℕ). (x, y)) (same-page p (o .result) q) (e .unchanged q) }
 
+-- demand 1's `put-next-line`: a page's line that is not put leaves the page where it was, and the output
 pub put-next-line : (p : Page) (given : LogAndRows) (out : List ℕ) → let o = page.nextLine p given out in
     Ends {A = Page × List ℕ} (text.textNumber (o .result .answer)) (p, out) (o .result .after, o .left)
 unfolding page.nextLine
 put-next-line p given out = goes-on p out (page.readLine (p .read) given (p .next) out) (read-line (p .read) given (p .next) out)
 
+-- demand 1's `put-next-strip`: and so does a strip
 pub put-next-strip : (p : Page) (log out : List ℕ) → let o = page.nextStrip p log out in
     Ends {A = Page × List ℕ} (text.textNumber (o .result .answer)) (p, out) (o .result .after, o .left)
 unfolding page.nextStrip page.readStrip
@@ -253,6 +267,7 @@ put-next-strip p log out = goes-on p out (page.readStrip (p .read) log (p .next)
 
 -- ---- asks, lapses and replies
 
+-- demand 1's `put-ask`: an ask that is refused leaves the open ask and the output
 pub put-ask : (v : View) (held : OpenAsk) (address day slot : ℕ) (out : List ℕ) → let o = asking.asked v held address day slot out in
     Ends {A = OpenAsk × List ℕ} (asking.numberOf (o .result .answer)) (held, out) (o .result .held, o .left)
 unfolding asking.asked inTable
@@ -265,6 +280,7 @@ put-ask v held address day slot out =
     by-at P (intervalOf h day slot) (λ n. record { in-table = refl; unchanged = λ n. refl }) (λ i n.
     record { in-table = refl; unchanged = λ n. absurd (n refl) }))))
 
+-- demand 1's `lapse`: a lapse that is refused leaves log, figures and the open ask
 pub lapse : (s : State) → EndsBy (λ (a : book.Answer). a .number) s (step s book.lapse)
 unfolding step silence.lapsed applied inTable
 lapse s =
@@ -284,6 +300,7 @@ lapse s =
     refused-lapse lapse-answer.NotInLog n = record { in-table = refl; unchanged = λ k. refl }
     refused-lapse lapse-answer.Unsound n = record { in-table = refl; unchanged = λ k. refl }
 
+-- demand 1's `lapse-none`, CR 7: with no ask open a lapse answers 0 and changes nothing, whatever the log is
 pub lapse-none : (b : LogAndRows) → step (state b Closed) book.lapse ≡ outcome (book.plain 0) (state b Closed)
 unfolding step silence.lapsed silence.lapsing applied
 lapse-none b = refl
@@ -332,9 +349,11 @@ taken-ends b held y =
       put = λ h i old c e o g is d. record { log = done b _; ask = refl };
     })
 
+-- demand 1's `take-reply`: a reply that is answered otherwise than 0 leaves log and figures
 pub take-reply : (b : LogAndRows) (held : OpenAsk) (y : List ℕ) → let o = taking.taken b held y in Ends (taking.numberOf (o .result .answer)) b (o .left)
 take-reply b held y = taken-ends b held y .log
 
+-- demand 1's `ask-after`: 0, 24 and 25 close the ask, every other answer leaves it
 pub ask-after : (b : LogAndRows) (held : OpenAsk) (y : List ℕ) → let o = taking.taken b held y in
     o .result .held ≡ cond (closesAsk (taking.numberOf (o .result .answer))) Closed held
 ask-after b held y = taken-ends b held y .ask

@@ -40,15 +40,18 @@ use Rattle.parameters.specs.Table.{codeOf}
 -- ---- a command that is done, by its function
 
 module _ (r : Record) (s f out : List ℕ) (fn : Function) (e : functionIn f ≡ fn) (h : answerNumber (answerOf r s f out) ≡ 0) where
+  -- a command that is done leaves the record that its function makes of the one before
   pub after-done : (answerOf r s f out) .answer .after ≡ afterBy fn r (commandOf f) f
   unfolding afterOf
   after-done = ap (λ (o : Outcome). o .answer .after) (passed r s f out h .whole) ∙ ap (λ (g : Function). afterBy g r (commandOf f) f) e
 
+  -- it leaves the store, but for the zeroing that clears it
   pub store-done : (answerOf r s f out) .store ≡ cond (clearsBy fn (codeOf (parameterIn f))) (cleared s) s
   unfolding storeAfter clears
   store-done =
       ap (λ (o : Outcome). o .store) (passed r s f out h .whole) ∙ ap (λ (g : Function). cond (clearsBy g (codeOf (parameterIn f))) (cleared s) s) e
 
+  -- it has passed the checks of its function
   pub verdict-done : isDone (verdictBy fn (met r f) r (commandOf f) f) ≡ true
   unfolding verdictOf
   verdict-done = ap (λ (g : Function). isDone (verdictBy g (met r f) r (commandOf f) f)) (sym e) ∙ ap isDone (passed r s f out h .verdict)
@@ -106,6 +109,7 @@ own-only Own h = refl
 own-only Zero h = absurd (false≢true h)
 own-only Neither h = absurd (false≢true h)
 
+-- demand 2's `change`: one that is done had its access and changed the named parameter alone, and the 240 seconds start again
 pub change : (r : Record) (s f out : List ℕ) → functionIn f ≡ function.Change → let o = answerOf r s f out in answerNumber o ≡ 0
     → Permitted (changeAllowed (parameterIn f) (r .protection .level)) f r s o
 unfolding verdictBy afterBy clearsBy
@@ -118,6 +122,7 @@ change r s f out e h = record {
   slices = store-done r s f out function.Change e h;
 }
 
+-- demand 2's `zeroing`: one that is done had main access; that of the slices makes the store empty
 pub zeroing : (r : Record) (s f out : List ℕ) → functionIn f ≡ function.Zero → let o = answerOf r s f out in answerNumber o ≡ 0
     → Permitted (isMain (r .protection .level)) f r (cond (isSlice (parameterIn f)) (cleared s) s) o
 unfolding verdictBy afterBy clearsBy
@@ -130,6 +135,7 @@ zeroing r s f out e h = record {
   slices = store-done r s f out function.Zero e h;
 }
 
+-- demand 2's `read-changes-nothing`: a read that is answered leaves record and store
 pub read-changes-nothing : (reading : Reading) (r : Record) (s f out : List ℕ) → functionIn f ≡ function.Read reading
     → let o = answerOf r s f out in answerNumber o ≡ 0 → Leaves r s o
 unfolding afterBy clearsBy
@@ -138,15 +144,18 @@ read-changes-nothing reading r s f out e h =
 
 -- ---- what is refused leaves all as it was
 
+-- for the claims of refusals: demand 1's `answer`, as a record and a store that are left
 pub refused-leaves : (r : Record) (s f out : List ℕ) → (answerNumber (answerOf r s f out) ≡ 0 → ⊥) → Leaves r s (answerOf r s f out)
 refused-leaves r s f out n =
     let e = answer r s f out .unchanged n in
     record { after = ap (λ (p : Record × List ℕ). p .0) e; slices = ap (λ (p : Record × List ℕ). p .1) e }
 
+-- demand 2's `change-without-access`: it leaves record and store
 pub change-without-access : (r : Record) (s f out : List ℕ) → functionIn f ≡ function.Change
     → changeAllowed (parameterIn f) (r .protection .level) ≡ false → Leaves r s (answerOf r s f out)
 change-without-access r s f out e a = refused-leaves r s f out (λ h. false≢true (sym a ∙ change r s f out e h .had))
 
+-- demand 2's `zeroing-without-access`: it leaves record and store
 pub zeroing-without-access : (r : Record) (s f out : List ℕ) → functionIn f ≡ function.Zero
     → isMain (r .protection .level) ≡ false → Leaves r s (answerOf r s f out)
 zeroing-without-access r s f out e a = refused-leaves r s f out (λ h. false≢true (sym a ∙ zeroing r s f out e h .had))
@@ -167,6 +176,7 @@ its-own p f h =
     go true true false e d k = absurd (false≢true k)
     go true true true e d k = eqb-true (numberAt f 4 8) (passwordFor p (byteAt f 3)) e
 
+-- demand 2's `right-password`: an unlock that is done had the level's password, opens that level and changes nothing else
 pub right-password : (r : Record) (s f out : List ℕ) → functionIn f ≡ function.Unlock → let o = answerOf r s f out in answerNumber o ≡ 0
     → (numberAt f 4 8 ≡ passwordFor (r .passwords) (detailIn f)) × Leaves (withProtection r (opened (levelFor (detailIn f)))) s o
 unfolding verdictBy afterBy clearsBy
@@ -175,10 +185,12 @@ right-password r s f out e h = (
   record { after = after-done r s f out function.Unlock e h; slices = store-done r s f out function.Unlock e h },
 )
 
+-- demand 2's `wrong-password`: another one changes nothing, an open level included
 pub wrong-password : (r : Record) (s f out : List ℕ) → functionIn f ≡ function.Unlock
     → (numberAt f 4 8 ≡ passwordFor (r .passwords) (detailIn f) → ⊥) → Leaves r s (answerOf r s f out)
 wrong-password r s f out e n = refused-leaves r s f out (λ h. n (right-password r s f out e h .0))
 
+-- demand 2's `lock`: one that is done restores protection and changes nothing else
 pub lock : (r : Record) (s f out : List ℕ) → functionIn f ≡ function.Lock → let o = answerOf r s f out in answerNumber o ≡ 0
     → Leaves (withProtection r shut) s o
 unfolding afterBy clearsBy

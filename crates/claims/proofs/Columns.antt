@@ -69,6 +69,7 @@ header-is : (h : Header) → headerBytes h ≡ headIn h
 unfolding headerBytesAs dateBytes bytesOf headIn
 header-is h = refl
 
+-- the columns' `head`: the log in memory begins with the header's 14 bytes, as the papers have them
 pub head : (s : List ℕ) (h : Header) → Bytes s → soundOf s ≡ Sound h → take 14 s ≡ headIn h
 head s h bytes p = sound-front s h bytes p ∙ header-is h
 
@@ -102,6 +103,7 @@ module _ (n : ℕ) (s : List ℕ) (i : ℕ) (c : Cell) (p : cellAmong n s i ≡ 
         at-lapses = sym (simp (w .0));
       }
 
+-- the columns' `image`, CR 9: where kind, counts and lapses of a cell that is seen stand in memory
 pub image-of : (s : List ℕ) (h : Header) (i : ℕ) (c : Cell) → soundOf s ≡ Sound h → viewOf s .cell i ≡ Good c
     → InImage s (h .days * slotsOf (h .minutes)) i (numbersOf c) (viewOf s .lapses i)
 unfolding cellAt lapsesAt cellsOf
@@ -167,6 +169,7 @@ module _ (b : LogAndRows) (start : Start b) (cs : List Cell) (count : length cs 
   lapses-at : (j : ℕ) → j < length (start .cells) → lapsesAt (b .log) j ≡ start .lapses j
   lapses-at j l = let p = start-faithful start .sound in sym (rw p at (same-lapses j l))
 
+  -- the columns' `file-written`: a start's file is written with these bytes and no others
   pub file-written : (out : List ℕ) → let n = h .days * slotsOf (h .minutes) in 14 + 10 * n + 2 ≤ length out
       → writtenFile (viewOf (b .log)) out
       ≡ outcome (write.Done (14 + 10 * n + 2)) (fileIn h cs (viewOf (b .log) .lapses) ++ drop (14 + 10 * n + 2) out)
@@ -175,6 +178,7 @@ module _ (b : LogAndRows) (start : Start b) (cs : List Cell) (count : length cs 
       written-file (b .log) out h (start .cells) (start .lapses) (start-faithful start .sound) seen lapses-at (start-is start) (omega (arith, size, room))
       ∙ ap₂ (λ (n : ℕ) (f : List ℕ). outcome (write.Done n) (f ++ drop n out)) size same-file
 
+  -- the columns' `file-read`: and those bytes are read as that log, with its figures
   pub file-read : (out figs : List ℕ) → let n = length (b .log) in n ≤ length out → figuresOf h ≤ length figs
       → readFile (fileIn h cs (viewOf (b .log) .lapses)) out figs
       ≡ outcome (read.Done n) (logAndRows (b .log ++ drop n out) (allFigures h (viewOf (b .log) .cell) ++ drop (figuresOf h) figs))
@@ -291,6 +295,7 @@ module _ (h : Header) (cell : ℕ → CellAnswer) (day : ℕ) (date : Date) (on 
         sums _ _ (comesTwice h date) (λ q. q .twice) measured-add doubled,
       ) refl
 
+-- the columns' `reported`: which number of a day's row is whose, over the slots of the day that exist
 pub reported : (b : LogAndRows) (h : Header) (day : ℕ) (date : Date) (row : List ℕ) → soundOf (b .log) ≡ Sound h → Right h (viewOf (b .log) .cell) (b .figures)
     → day < h .days → OnDay h day date → 8 ≤ length row
     → reportOf (soundOf (b .log)) (b .figures) day row ≡ outcome report.Done (written row 0 (rowOn h (viewOf (b .log) .cell) day date))

@@ -51,6 +51,7 @@ use Rattle.claims.proofs.History.{start-faithful, answers}
 faithful : (b : LogAndRows) (start : Start b) (calls : List Call) → AllBytes calls → Faithful (start .header) (ran b calls .left)
 faithful b start calls k = run-faithful (start .header) calls (begin b) k (start-faithful start)
 
+-- CR 8's `kept`: after any calls the figures are those that a walk over the cells gives
 pub kept : (b : LogAndRows) (start : Start b) (calls : List Call) → AllBytes calls → let s = ran b calls .left in
     Right (start .header) (viewOf (s .log) .cell) (s .figures)
 kept b start calls k = faithful b start calls k .right
@@ -61,6 +62,7 @@ pub copies : (h : Header) (figs : List ℕ) (d : ℕ) (row : List ℕ) → d < h
 unfolding reportOf
 copies h figs d row l m e = simp (le-leb _ _ m, e, lt-ltb d (h .days) l)
 
+-- CR 8's `reported`: after any calls the report of a day copies what the walk gives
 pub reported : (b : LogAndRows) (start : Start b) (calls : List Call) → AllBytes calls → let s = ran b calls .left in
     (d : ℕ) (row : List ℕ) → d < start .header .days → rowNumbers ≤ length row
     → reportOf (soundOf (s .log)) (s .figures) d row ≡ outcome report.Done (written row 0 (walked (start .header) (viewOf (s .log) .cell) d))
@@ -92,6 +94,7 @@ text-of : (h : Header) (figs : List ℕ) (d : ℕ) (date : Date) (out : List ℕ
 unfolding dayText dayOnText
 text-of h figs d date out e q = simp (e, q)
 
+-- CR 8's `line`: after any calls a day's line is its date with the walk's numbers
 pub line : (b : LogAndRows) (start : Start b) (calls : List Call) → AllBytes calls → let s = ran b calls .left in
     (d : ℕ) (date : Date) (out : List ℕ) → dayDate (start .header) d ≡ day.On date
     → dayText (soundOf (s .log)) (s .figures) d out ≡ putText (lineText date (walked (start .header) (viewOf (s .log) .cell) d)) out
@@ -111,6 +114,7 @@ by-day image figs d out =
     let e : d + 1 - 1 ≡ d = omega arith in
     simp (ne-eqb (d + 1) 0 (λ z. omega (arith, z)), e)
 
+-- CR 8's `page-line`: and so is the day's line on the page
 pub page-line : (b : LogAndRows) (start : Start b) (calls : List Call) → AllBytes calls → let s = ran b calls .left in
     (d : ℕ) (date : Date) (out : List ℕ) → dayDate (start .header) d ≡ day.On date
     → reportLine (s .log) (s .figures) (d + 1) out ≡ putText (lineText date (walked (start .header) (viewOf (s .log) .cell) d)) out
@@ -124,11 +128,13 @@ pub next-line : (f : List ℕ) (read : ReadAnswer) (given : LogAndRows) → Read
 unfolding nextLine
 next-line f read given e i out = ap (λ (o : Outcome TextAnswer (List ℕ)). goesOn (pageAt read i) o) (line-of-file f read given i out e)
 
+-- CR 8's `next-strip`: the page's next strip is that of the file that was read
 pub next-strip : (f : List ℕ) (read : ReadAnswer) (given : LogAndRows) → ReadOf f read given → (d : ℕ) (out : List ℕ)
     → nextStrip (pageAt read d) (given .log) out ≡ goesOn (pageAt read d) (stripLine f d out)
 unfolding nextStrip
 next-strip f read given e d out = ap (λ (o : Outcome TextAnswer (List ℕ)). goesOn (pageAt read d) o) (strip-of-file f read given d out e)
 
+-- CR 8's `polled`: what the program `poll` leaves has the walk's figures
 pub polled : (b : LogAndRows) (start : Start b) (c : LogAndRows) → Polled b c → Right (start .header) (viewOf (c .log) .cell) (c .figures)
 polled b start c p =
     let r = p .reached in
@@ -172,6 +178,7 @@ book-not h b [] (suc k) = λ e. omega (arith, e)
 book-not h b (c ∷ calls) zero = step-not h b c
 book-not h b (c ∷ calls) (suc k) = book-not h (bookStep h b c .left) calls k
 
+-- CR 8's `never-28`: no figure falls below 0 or passes 32 bits, so none of these calls answers 28
 pub never-28 : (b : LogAndRows) (start : Start b) (calls : List Call) → AllBytes calls → (k : ℕ) → getD (ran b calls .result) k (plain 0) .number ≡ 28 → ⊥
 never-28 b start calls all k =
     subst (λ (xs : List Answer). Not28 (getD xs k (plain 0))) (sym (answers b start calls all)) (book-not (start .header) _ calls k)

@@ -65,10 +65,12 @@ module _ (r : Record) (w : Within r) (f : FitsRecord r) where
       let own = fourEnergies (r .telemetry .ke) (r .ratios) row in
       rw (displayed-own r w row, energiesOf-bytes own rest (plain row k)) refl
 
+-- request 3's `nearest`: a count's float is the one nearest to the exact figure, ties to even
 pub nearest : (r : Record) (n : ℕ) → isWithin r ≡ true → FitsRecord r → n < 65536
     → Nearest (n * r .telemetry .ke * r .ratios .ki * r .ratios .ku) ((ownEnergy (r .telemetry .ke) (r .ratios) n) .0)
 nearest r n h f l = nearest-own r (within r h) f n l
 
+-- request 3's `zero`: a count of 0 is shown as plus zero
 pub zero : (ke : ℕ) (k : Ratios) → (ownEnergy ke k 0) .0 ≡ 0
 zero ke k =
     let none : 0 * ke * k .ki * k .ku ≡ 0 =

@@ -51,6 +51,7 @@ all-passed k o l w a f = simp (k, o, l, w, a, f)
 
 -- ---- what can be read, changed or zeroed is known
 
+-- a parameter that is readable, changeable or zeroable is known, since the unknown one is none of these
 pub known-by : (column : Row → Bool) → column (parameterRow parameter.Unknown) ≡ false → (p : Parameter) → column (parameterRow p) ≡ true → known (parameterRow p) ≡ true
 known-by column n parameter.ActivePower h = refl
 known-by column n parameter.ReactivePower h = refl
@@ -85,6 +86,7 @@ read-by r q =
     ∙ ap₂ seen (request-parameter q) (request-again q)
     ∙ simp (request-size q)
 
+-- demand 2's `read-done`: a read of figures that a meter of its interval has is answered
 pub read-done : (r : Record) (s : List ℕ) (q : Request) (out : List ℕ) → Ready r s (requestFrame q) out
     → askable (subjectOf q (slotsOf (r .minutes))) ≡ true → answerNumber (answered r s q out) ≡ 0
 unfolding subjectOf
@@ -96,6 +98,7 @@ read-done r s q out y h =
 
 -- ---- a change, a zeroing
 
+-- demand 2's `change-done`: a change by the own address, of its length, with its access and a right argument is done
 pub change-done : (r : Record) (s f out : List ℕ) → Ready r s f out → met r f ≡ Own → functionIn f ≡ function.Change → let w = parameterRow (parameterIn f) in
     w .changeable ≡ true → length f ≡ 6 + w .«change_bytes» → changeAllowed (parameterIn f) (r .protection .level) ≡ true
     → argumentFits (parameterRow (parameterIn f)) (detailIn f) (r .telemetry) (dataIn f) ≡ true → answerNumber (answerOf r s f out) ≡ 0
@@ -103,6 +106,7 @@ unfolding verdictBy changeVerdict
 change-done r s f out y m e c l a g =
     zero-by r s f out function.Change y e (all-passed (known-by (λ (w : Row). w .changeable) refl (parameterIn f) c) c (eq-eqb _ _ l) (ap byOwn m) a g)
 
+-- demand 2's `zeroing-done`: a zeroing of what can be zeroed, by the own address and with main access, is done
 pub zeroing-done : (r : Record) (s f out : List ℕ) → Ready r s f out → met r f ≡ Own → functionIn f ≡ function.Zero
     → (parameterRow (parameterIn f)) .zeroable ≡ true → length f ≡ 6 → isMain (r .protection .level) ≡ true → detailIn f ≡ 0
     → answerNumber (answerOf r s f out) ≡ 0
@@ -113,12 +117,14 @@ zeroing-done r s f out y m e z l a d =
 
 -- ---- a password, a lock
 
+-- demand 2's `unlock-done`: the right password of a level opens it
 pub unlock-done : (r : Record) (s f out : List ℕ) → Ready r s f out → functionIn f ≡ function.Unlock → length f ≡ 14
     → detailIn f ≤ 1 → numberAt f 4 8 ≡ passwordFor (r .passwords) (detailIn f) → byteAt f 2 ≡ 0 → answerNumber (answerOf r s f out) ≡ 0
 unfolding verdictBy unlockVerdict
 unlock-done r s f out y e l d p z =
     zero-by r s f out function.Unlock y e (simp (eq-eqb _ _ l, le-leb _ _ d, eq-eqb _ _ p, eq-eqb _ _ z))
 
+-- demand 2's `lock-done`: a lock of its length, with its two zeros, is done whatever the level
 pub lock-done : (r : Record) (s f out : List ℕ) → Ready r s f out → functionIn f ≡ function.Lock → length f ≡ 6
     → byteAt f 2 ≡ 0 → detailIn f ≡ 0 → answerNumber (answerOf r s f out) ≡ 0
 unfolding verdictBy lockVerdict

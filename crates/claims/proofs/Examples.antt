@@ -39,6 +39,7 @@ use Rattle.calendar.specs.Date.{dateOf, dateAt, dayNumber, lengthOf, daysInMont
 use Rattle.calendar.specs.Sunday.{lastSunday}
 use Rattle.claims.specs.Examples.{all, examples}
 
+-- the claim `Marked`: P1 to P10 pass, one computed test
 pub together : all examples ≡ true
 unfolding all examples framed bytesOf requestFrame crcOf crcFrom byteStep eightBits times bitStep lastSunday dateOf dateAt countOff dayNumber starts
     lengthOf daysInMonth monthLengths leap runOf step Ask.asked Take.taken Take.decided Take.updated Take.putWith Take.updateOf

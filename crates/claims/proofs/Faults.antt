@@ -43,6 +43,7 @@ use Rattle.logger.specs.declared.take.TakeAnswer.the-variants as answer
 use Rattle.logger.proofs.TakeLaws.{Step, decided-cases, update-cases}
 use Rattle.claims.specs.Demand1.{inTable}
 
+-- request 2's `gone`: 23 is no number of the table
 pub gone : (n : ℕ) → inTable n ≡ true → n ≡ 23 → ⊥
 unfolding inTable
 gone n t e = false≢true (sym (ap inTable e) ∙ t)
@@ -147,6 +148,7 @@ module _ (q : Request) (y : List ℕ) where
           rw a (by-reply (Silent (length y)) (q .address) function (q .parameter) full y decoded.MeterRefused
           (form-told (q .address) function (q .parameter) full y) (λ e n. refl) (λ e z. subject-silent (length y) s (replyData y)))
 
+  -- request 2's `decode-length`: the length that a decoded reply's fault tells is the reply's own
   pub decode-length : (n : ℕ) → decodedOf q y ≡ decoded.Malformed (fault.Length n) → n ≡ length y
   unfolding toldDecoded told
   decode-length n e = sym (ap (toldDecoded (length y)) e) ∙ decoded-told
@@ -180,6 +182,7 @@ module _ (b : LogAndRows) (held : OpenAsk) (y : List ℕ) where
             update-cases P (comesTwice h (o .ask .day) (o .ask .slot)) held (o .ask .day) i c (b .figures) (Take.updateOf c (rowOf y)) (λ new q d. refl) refl refl refl;
       })
 
+  -- request 2's `take-length`: and so is the one that a taken reply's fault tells
   pub take-length : (n : ℕ) → (Take.taken b held y) .result .answer ≡ answer.Malformed (fault.Length n) → n ≡ length y
   unfolding toldTaken told
   take-length n e = sym (ap (toldTaken (length y)) e) ∙ taken-told

@@ -45,6 +45,7 @@ same-size p q slots h = ap dataBytes (asked p q slots h .subject)
 
 -- ---- the figures again
 
+-- the reader finds a slice's four counts again in its bytes, whatever stands behind them
 pub row-again : (row rest : List ℕ) → RowFits row → rowAt (rowBytes row ++ rest) 0 ≡ fourCounts row
 unfolding rowAt fourCounts rowBytes
 row-again row rest h =

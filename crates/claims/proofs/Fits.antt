@@ -29,11 +29,13 @@ use Rattle.meter.specs.Effect.{renewed}
 
 -- ---- bytes and their numbers
 
+-- zeros are bytes: for a store from the factory
 pub zero-bytes : (n : ℕ) → Bytes (replicate n 0)
 zero-bytes zero i = zero-lt-suc 255
 zero-bytes (suc n) zero = zero-lt-suc 255
 zero-bytes (suc n) (suc i) = zero-bytes n i
 
+-- a store that was cleared is of bytes, for the read that comes next
 pub cleared-bytes : (s : List ℕ) → Bytes (cleared s)
 unfolding cleared
 cleared-bytes s = zero-bytes (length s)
@@ -139,8 +141,10 @@ module _ (r : Record) (f : FitsRecord r) where
   zeroed-fits parameter.SixSlices = f
   zeroed-fits parameter.Unknown = f
 
+-- a change leaves a record whose numbers fit their widths, for the read that comes next
 pub change-fits : (r : Record) (p : Parameter) (c : List ℕ) → FitsRecord r → Bytes c → FitsRecord (renewed (changed p r c))
 change-fits r p c f b = protection-fits (changed p r c) (changed-fits r f p c b) _
 
+-- and so does a zeroing
 pub zeroing-fits : (r : Record) (p : Parameter) → FitsRecord r → FitsRecord (renewed (zeroed p r))
 zeroing-fits r p f = protection-fits (zeroed p r) (zeroed-fits r f p) _

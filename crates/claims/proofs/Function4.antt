@@ -65,6 +65,7 @@ displayable-slice parameter.Password h = absurd (false≢true h)
 displayable-slice parameter.SixSlices h = absurd (false≢true h)
 displayable-slice parameter.Unknown h = absurd (false≢true h)
 
+-- request 3's `slices-alone`: what function 4 answers with 0 is parameter 36
 pub slices-alone : (r : Record) (s : List ℕ) (q : Request) (out : List ℕ) → q .reading ≡ Displayed → answerNumber (answered r s q out) ≡ 0
     → parameterOf (q .parameter) ≡ parameter.Slice
 unfolding subjectOf
@@ -73,6 +74,7 @@ slices-alone r s q out e h =
     let a = replies.asked r q (replies.passed r s (requestFrame q) out h .verdict) in
     displayable-slice p (ap (λ (x : Reading). opensTo x (parameterRow p)) (sym e) ∙ request.asked p q (slotsOf (r .minutes)) a .open-to)
 
+-- request 3's `not-open`: every other parameter that the meter knows gets 12
 pub not-open : (met : Met) (r : Record) (f : List ℕ) → functionIn f ≡ function.Read Displayed → known (parameterRow (parameterIn f)) ≡ true
     → (parameterIn f ≡ parameter.Slice → ⊥) → verdictOf met r (commandOf f) f ≡ NotOpen
 unfolding verdictOf verdictBy readVerdict checked
@@ -82,6 +84,7 @@ not-open met r f e k n = go ((parameterRow (parameterIn f)) .displayable) refl
     go true d = absurd (n (displayable-slice (parameterIn f) d))
     go false d = simp (e, k, d)
 
+-- request 3's `unknown`: one that it does not know gets 11
 pub unknown : (met : Met) (r : Record) (f : List ℕ) → functionIn f ≡ function.Read Displayed → known (parameterRow (parameterIn f)) ≡ false
     → verdictOf met r (commandOf f) f ≡ UnknownParameter
 unfolding verdictOf verdictBy readVerdict checked
@@ -91,11 +94,13 @@ bare-unknown : (f : List ℕ) → length f ≡ shortest → parameterIn f ≡ pa
 unfolding parameterByte parameterOf firstOf
 bare-unknown f l = rw l refl
 
+-- request 3's `bare`: a frame of 4 bytes with function 4 gets 11, no longer 10
 pub bare : (met : Met) (r : Record) (f : List ℕ) → functionIn f ≡ function.Read Displayed → length f ≡ shortest → verdictOf met r (commandOf f) f ≡ UnknownParameter
 bare met r f e l = unknown met r f e (ap (λ (p : Parameter). known (parameterRow p)) (bare-unknown f l))
 
 -- ---- the ratios
 
+-- request 3's `ratios-done`: a record within its ranges takes KI and KU within theirs
 pub ratios-done : (r : Record) (k : Ratios) → isWithin r ≡ true → areRatios k ≡ true → numberOf (setRatios r k) ≡ 0
 unfolding setRatios
 ratios-done r k w h = simp (w, h)
@@ -122,6 +127,7 @@ displayed-bytes r k slots f most h =
     let b = slice-bytes r 36 k slots f (lit≤ tt) most h in
     record { repeated = record { address = f .address; parameter = lit≤ tt }; offset = b .offset; tariff = b .tariff; detail = b .detail }
 
+-- request 3's `ratios-read`: the ratios that the bench set are in what the display then shows
 pub ratios-read : (r y : Record) (k : Ratios) (s : List ℕ) (key : Key) (room : List ℕ) → setRatios r k ≡ Done y → FitsRecord y → Bytes s
     → length s ≡ storeBytes → isLegal key (slotsOf (y .minutes)) ≡ true → 64 ≤ length room
     → readBack y s (displayedRead y key) room ≡ decoded.Displayed (fourEnergies (r .telemetry .ke) k (sliceOf s key))

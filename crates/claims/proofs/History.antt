@@ -62,10 +62,12 @@ use Rattle.claims.specs.Demand3.{Start, begin, ran, booked, logAfresh, O
 
 -- ---- a list of calls
 
+-- calls in the log and in the plain book from the same state: the same answers, and a state that is again the book's
 pub record Together (h : Header) (b : Book) (figs : List ℕ) (calls : List Call) : Type 0 where
   pub answers : run (stateOf h b figs) calls .result ≡ bookRun h b calls .result
   pub state : let s = run (stateOf h b figs) calls .left in s ≡ stateOf h (bookRun h b calls .left) (s .figures)
 
+-- log and book stay together over any list of calls, from a state that is faithful to its figures
 pub together : (h : Header) (b : Book) (figs : List ℕ) (calls : List Call) → isHeader h ≡ true → Sane h b → AllBytes calls → Faithful h (stateOf h b figs)
     → Together h b figs calls
 unfolding runOf
@@ -110,10 +112,12 @@ cell-anywhere cells k i = go (ltb i (length cells)) refl
     go true e = k i (ltb-true i (length cells) e)
     go false e = rw (List·getD-eq-default cells Gap (ltb-false i (length cells) e)) gap-is-cell
 
+-- the book of a start has no ask open and rows that fit, as a book keeps to
 pub start-sane : (h : Header) (cells : List Cell) (lapses : ℕ → ℕ) → AllCells cells → Sane h (startBook cells lapses)
 unfolding startBook
 start-sane h cells lapses k = record { inside = tt; rows = λ i. first-fits (getD cells i Gap) (cell-anywhere cells k i) }
 
+-- the cells worked out from the book of a start are the start's own
 pub start-cells : (cells : List Cell) (lapses : ℕ → ℕ) (n : ℕ) → length cells ≡ n → AllCells cells → workedOut (startBook cells lapses .kept) 0 n ≡ cells
 unfolding startBook
 start-cells cells lapses n e k =
@@ -134,6 +138,7 @@ not-cut n l = go (ltb n 255) refl
     go true p = refl
     go false p = omega (arith, ltb-false n 255 p)
 
+-- so a start's log with no ask open is the state of its book
 pub start-state : (h : Header) (cells : List Cell) (lapses : ℕ → ℕ) (figs : List ℕ) → length cells ≡ cellsOf h → AllCells cells → LapsesFit lapses
     → stateOf h (startBook cells lapses) figs ≡ begin (logAndRows (imageOf h cells lapses) figs)
 unfolding startBook
@@ -163,6 +168,7 @@ lapse-stays s q j l k =
       counted = λ h i e o. layout.elsewhere (s .log) h (change.Lapses i (Lapse.oneMore (viewOf (s .log) .lapses i))) i q j e refl l (k h i e o);
     })
 
+-- demand 3's `elsewhere`, CR 9: a call alters no pair of bits outside those that hold the cell whose ask was open
 pub elsewhere : (s : State) (c : Call) (q j : ℕ) → j < 4 → Elsewhere s q j → pairOf (byteAt (step s c .left .log) q) j ≡ pairOf (byteAt (s .log) q) j
 unfolding step
 elsewhere s (ask address day slot out) q j l k = refl
@@ -198,12 +204,14 @@ lapse-others s j k =
     })
     (lapsing-holds (viewOf (s .log)) (s .held))
 
+-- demand 3's `others`: a call alters no cell, and no count of lapses, but those of the cell whose ask was open
 pub others : (s : State) (c : Call) (j : ℕ) → CallBytes c → OtherCell s j → SameCell (step s c .left .log) (s .log) j
 unfolding step
 others s (ask address day slot out) j b k = record { cell = refl; lapses = refl }
 others s lapse j b k = lapse-others s j k
 others s (reply y) j b k = reply-others s y j b k
 
+-- demand 3's `as-long`: no call alters how long the log is
 pub as-long : (s : State) (c : Call) → length (step s c .left .log) ≡ length (s .log)
 unfolding step Take.taken Lapse.lapsed
 as-long s (ask address day slot out) = refl
@@ -239,6 +247,7 @@ fresh h out figs n p =
       figures = subst (λ (cell : ℕ → CellAnswer). Right h cell (o .left .figures)) (sym (cells-seen h (gaps (cellsOf h)) noLapses (a .header) count)) (a .right);
     })
 
+-- demand 3's `file`: what `read_file` says is done is a log to start from, with its figures
 pub file : (f out figs : List ℕ) (n : ℕ) → Bytes f → let o = readFile f out figs in o .result ≡ read.Done n
     → Start (logAndRows (take n (o .left .log)) (o .left .figures))
 file f out figs n k p =
@@ -260,6 +269,7 @@ file f out figs n k p =
           (a .right);
     })
 
+-- demand 3's `fresh-had`: with the room for it, every right header's fresh log is made
 pub fresh-had : (h : Header) (out figs : List ℕ) → isHeader h ≡ true → lengthOf h ≤ length out → figuresOf h ≤ length figs
     → freshWith h out figs
     ≡ outcome (made.Done (lengthOf h)) (logAndRows (freshImage h ++ drop (lengthOf h) out) (allFigures h allGaps ++ drop (figuresOf h) figs))
@@ -302,6 +312,7 @@ lapses-by : (v : ℕ) (lapses : ℕ → ℕ) → (v < 3 → (i : ℕ) → lapses
 unfolding hasLapses
 lapses-by v lapses none e = none (leb-false 3 v e)
 
+-- demand 3's `file-had`: with the room for it, every start's file is read as that start, in each version that can hold it
 pub file-had : (v : ℕ) (b : LogAndRows) (out figs : List ℕ) (start : Start b) → let h = start .header in let n = length (b .log) in
     1 ≤ v → v ≤ 3 → (v ≡ 1 → h .seasons ≡ 0) → (v < 3 → (i : ℕ) → start .lapses i ≡ 0) → n ≤ length out → figuresOf h ≤ length figs
     → readFile (fileBytesAs v h (start .cells) (start .lapses)) out figs
@@ -340,17 +351,21 @@ module _ (b : LogAndRows) (start : Start b) (calls : List Call) (k : AllBytes ca
       together (start .header) book (b .figures) calls (start .right) (start-sane (start .header) (start .cells) (start .lapses) (start .each)) k
       (subst (Faithful (start .header)) begins (start-faithful start))
 
+  -- demand 3's `log`: after every list the log is byte for byte the one worked out afresh from the history
   pub log : ran b calls .left .log ≡ logAfresh start calls
   unfolding book
   log = ap (λ (t : State). run t calls .left .log) begins ∙ ap (λ (t : State). t .log) (all .state)
 
+  -- demand 3's `answers`: every answer is the plain book's
   pub answers : ran b calls .result ≡ booked start calls .result
   unfolding book
   answers = ap (λ (t : State). run t calls .result) begins ∙ all .answers
 
+  -- demand 3's `ask-left`: the ask that is left open is the plain book's
   pub ask-left : ran b calls .left .held ≡ booked start calls .left .held
   unfolding book
   ask-left = ap (λ (t : State). run t calls .left .held) begins ∙ ap (λ (t : State). t .held) (all .state)
 
+-- demand 3's `polled`: what the program `poll` leaves is the log of the calls that it reached, worked out afresh
 pub polled : (b : LogAndRows) (start : Start b) (c : LogAndRows) (p : Polled b c) → c .log ≡ logAfresh start (p .reached .calls)
 polled b start c p = let r = p .reached in ap (λ (w : State). w .log) (sym (r .leads)) ∙ log b start (r .calls) (r .bytes)

@@ -100,6 +100,7 @@ own-done r s q out k h = go (heard r (requestFrame q)) refl (isDone (verdictOn r
         absurd (told-refused (answered r s q out) q _ (refused r s q out k (t .askable-is) (t .room) (t .sound) e g) told)
     go true e true g = done-verdict r s q out (t .room) (t .sound) e g ∙ done-only _ g
 
+-- demand 2's `inquired`: what `inquire` answers with 0 are the record's own figures
 pub inquired : (r : Record) (s : List ℕ) (q : Request) (out : List ℕ) → FitsRecord r → Bytes s → FitsRequest q
     → let o = inquiry.inquired r s q out in inquiry.numberOf (o .answer) ≡ 0 → o .answer ≡ Told (ownAs (q .reading) (parameterOf (q .parameter)) r s q)
 inquired r s q out f b k h =
@@ -113,6 +114,7 @@ told-output : (o : Outcome) (q : Request) → (toldOf o q) .out ≡ o .out
 unfolding toldOf
 told-output o q = either (λ (x : inquiry.Outcome). x .out ≡ o .out) (isSilent (o .answer .verdict)) refl refl
 
+-- demand 2's `inquired-six`: the six rows found in all of the output are the store's
 pub inquired-six : (r : Record) (s : List ℕ) (q : Request) (out : List ℕ) → Bytes s → FitsRequest q → parameterOf (q .parameter) ≡ SixSlices
     → let o = inquiry.inquired r s q out in inquiry.numberOf (o .answer) ≡ 0 → sixIn (replyData (o .out)) ≡ sixOf s (keyOf q)
 inquired-six r s q out b k e h =
@@ -122,6 +124,7 @@ inquired-six r s q out b k e h =
 
 -- ---- what asks for figures that the meter has is told them
 
+-- demand 2's `inquired-done`: one that asks for figures that the meter has is told them
 pub inquired-done : (r : Record) (s : List ℕ) (q : Request) (out : List ℕ) → Ready r s (requestFrame q) out → FitsRecord r → Bytes s → FitsRequest q
     → askable (subjectOf q (slotsOf (r .minutes))) ≡ true → (inquiry.inquired r s q out) .answer ≡ Told (ownAs (q .reading) (parameterOf (q .parameter)) r s q)
 unfolding inquiry.inquired asked
@@ -134,6 +137,7 @@ inquired-done r s q out y f b k h =
 
 -- ---- demand 1
 
+-- demand 1's `inquire`: its number is the table's, whichever part of the call gave it
 pub inquire : (r : Record) (s : List ℕ) (q : Request) (out : List ℕ) → inTable (inquiry.numberOf ((inquiry.inquired r s q out) .answer)) ≡ true
 unfolding inquiry.inquired asked toldOf inTable
 inquire r s q out =

@@ -42,6 +42,7 @@ lapsing-counted : (v : View) (h : Header) (held : OpenAsk) (i : ℕ) (c : Cell) 
 unfolding lapsing
 lapsing-counted v h held i c p o g = rw (o .open-ask, p, o .interval, g) refl
 
+-- CR 7's `counted`: a lapse of an open ask counts one more for its cell, leaves the cell and closes the ask
 pub counted : (s : List ℕ) (h : Header) (held : OpenAsk) (i : ℕ) (c : Cell) → soundOf s ≡ Sound h → OpenFor h held i → viewOf s .cell i ≡ Good c
     → let o = lapsed s held in let v = viewOf (o .left) in
     (o .result ≡ record { answer = Done; held = Closed }) × (v .lapses i ≡ oneMore (viewOf s .lapses i)) × (v .cell i ≡ Good c)
@@ -56,14 +57,17 @@ counted s h held i c p o g =
       ap (λ (w : View). w .cell i) after ∙ g,
     )
 
+-- CR 7's `below`: one more is one more up to 255
 pub below : (n : ℕ) → n < 255 → oneMore n ≡ n + 1
 unfolding oneMore
 below n l = simp (lt-ltb n 255 l)
 
+-- CR 7's `stays`: and 255 stays
 pub stays : oneMore 255 ≡ 255
 unfolding oneMore
 stays = refl
 
+-- CR 7's `no-lapse`: a reply, whatever it is, counts as no lapse for any cell
 pub no-lapse : (b : LogAndRows) (held : OpenAsk) (y : List ℕ) → Bytes y → (i : ℕ) → viewOf (Take.taken b held y .left .log) .lapses i ≡ viewOf (b .log) .lapses i
 unfolding changed
 no-lapse b held y bytes i =
@@ -77,6 +81,7 @@ no-lapse b held y bytes i =
 
 -- ---- files of versions 1 and 2
 
+-- CR 7's `early`: files of versions 1 and 2 are read with zero lapses
 pub early : (f out figs : List ℕ) (n : ℕ) → Bytes f → versionAt f < 3 → let o = readFile f out figs in o .result ≡ read.Done n
     → (i : ℕ) → viewOf (take n (o .left .log)) .lapses i ≡ 0
 early f out figs n bytes e p i =
@@ -101,6 +106,7 @@ size-by v h = go (ltb v 3) refl
     go true e = simp (lt-leb 3 v (ltb-true v 3 e))
     go false e = simp (le-leb 3 v (ltb-false v 3 e))
 
+-- CR 7's `other-length`: a file that is not as long as its version's cells make it gets 33
 pub other-length : (f out figs : List ℕ) (h : Header) → Begun f → fileHeader f ≡ Right h → (length f ≡ 14 + cond (ltb (versionAt f) 3) 9 10 * cellsOf h + 2 → ⊥)
     → readFile f out figs ≡ outcome read.WrongLength (logAndRows out figs)
 other-length f out figs h b e n = wrong-length f out figs h b e (λ q. n (q ∙ size-by (versionAt f) h))

@@ -66,6 +66,7 @@ module _ (r : Record) (s : List ℕ) (q : Request) (out : List ℕ) where
   unfolding toldOf
   told-store o e = either (λ (x : inquiry.Outcome). x .store ≡ s) (isSilent (o .answer .verdict)) e e
 
+  -- demand 1's `store-kept`: `inquire` leaves the store, whatever it answers
   pub store-kept : (inquired r s q out) .store ≡ s
   unfolding inquired asked
   store-kept =
@@ -133,6 +134,7 @@ module _ (r : Record) (s : List ℕ) (q : Request) (out : List ℕ) (a : askable
   heard-left : Left (verdictOn r f) (toldOf (replied (verdictOn r f) r s f out) q)
   heard-left = told-left (verdictOn r f) (judged r f)
 
+-- demand 1's `output`: after `inquire` the output is as it was, or has the meter's reply at its front
 pub output : (r : Record) (s : List ℕ) (q : Request) (out : List ℕ) → let o = inquired r s q out in
     o .out ≡ cond (noReply (inquiry.numberOf (o .answer))) out (written out 0 (replyTo r s (requestFrame q)))
 unfolding inquired asked toldOf answerOf replied noReply f Left
@@ -216,6 +218,7 @@ done-number r s q out w b k e n l m g =
     let own = ap reader.numberOf (read r s q out w b k (ap numberOf v)) in
     own ∙ own-as-number (q .reading) (parameterOf (q .parameter)) r s q (λ h. decoded-no-27 q (replyIn (answered r s q out)) l (own ∙ h))
 
+-- demand 1's `refused-output`: a refused inquiry leaves the short refusal frame with 24, else nothing
 pub refused-output : (r : Record) (s : List ℕ) (q : Request) (out : List ℕ) → FitsRecord r → Bytes s → FitsRequest q
     → let o = inquired r s q out in let f = requestFrame q in (inquiry.numberOf (o .answer) ≡ 0 → ⊥)
     → o .out ≡ cond (eqb (inquiry.numberOf (o .answer)) 24) (written out 0 (framed (headOf (verdictOn r f) (commandOf f)))) out

@@ -48,6 +48,7 @@ module _ (address code : ℕ) (y : List ℕ) (e : replyForm address code y ≡ W
 
 -- ---- the reply given back
 
+-- CR 1's `back`: the figures of an accepted reply, in any meter, give that reply back
 pub back : (address code : ℕ) (y : List ℕ) (m : Meter) → Bytes y → let d = decodedOf address code y in numberOf d ≡ 0
     → replyOf (commandOf code) (withFigures address d m) ≡ y
 unfolding decodedOf formed figuresOf replyOf dataOf
@@ -101,6 +102,7 @@ within m w =
     let b = both (loadFits (m .load)) (frequencyFits (m .frequency)) (a .1) in
     record { tariffs = a .0; load = b .0; frequency = b .1 }
 
+-- CR 1's `legal`: and they are figures that the bench takes
 pub legal : (address code : ℕ) (y : List ℕ) (m : Meter) → isWithin m ≡ true → let d = decodedOf address code y in numberOf d ≡ 0
     → isWithin (withFigures address d m) ≡ true
 unfolding decodedOf formed figuresOf isWithin

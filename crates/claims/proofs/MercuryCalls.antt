@@ -27,9 +27,11 @@ pub done : {A : Type 0} (before after : A) → Ends 0 before after
 unfolding inTable
 done before after = record { in-table = refl; unchanged = λ n. absurd (n refl) }
 
+-- a number of the table with nothing done, for the checks that fail
 pub stays : {A : Type 0} (number : ℕ) (x : A) → inTable number ≡ true → Ends number x x
 stays number x t = record { in-table = t; unchanged = λ n. refl }
 
+-- the Mercury's `decode` of demand 1: each answer of its reader has a number of the table
 pub decode : (d : Decoded) → inTable (reply.numberOf d) ≡ true
 unfolding inTable
 decode (Tariffs t) = refl
@@ -38,6 +40,7 @@ decode (Frequency f) = refl
 decode (Malformed fault) = refl
 decode NotDecimal = refl
 
+-- the Mercury's `put-request` of demand 1: one that is refused leaves the lent output
 pub put-request : (address code : ℕ) (out : List ℕ) → EndsBy request.numberOf out (request.requested address code out)
 unfolding request.requested inTable
 put-request address code out =
@@ -49,6 +52,7 @@ unfolding bench.heard inTable
 heard WellFormed c m out = done out _
 heard (Faulty fault) c m out = stays 40 out refl
 
+-- the Mercury's `answer` of demand 1: a request that the bench refuses leaves the lent output
 pub answer : (m : Meter) (q out : List ℕ) → EndsBy bench.numberOf out (bench.answered m q out)
 unfolding bench.answered inTable
 answer m q out =

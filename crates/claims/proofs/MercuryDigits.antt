@@ -81,6 +81,7 @@ figures-digits Load d k = load-digits d
 figures-digits Frequency d k = frequency-digits d
 figures-digits Unknown d k = absurd (false≢true k)
 
+-- CR 1's `digits`: a well-formed reply is 0 where every half-byte of its figures is a digit, else 41
 pub digits : (address code : ℕ) (y : List ℕ) → replyForm address code y ≡ WellFormed
     → numberOf (decodedOf address code y) ≡ cond (isPacked (take (digitBytes (commandOf code)) (drop 5 y))) 0 41
 unfolding decodedOf formed

@@ -21,6 +21,7 @@ use Rattle.c_mercury.specs.Calls as c
 use Rattle.claims.specs.Demand1.{inTable, Ends, EndsBy}
 use Rattle.claims.proofs.MercuryCalls as calls
 
+-- demand 1 of the request for C: a refused one leaves the output
 pub request : (address code : ℕ) (out : List ℕ) → let o = c.requestForC address code out in Ends (o .result) out (o .left)
 unfolding c.requestForC
 request address code out =
@@ -36,6 +37,7 @@ decoded (Frequency f) count row = calls.done (count, row) _
 decoded (Malformed fault) count row = calls.stays 40 (count, row) (calls.decode (Malformed fault))
 decoded NotDecimal count row = calls.stays 41 (count, row) (calls.decode NotDecimal)
 
+-- demand 1 of the decoding for C: a refused one leaves count and row
 pub decode : (address code : ℕ) (y row : List ℕ) (count : ℕ) → let o = c.decodeForC address code y row count in
     Ends {A = ℕ × List ℕ} (o .result) (count, row) (o .left)
 unfolding c.decodeForC inTable
@@ -50,6 +52,7 @@ answered TooShort length out left e = record { in-table = e .in-table; unchanged
 answered OutOfRange length out left e = record { in-table = e .in-table; unchanged = λ n. ap₂ (λ (k : ℕ) (l : List ℕ). (k, l)) refl (e .unchanged n) }
 answered (Silent fault) length out left e = record { in-table = e .in-table; unchanged = λ n. ap₂ (λ (k : ℕ) (l : List ℕ). (k, l)) refl (e .unchanged n) }
 
+-- demand 1 of the answer for C: a refused one leaves length and output
 pub answer : (m : Meter) (q out : List ℕ) (length : ℕ) → let o = c.answerForC m q out length in
     Ends {A = ℕ × List ℕ} (o .result) (length, out) (o .left)
 unfolding c.answerForC

@@ -96,6 +96,7 @@ figures-read Load m rest h k = load-read (m .load) rest (h .load)
 figures-read Frequency m rest h k = frequency-read (m .frequency) rest (h .frequency)
 figures-read Unknown m rest h k = absurd (false≢true k)
 
+-- CR 1's `decoded`: the bench's reply to a known command decodes to the meter's legal figures
 pub decoded : (m : Meter) (c : Command) → FitsMeter m → isWithin m ≡ true → isKnown c ≡ true
     → decodedOf (m .address) (codeOf c) (replyOf c m) ≡ ownFigures c m
 unfolding decodedOf replyOf
@@ -108,6 +109,7 @@ decoded m c fits within known =
 
 -- ---- the bench's answer
 
+-- CR 1's `answered`: a request to a meter whose figures are legal is answered with that reply
 pub answered : (m : Meter) (c : Command) (out : List ℕ) → FitsMeter m → isWithin m ≡ true → isKnown c ≡ true → 64 ≤ length out
     → bench.answered m (requestFrame (m .address) (codeOf c)) out ≡ outcome (Done (length (replyOf c m))) (written out 0 (replyOf c m))
 unfolding bench.answered bench.heard
@@ -152,6 +154,7 @@ module _ (m : Meter) (q out : List ℕ) (n : ℕ) where
       go true p false w h = let z : _≡_ {A = ℕ} 0 1 = cc in absurd (omega arith)
       go false p b w h = let z : _≡_ {A = ℕ} 0 1 = cc in absurd (omega arith)
 
+  -- CR 1's `read`: whatever the request's bytes were, an answer with 0 decodes to the meter's figures
   pub read : FitsMeter m → (bench.answered m q out) .result ≡ Done n
       → decodedOf (m .address) (byteAt q commandPlace) (take n ((bench.answered m q out) .left)) ≡ ownFigures (commandIn q) m
   read fits h =

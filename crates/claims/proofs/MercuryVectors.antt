@@ -14,6 +14,7 @@ use Rattle.mercury.specs.Reply.{figuresOf, formed, decodedOf}
 use Rattle.mercury.specs.Request.{requestFrame}
 use Rattle.claims.specs.MercuryVectors.{Vectors}
 
+-- CR 1's vectors: the source's three requests and the reply that says 50.50 Hz, each computed
 pub computed : Vectors
 unfolding requestFrame headOf addressBytes addressIn framed crcFits bytesOf number numberAt crcOf crcFrom byteStep eightBits times bitStep commandOf
     formOf replyForm figuresOf formed decodedOf frequencyBy frequencyOf isPacked valueFrom decimalOf

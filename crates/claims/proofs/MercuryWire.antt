@@ -87,6 +87,7 @@ answers m c bs out e fits within known room =
     ap (λ (q : List ℕ). bench.answered m q out) (sym (request-is (m .address) (codeOf c))) ∙ there.answered m c out fits within known room
     ∙ ap (λ (y : List ℕ). outcome (Done (length y)) (written out 0 y)) (reply-is m c bs e)
 
+-- the claim `MercuryWire`: each request and reply of the Mercury 206 in the bytes of its page
 pub page : MercuryWire
 unfolding commandOf dataOf tariffsBytes loadBytes frequencyBytes framed bytesOf
 page = record {

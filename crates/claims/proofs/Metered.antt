@@ -109,6 +109,7 @@ unfolding runOf
 good-run [] s i old k g = (old, g)
 good-run (c ∷ calls) s i old k g = let w = good-step s c i old (k .0) g in good-run calls (step s c .left) i (w .0) (k .1) (w .1)
 
+-- the whole history's `met`: after any calls the log has what `RegisterToCell` asks of one, for every cell
 pub met : (b : LogAndRows) (start : Start b) (calls : List Call) → AllBytes calls → let h = start .header in let s = ran b calls .left in
     (i : ℕ) → i < h .days * slotsOf (h .minutes) → (c : Cell) × LogWith (logAndRows (s .log) (s .figures)) h i c
 unfolding cellsOf
@@ -145,6 +146,7 @@ module _ (b : LogAndRows) (start : Start b) (calls : List Call) (k : AllBytes ca
   good-same : (c d : Cell) → Good c ≡ Good d → c ≡ d
   good-same c d p = cc
 
+  -- the whole history's `again`: after any calls the log is one to start from, with the header that it had
   pub again : let s = ran b calls .left in (now : Start (logAndRows (s .log) (s .figures))) × (now .header ≡ start .header)
   again = (
     record {
@@ -528,6 +530,7 @@ trace h (c ∷ calls) s i e+ e- r+ r- k f p = go (trace h calls (step s c .left)
 gap≢measured : (e+ e- r+ r- : ℕ) → Good Gap ≡ Good (Measured e+ e- r+ r-) → ⊥
 gap≢measured e+ e- r+ r- p = let z : _≡_ {A = ℕ} 0 1 = cc in omega arith
 
+-- the whole history's `measured`: a gap that is measured now got its counts from a reply to an ask for it
 pub measured : (b : LogAndRows) (start : Start b) (calls : List Call) → AllBytes calls → (i e+ e- r+ r- : ℕ) → viewOf (b .log) .cell i ≡ Good Gap
     → viewOf (ran b calls .left .log) .cell i ≡ Good (Measured e+ e- r+ r-) → Came (begin b) (start .header) calls i (e+ ∷ e- ∷ r+ ∷ r- ∷ [])
 measured b start calls k i e+ e- r+ r- gap p = go (trace (start .header) calls (begin b) i e+ e- r+ r- k (start-faithful start) p)
@@ -550,6 +553,7 @@ row-fits-four e+ e- r+ r- f = record { four = refl; below = below }
     below (suc (suc (suc zero))) = f .r-minus
     below (suc (suc (suc (suc i)))) = zero-lt-suc 65535
 
+-- the whole history's `by-meters`: where meters answered, these are a meter's slice of the cell's date and slot
 pub by-meters : (b : LogAndRows) (start : Start b) (calls : List Call) → AllBytes calls → (meters : FromMeters (begin b) (start .header) calls)
     → (i e+ e- r+ r- : ℕ) → viewOf (b .log) .cell i ≡ Good Gap → viewOf (ran b calls .left .log) .cell i ≡ Good (Measured e+ e- r+ r-)
     → let row = e+ ∷ e- ∷ r+ ∷ r- ∷ [] in
@@ -677,6 +681,7 @@ module _ (b : LogAndRows) (start : Start b) (calls : List Call) (k : AllBytes ca
             ∙ into .cell ∙ ap Good (z .1),
       )
 
+  -- the whole history's `kept`: a slice that came and is not all zeros is not lost, its cell is measured
   pub kept : (of : List ℕ) × (viewOf (ran b calls .left .log) .cell i ≡ Good (measuredBy of))
   unfolding runOf
   kept =

@@ -127,6 +127,7 @@ data-number : (a : ℕ) (level : Access) (p : List ℕ) → length p ≡ 8 → n
 unfolding numberAt framed
 data-number a level p h = number-by a 16 (37 ∷ levelByte level ∷ p) (omega (arith, h))
 
+-- demand 2's `taken`: a sound meter whose main level is open takes any eight bytes as either level's new password
 pub taken : (level : Access) (new : List ℕ) (r : Record) (s out : List ℕ) → Eight new → r .address < 256 → isSound r s ≡ true → 64 ≤ length out
     → r .protection .level ≡ Main → answerNumber (given level new r s out) ≡ 0
 unfolding functionOf framed heard argumentFits dataFits
@@ -183,6 +184,7 @@ module _ (level : Access) (new : List ℕ) (r : Record) (s out room : List ℕ) 
       (subst (λ (y : Record). y .address < 256) (sym x) (n .address)) e (n .room)
       ∙ ap (λ (y : Record). toldBy (y .passwords) tried p) x
 
+  -- demand 2's `opens`: they then open that level
   pub opens : let o = given level new r s out in let u = unlocked o level new room in
       (answerNumber u ≡ 0) × Leaves (withProtection (o .answer .after) (opened (levelOf level))) (o .store) u
   unfolding functionOf framed
@@ -198,6 +200,7 @@ module _ (level : Access) (new : List ℕ) (r : Record) (s out room : List ℕ) 
           subst (λ (l : Level). Leaves (withProtection (o .answer .after) (opened l)) (o .store) (unlocked o level new room)) (level-named level)
           (right-password (o .answer .after) (o .store) (unlocking (o .answer .after) level new) room refl zero .1)
 
+  -- demand 2's `no-other`: no other eight bytes do, the old ones among them: 14, and nothing changes
   pub no-other : (old : List ℕ) → Eight old → (old ≡ new → ⊥)
       → let o = given level new r s out in let u = unlocked o level old room in (answerNumber u ≡ 14) × Leaves (o .answer .after) (o .store) u
   no-other old e d =
@@ -208,6 +211,7 @@ module _ (level : Access) (new : List ℕ) (r : Record) (s out room : List ℕ) 
       let told = after-told level old e ∙ ap (λ (b : Bool). numberOf (cond b Done NoAccess)) differs in
       (told, refused-leaves _ _ _ _ (λ z. omega (arith, told, z)))
 
+  -- demand 2's `other-stays`: what is tried on the other level is answered as before the change
   pub other-stays : (tried : List ℕ) → Eight tried
       → answerNumber (unlocked (given level new r s out) (other level) tried room) ≡ answerNumber (answerOf r s (unlocking r (other level) tried) room)
   other-stays tried e =

@@ -80,6 +80,7 @@ whole r s h =
     let a = both (eqb (length s) storeBytes) (isWithin r) h in
     record { long = eqb-true (length s) storeBytes (a .0); next = ltb-true (r .next) places (within r (a .1) .next) }
 
+-- demand 2's `others-stay`: a slice of another key reads as before, but for the one in the place in turn
 pub others-stay : (m : Meter) (x : Record) (k j : Key) (row room : List ℕ) → let o = slicePut (m .kept) (m .store) k row in let n : Meter = record { kept = x; store = o .left } in
     o .result ≡ Done x → Fits m → Fits n → isLegal j (slotsOf (m .kept .minutes)) ≡ true → (j ≡ k → ⊥)
     → (isKept (m .store) k ≡ false → keyAt (m .store) (m .kept .next) ≡ j → ⊥) → 64 ≤ length room → sliceBack n j room ≡ sliceBack m j room
@@ -252,6 +253,7 @@ module _ (m : Meter) (q : Slice) (sound : isSound (m .kept) (m .store) ≡ true)
         ahead = all-others;
       })
 
+  -- demand 2's `lasts`: a slice that was not there is still read after fewer than 2,976 others
   pub lasts : (ps : List Slice) (room : List ℕ) → noneHas (q .key) ps ≡ true → length ps < 2976
       → let n = putAll m (q ∷ ps) in Fits n → 64 ≤ length room → sliceBack n (q .key) room ≡ decoded.Slice (fourCounts (q .counts))
   unfolding putAll

@@ -93,6 +93,7 @@ after-second r e = simp e
 protects : (r : Record) → isWithin r ≡ true → isProtection (r .protection) ≡ true
 protects r e = within r e .protection
 
+-- demand 2's `quiet`: so many seconds take so many from those left, and the last ends the level
 pub quiet : (n : ℕ) (r : Record) → isWithin r ≡ true → let p = r .protection in
     (passing n r) .protection ≡ cond (ltb n (p .left)) (record { level = p .level; left = p .left - n }) shut
 unfolding passing quietly later
@@ -103,9 +104,11 @@ quiet (suc n) r e =
     ∙ one-more n (r .protection)
 
 module _ (l : Level) (r : Record) (e : isWithin r ≡ true) (p : r .protection ≡ opened l) where
+  -- demand 2's `kept-239`, P10: 239 quiet seconds keep the level
   pub kept-239 : (passing 239 r) .protection .level ≡ l
   kept-239 = ap (λ (x : Protection). x .level) (quiet 239 r e) ∙ ap (λ (x : Protection). (cond (ltb 239 (x .left)) (record { level = x .level; left = x .left - 239 }) shut) .level) p
 
+  -- demand 2's `ended-240`, P10: the 240th ends it
   pub ended-240 : (passing 240 r) .protection ≡ shut
   ended-240 = quiet 240 r e ∙ ap (λ (x : Protection). cond (ltb 240 (x .left)) (record { level = x .level; left = x .left - 240 }) shut) p
 
@@ -174,6 +177,7 @@ runs r s (frame f out ∷ es) h n =
     ∙ ap (quietly (secondsIn es))
     (by-frame (λ (p : Protection). p ≡ r .protection) renewsOrLocks r s f out refl refl refl (b .0) refl (λ k. absurd (false≢true (sym k))))
 
+-- demand 2's `until-then`: protection does not return before the seconds left are over, unless a frame restores it
 pub until-then : (r : Record) (s : List ℕ) (es : List Event) → isSound r s ≡ true → noneOf renewsOrLocks r s es ≡ true → secondsIn es < r .protection .left
     → (after r s es) .protection ≡ record { level = r .protection .level; left = r .protection .left - secondsIn es }
 unfolding quietly
@@ -201,6 +205,7 @@ ends r s (frame f out ∷ es) h n l =
     ends (o .answer .after) (o .store) es (answer-sound r s f out h) (b .1)
     (by-frame (λ (p : Protection). p .left ≤ secondsIn es) renews r s f out refl refl refl (b .0) l (λ k. omega arith))
 
+-- demand 2's `returns`: after 240 seconds without an accepted change, zeroing or password it has returned, whatever else came
 pub returns : (r : Record) (s : List ℕ) (es : List Event) → isSound r s ≡ true → noneOf renews r s es ≡ true → 240 ≤ secondsIn es
     → (after r s es) .protection ≡ shut
 returns r s es h n l =

@@ -118,6 +118,7 @@ unfolding readAs
 as-no-27 Stored p detail bs e = figures-no-27 p detail bs e
 as-no-27 Displayed p detail bs e = energies-no-27 (energiesOf bs)
 
+-- the reader says 27 of no request that can be asked, whatever the reply
 pub decoded-no-27 : (q : Request) (y : List ℕ) → askable (subjectOf q mostSlots) ≡ true → decoding.numberOf (decodedOf q y) ≡ 27 → ⊥
 unfolding No27 decodedOf subjectOf
 decoded-no-27 q y a h = go (replyOf (q .address) (readingCode (q .reading)) (q .parameter) (6 + dataBytes (subjectFor p q mostSlots)) y) refl
@@ -136,6 +137,7 @@ decoded-no-27 q y a h = go (replyOf (q .address) (readingCode (q .reading)) (q .
         as-no-27 (q .reading) p (q .detail) (replyData y) (k .open-to)
         (ap (λ (s : Subject). decoding.numberOf (figuresOf s (replyData y))) (sym (k .subject)) ∙ n)
 
+-- demand 2's `out-of-range`: no record answers with 0 what the reader gives 27
 pub out-of-range : (q : Request) (y : List ℕ) → decoding.numberOf (decodedOf q y) ≡ 27
     → (r : Record) (s out : List ℕ) → answerNumber (answered r s q out) ≡ 0 → ⊥
 unfolding No27
@@ -172,11 +174,13 @@ met-framed r a rest b least most =
     ap₂ (λ (sealed : Bool) (x : ℕ). cond sealed (cond (eqb x 0) Zero (cond (eqb x (r .address)) Own Neither)) Neither)
     (framed-sealed (a ∷ rest) b (omega (arith, least)) (omega (arith, most))) (framed-address a rest)
 
+-- a meter hears a frame of bytes that has its own address or 0
 pub hears-framed : (r : Record) (a : ℕ) (rest : List ℕ) → OfBytes (a ∷ rest) → 1 ≤ length rest → length rest ≤ 61
     → (eqb a 0 || eqb a (r .address)) ≡ true → heard r (framed (a ∷ rest)) ≡ true
 unfolding heard
 hears-framed r a rest b least most e = ap isHeard (met-framed r a rest b least most) ∙ by-either (eqb a 0) (eqb a (r .address)) e
 
+-- so it hears every request to one of these
 pub hears-request : (r : Record) (q : Request) → BytesRequest q → (eqb (q .address) 0 || eqb (q .address) (r .address)) ≡ true
     → heard r (requestFrame q) ≡ true
 unfolding requestFrame
@@ -270,6 +274,7 @@ answers-most q k h = go (eqb (q .address) 0) refl
         answers-at q (q .address) k (k .repeated .address) (le-leb 1 (q .address) (omega (arith, eqb-false (q .address) 0 e)))
         (ap₂ _||_ e (eq-eqb (q .address) (q .address) refl)) h
 
+-- demand 2's `in-range`: what the reader does not give 27 some record answers with 0
 pub in-range : (q : Request) (y : List ℕ) → BytesRequest q → (decoding.numberOf (decodedOf q y) ≡ 27 → ⊥) → Answerable q
 in-range q y k n = go (askable (subjectOf q mostSlots)) refl
   where
@@ -279,6 +284,7 @@ in-range q y k n = go (askable (subjectOf q mostSlots)) refl
 
 -- ---- where a request is made
 
+-- demand 2's `out-of-range-made`: the same of 27 where a request is made
 pub out-of-range-made : (q : Request) (frame : List ℕ) → making.numberOf ((requested q frame) .result) ≡ 27
     → (r : Record) (s out : List ℕ) → answerNumber (answered r s q out) ≡ 0 → ⊥
 unfolding requested
@@ -288,6 +294,7 @@ out-of-range-made q frame h r s out z = go (ltb (length frame) 8) refl
     go true e = omega (arith, simp e at h)
     go false e = omega (arith, simp (e, asked-most r s q out z) at h)
 
+-- demand 2's `in-range-made`: a request that was made some record answers with 0
 pub in-range-made : (q : Request) (frame : List ℕ) → BytesRequest q → making.numberOf ((requested q frame) .result) ≡ 0 → Answerable q
 unfolding requested
 in-range-made q frame k h = go (ltb (length frame) 8) refl (askable (subjectOf q mostSlots)) refl

@@ -87,6 +87,7 @@ use Rattle.claims.proofs.Wire.{OfBytes, bytes-cons, slice-fits, row-byt
 in-century : (h : Header) (day : ℕ) → isHeader h ≡ true → day < h .days → dayNumber (h .start) + day < centuryDays
 in-century h day e l = omega (arith, header-ranges h e .last-day, l)
 
+-- from the register's `dated`: every day of a log with a right header has its date
 pub dated : (h : Header) (day : ℕ) → isHeader h ≡ true → day < h .days → (date : Date) × OnDay h day date
 dated h day e l =
     let n = dayNumber (h .start) + day in
@@ -131,6 +132,7 @@ exists-on h day slot date on start =
     (spring-only (eqb (h .seasons) 1) (eqb 3 (date .month) && eqb (lastSunday (date .year) 3) (date .day))
     (eqb 10 (date .month) && eqb (lastSunday (date .year) 10) (date .day)) (leb 120 (slot * h .minutes) && ltb (slot * h .minutes) 180))
 
+-- the same slots come twice by the night of the log's day and by its date
 pub twice-on : (h : Header) (day slot : ℕ) (date : Date) → OnDay h day date → isDate (h .start) ≡ true → log.comesTwice h day slot ≡ comesTwice h date slot
 unfolding log.comesTwice nightOn daysLater dateOn doubled inHour nightOf lastSundayOf isDay inNight
 twice-on h day slot date on start =
@@ -158,6 +160,7 @@ there-on h day slot date t = go (isDate (h .start)) refl
     go true e = exists-on h day slot date (t .on) e ∙ ap not (t .there)
     go false e = exists-undated h day slot e
 
+-- a slot that exists by its date is one of the log's intervals, at the index of its day and number
 pub interval-on : (h : Header) (day slot : ℕ) (date : Date) → SlotOn h day slot date → intervalOf h day slot ≡ At (day * slotsOf (h .minutes) + slot)
 interval-on h day slot date t = interval-at h day slot (t .day-in) (t .slot-in) (there-on h day slot date t)
 
@@ -166,6 +169,7 @@ ask-whole : (s : List ℕ) (h : Header) (address day slot : ℕ) (date : Date) (
 unfolding Ask.asked
 ask-whole s h address day slot date room p t l = rw (le-ltb (length room) 8 l, p, interval-on h day slot date t) refl
 
+-- from the register's `asked`: an ask for a slot that exists is done, and its frame reads that date's slice
 pub asked : (s : List ℕ) (h : Header) (address day slot : ℕ) (date : Date) (room : List ℕ) → soundOf s ≡ Sound h → SlotOn h day slot date → 8 ≤ length room
     → AskedFor (asking s address day slot room) address day slot date room
 asked s h address day slot date room p t l =
@@ -178,6 +182,7 @@ asked s h address day slot date room p t l =
           ∙ written-front room (sliceFrame address date slot) 8 (frame-length address date slot) l;
     }
 
+-- from the register's `skipped`, CR 5: an ask for a slot of the hour that the March day does not have gets 22
 pub skipped : (s : List ℕ) (h : Header) (address day slot : ℕ) (date : Date) (room : List ℕ) → soundOf s ≡ Sound h → OnDay h day date
     → isSkipped h date slot ≡ true → 8 ≤ length room → Ask.numberOf ((asking s address day slot room) .result .answer) ≡ 22
 skipped s h address day slot date room p on e l =
@@ -243,6 +248,7 @@ answer-is : (address : ℕ) (xs : List ℕ) → framed (body address xs) ≡ sli
 unfolding sliceAnswer rowBytes
 answer-is address xs = refl
 
+-- a slice's reply, written out, is of bytes
 pub answer-bytes : (address : ℕ) (xs : List ℕ) → address < 256 → Bytes (sliceAnswer address xs)
 unfolding sliceAnswer framed rowBytes
 answer-bytes address xs a = bytes-append (body address xs) _ (body-bytes address xs a .each) (bytes-bytesOf 2 (crcOf (body address xs)))
@@ -259,6 +265,7 @@ answer-formed address xs d slot a =
 abbrev pub counts : List ℕ → Row
 counts xs = row (countAt xs 0) (countAt xs 1) (countAt xs 2) (countAt xs 3)
 
+-- the log finds the slice's four counts in it, each as its own
 pub answer-row : (address : ℕ) (xs : List ℕ) → RowFits xs → rowOf (sliceAnswer address xs) ≡ counts xs
 unfolding sliceAnswer framed rowBytes rowAt numberAt fourCounts
 answer-row address xs f = row-again xs (bytesOf 2 (crcOf (body address xs))) f
@@ -279,6 +286,7 @@ module _ (r : Record) (store : List ℕ) (address : ℕ) (d : Date) (slot : ℕ)
   unfolding parameterOf firstOf
   reply-whole z = reply-is r store q out (passed r store (requestFrame q) out z) ∙ answer-is address xs
 
+  -- a meter that answers a slice's frame with 0 sends the store's slice of that date, and changes nothing
   pub frame-answered : answerNumber (answerOf r store (sliceFrame address d slot) out) ≡ 0
       → AnsweredBy (answerOf r store (sliceFrame address d slot) out) r store address xs
   frame-answered z =
@@ -399,6 +407,7 @@ module _ (r : Record) (store : List ℕ) (b : LogAndRows) (h : Header) (address 
       frame-answered r store address date slot out
       (ap (λ (f : List ℕ). answerNumber (answerOf r store f out)) (frame-is address date slot) ∙ answer-zero)
 
+  -- from the register's `joined`: ask, meter's answer and reply taken bring the store's slice into the slot's cell
   pub joined : let o = answering r store a out in
       AnsweredBy o r store address slice × TakenInto (taking b a o) h (day * slotsOf (h .minutes) + slot) c slice
   joined = (

@@ -62,6 +62,7 @@ use Rattle.claims.proofs.Wire.{OfBytes, nil, bytes-cons, slice-fits, as
 
 -- ---- what an answer with 0 has passed
 
+-- the verdict that is done is one alone
 pub done-only : (v : Verdict) → isDone v ≡ true → v ≡ Done
 done-only Done h = refl
 done-only TooShort h = absurd (false≢true h)
@@ -75,12 +76,14 @@ done-only ByAddressZero h = absurd (false≢true h)
 done-only NoAccess h = absurd (false≢true h)
 done-only WrongArgument h = absurd (false≢true h)
 
+-- what an answer with 0 has passed: room, a sound meter and the verdict; and the answer whole
 pub record Passed (r : Record) (s f out : List ℕ) : Type 0 where
   pub room : 64 ≤ length out
   pub sound : isSound r s ≡ true
   pub verdict : verdictOn r f ≡ Done
   pub whole : answerOf r s f out ≡ done Done r s f out
 
+-- an answer with 0 has passed these
 pub passed : (r : Record) (s f out : List ℕ) → answerNumber (answerOf r s f out) ≡ 0 → Passed r s f out
 unfolding answerOf replied
 passed r s f out h = go (ltb (length out) 64) refl (isSound r s) refl (heard r f) refl (verdictOn r f) refl
@@ -104,14 +107,17 @@ passed r s f out h = go (ltb (length out) 64) refl (isSound r s) refl (heard r f
 
 -- ---- the request's frame, as the meter takes it apart
 
+-- the meter takes a request's frame for a read with the request's function
 pub request-read : (q : Request) → functionIn (requestFrame q) ≡ function.Read (q .reading)
 unfolding requestFrame framed
 request-read q = reading-back (q .reading)
 
+-- it finds the request's parameter in the frame
 pub request-parameter : (q : Request) → parameterByte (requestFrame q) ≡ q .parameter
 unfolding requestFrame framed parameterByte bytesOf
 request-parameter q = rw (reading-back (q .reading)) refl
 
+-- and all of the request's fields
 pub request-again : (q : Request) → requestIn (requestFrame q) ≡ q
 unfolding requestFrame framed
 request-again q = rw (reading-back (q .reading)) refl
@@ -180,6 +186,7 @@ decoded-is r s q w f b k h =
     rw (subject-wider q slots (slots-at-most (r .minutes)) h, h, answers)
     (found-again p r s q slots (bytesOf 2 (crcOf (replyBody q figures))) w f (slice-fits s (keyOf q) b) h)
 
+-- demand 2's `read`: what the meter answers with 0 the reader decodes to the record's own figures
 pub read : (r : Record) (s : List ℕ) (q : Request) (out : List ℕ) → FitsRecord r → Bytes s → FitsRequest q
     → answerNumber (answered r s q out) ≡ 0 → decodedOf q (replyIn (answered r s q out)) ≡ ownAs (q .reading) (parameterOf (q .parameter)) r s q
 unfolding isSound
@@ -203,6 +210,7 @@ six-stored r s q e h =
     ap (λ (x : Parameter). figuresAs (q .reading) x r s q) e
     ∙ six-as (q .reading) r s q (ap (λ (x : Parameter). opensTo (q .reading) (parameterRow x)) (sym e) ∙ opened)
 
+-- demand 2's `six-slices`: the six rows that the reader takes from the reply are the store's
 pub six-slices : (r : Record) (s : List ℕ) (q : Request) (out : List ℕ) → Bytes s
     → parameterOf (q .parameter) ≡ parameter.SixSlices → answerNumber (answered r s q out) ≡ 0
     → sixIn (replyData (replyIn (answered r s q out))) ≡ sixOf s (keyOf q)
@@ -292,6 +300,7 @@ refused-whole : (r : Record) (s f out : List ℕ) → 64 ≤ length out → isSo
 unfolding answerOf replied
 refused-whole r s f out room sound hear d = simp (le-ltb (length out) 64 room, sound, hear, d)
 
+-- demand 2's `refused`: the refusal frame that a request gets decodes to 24 with its result
 pub refused : (r : Record) (s : List ℕ) (q : Request) (out : List ℕ) → FitsRequest q → askable (subjectOf q mostSlots) ≡ true
     → 64 ≤ length out → isSound r s ≡ true → heard r (requestFrame q) ≡ true → isDone (verdictOn r (requestFrame q)) ≡ false
     → decodedOf q (replyIn (answered r s q out)) ≡ decoded.MeterRefused (resultOf (verdictOn r (requestFrame q)))

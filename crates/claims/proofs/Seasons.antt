@@ -47,6 +47,7 @@ use Rattle.claims.specs.Seasons.{Begun, Whole, Misplaced}
 use Rattle.claims.proofs.History.{start-seen}
 use Rattle.claims.proofs.Second.{missed}
 
+-- CR 5's `stay-gaps`: after any calls the cell of a slot that does not exist is a gap, and counts no lapse
 pub stay-gaps : (b : LogAndRows) (start : Start b) (calls : List Call) → AllBytes calls → (i : ℕ) → i < cellsOf (start .header)
     → existsAt (start .header) i ≡ false → let v = viewOf (ran b calls .left .log) in (v .cell i ≡ Good Gap) × (v .lapses i ≡ 0)
 stay-gaps b start calls k i l x =
@@ -60,17 +61,20 @@ stay-gaps b start calls k i l x =
 
 -- ---- the figures
 
+-- CR 5's `adds-up`: gaps, empties and measured cells make up the slots of the day, an hour less on the March day
 pub adds-up : (h : Header) (cell : ℕ → CellAnswer) (d : ℕ) → ((i : ℕ) → i < cellsOf h → (c : Cell) × (cell i ≡ Good c)) → d < h .days
     → let row = walked h cell d in
     getD row 0 0 + getD row 1 0 + getD row 2 0 ≡ slotsOf (h .minutes) - cond (isSpring (nightOn h d)) (hourOf (h .minutes)) 0
 unfolding slotsThere
 adds-up h cell d good l = walked-adds-up h cell d (days-good h cell good d l)
 
+-- CR 5's `none-doubled`: the eighth number is 0 on every day but the October one
 pub none-doubled : (h : Header) (cell : ℕ → CellAnswer) (d : ℕ) → isAutumn (nightOn h d) ≡ false → getD (walked h cell d) 7 0 ≡ 0
 none-doubled h cell d e = walked-none-doubled h cell d e
 
 -- ---- files of version 1
 
+-- CR 5's `first-version`: a log from a file of version 1 does not follow the seasons
 pub first-version : (f out figs : List ℕ) (n : ℕ) (h : Header) → Bytes f → versionAt f ≡ 1 → let o = readFile f out figs in o .result ≡ read.Done n
     → soundOf (take n (o .left .log)) ≡ Sound h → h .seasons ≡ 0
 first-version f out figs n h bytes e p q =
@@ -91,6 +95,7 @@ wrong-header : (f out figs : List ℕ) → Begun f → fileHeader f ≡ Wrong �
 unfolding readFields
 wrong-header f out figs b e = begun-read f out figs b ∙ simp (le-leb 14 (length f) (b .long), e)
 
+-- a file with a right header that is not as long as its version has it gets 33: for CR 7's `other-length`
 pub wrong-length : (f out figs : List ℕ) (h : Header) → Begun f → fileHeader f ≡ Right h → (length f ≡ fileLengthAs (versionAt f) h → ⊥)
     → readFile f out figs ≡ outcome read.WrongLength (logAndRows out figs)
 unfolding readFields
@@ -106,10 +111,12 @@ fields-wrong f l =
     let b = both (isDate (h .start) && daysRight h && isMinutes (h .minutes) && leb 1 (h .ke) && leb (h .ke) 65535) (leb (byteAt f 12) 1) (a .0) in
     omega (arith, l, leb-true (byteAt f 12) 1 (b .1)))
 
+-- CR 5's `other-byte`: a seasons' byte above 1 gets 32
 pub other-byte : (f out figs : List ℕ) → Begun f → 1 < byteAt f 12 → readFile f out figs ≡ outcome read.WrongHeader (logAndRows out figs)
 unfolding fileHeader headerOf
 other-byte f out figs b l = wrong-header f out figs b (simp (fields-wrong f l))
 
+-- CR 5's `first-byte`: in version 1 any but 0 does
 pub first-byte : (f out figs : List ℕ) → Begun f → versionAt f ≡ 1 → (byteAt f 12 ≡ 0 → ⊥) → readFile f out figs ≡ outcome read.WrongHeader (logAndRows out figs)
 unfolding fileHeader headerOf seasonsFit headerAt
 first-byte f out figs b e n = wrong-header f out figs b (go (fieldsRight f) refl)
@@ -124,6 +131,7 @@ cells-wrong h cell lapses x =
     let w = right-missing h cell lapses e (x .place) (omega (arith, x .among)) (x .missing) in
     x .filled (w .gap) (w .none))
 
+-- CR 5's `misplaced-read`: a file with a filled cell, or lapses, in a slot that does not exist gets 35
 pub misplaced-read : (f out figs : List ℕ) (h : Header) → Whole f h → Misplaced h (rowAt (versionAt f) f) (lapsesIn (versionAt f) f)
     → readFile f out figs ≡ outcome read.WrongCell (logAndRows out figs)
 unfolding readFields readCells
@@ -131,6 +139,7 @@ misplaced-read f out figs h w x =
     begun-read f out figs (w .begun)
     ∙ simp (le-leb 14 (length f) (w .begun .long), w .header, eq-eqb (length f) (fileLengthAs (versionAt f) h) (w .size), w .crc, cells-wrong h _ _ x)
 
+-- CR 5's `misplaced-written`: a log with such a cell is not written out, 28
 pub misplaced-written : (v : View) (h : Header) (out : List ℕ) → v .lent ≡ Sound h → Misplaced h (v .cell) (v .lapses) → fileLength h ≤ length out
     → writtenFile v out ≡ outcome wrote.Unsound out
 unfolding writtenFile

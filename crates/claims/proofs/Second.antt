@@ -85,6 +85,7 @@ last-is-time : isTime lastSecond ≡ true
 unfolding isTime isDate daysInMonth monthLengths
 last-is-time = refl
 
+-- demand 2's `next`: every time but the last second of 2099 has one that follows
 pub next : (t : DateTime) → isTime t ≡ true → (t ≡ lastSecond → ⊥) → (u : DateTime) × Follows t u
 unfolding secondsTo daysTo daysToMonth
 next t e n =
@@ -237,6 +238,7 @@ second-is r x h = go (isWithin r) refl
     go true e = (e, ap (λ (a : RecordAnswer). recordAfter a r) (sym (simp e at h)))
     go false e = absurd (false≢true (ap isHanded (simp e at h)))
 
+-- demand 2's `done`: a record within its ranges has its second
 pub done : (r : Record) → isWithin r ≡ true → (x : Record) × (secondOf r ≡ Done x)
 unfolding secondOf
 done r e = (later r, simp e)
@@ -273,6 +275,7 @@ module _ (r x : Record) (h : secondOf r ≡ Done x) where
   unfolding later
   shown = ap (λ (y : Record). y .time) (second-is r x h .1)
 
+  -- demand 2's `alone`: a second changes protection, the clock and the season, and nothing else
   pub alone : x ≡ withTime (withProtection r (x .protection)) (shows t (x .time .clock) (x .time .season))
   unfolding later
   alone =
@@ -299,6 +302,7 @@ module _ (r x : Record) (h : secondOf r ≡ Done x) where
           would u f Winter e
           ∙ simp (missed (sameTime u (summerDate (t .summer) (u .date .year))) (λ k. n (rw e (same-begins 3 2 march u (f .time) (t .summer) k))))
 
+  -- demand 2's `not-twice`: in winter the October day's 03:00 goes back no hour
   pub not-twice : (d : Date) → Follows (t .clock) (onHour d 3) → t .season ≡ Winter → t .summer ≡ Automatic → d .month ≡ 10
       → x .time ≡ shows t (onHour d 3) Winter
   not-twice d f e a m =
@@ -321,18 +325,21 @@ module _ (r x : Record) (h : secondOf r ≡ Done x) where
   unfolding inSeason intoSummer switched
   to-summer u v f e b q = would u f Winter e ∙ simp (begins-same 3 2 march u (f .time) (t .summer) b, q)
 
+  -- demand 2's `into-winter`: in summer the second that would reach October's 03:00:00 gives 02:00:00 and winter
   pub into-winter : (u : DateTime) → Follows (t .clock) u → t .season ≡ Summer → t .winter ≡ Automatic → SundayHour 10 3 u
       → x .time ≡ shows t (onHour (u .date) 2) Winter
   into-winter u f e a s =
       let q = earlier-that-day u 3600 2 0 0 (f .time) (omega arith) (omega arith) (omega arith) (at-hour u 3 (s .full-hour)) in
       to-winter u (onHour (u .date) 2) f e (rw a s) q
 
+  -- demand 2's `into-summer`: in winter the one that would reach March's 02:00:00 gives 03:00:00 and summer
   pub into-summer : (u : DateTime) → Follows (t .clock) u → t .season ≡ Winter → t .summer ≡ Automatic → SundayHour 3 2 u
       → x .time ≡ shows t (onHour (u .date) 3) Summer
   into-summer u f e a s =
       let q = later-that-day u 3600 3 0 0 (f .time) (omega arith) (omega arith) (omega arith) (ap (λ (n : ℕ). n + 3600) (at-hour u 2 (s .full-hour))) in
       to-summer u (onHour (u .date) 3) f e (rw a s) q
 
+  -- demand 2's `into-winter-by-hand`: a date by hand goes back an hour too, when a second would reach it
   pub into-winter-by-hand : (u : DateTime) → Follows (t .clock) u → t .season ≡ Summer → t .winter ≡ ByHand u
       → (x .time .season ≡ Winter) × HourOn (x .time .clock) u
   into-winter-by-hand u f e a =
@@ -341,6 +348,7 @@ module _ (r x : Record) (h : secondOf r ≡ Done x) where
       let z = to-winter u (w .0) f e (rw a refl) (w .1 .0) in
       (ap (λ (y : Time). y .season) z, subst (λ (y : Time). HourOn (y .clock) u) (sym z) (w .1 .1))
 
+  -- demand 2's `into-summer-by-hand`: a date by hand goes on an hour, when a second would reach it
   pub into-summer-by-hand : (u : DateTime) → Follows (t .clock) u → t .season ≡ Winter → t .summer ≡ ByHand u
       → (x .time .season ≡ Summer) × HourOn u (x .time .clock)
   into-summer-by-hand u f e a =
@@ -349,6 +357,7 @@ module _ (r x : Record) (h : secondOf r ≡ Done x) where
       let z = to-summer u (w .0) f e (rw a refl) (w .1 .0) in
       (ap (λ (y : Time). y .season) z, subst (λ (y : Time). HourOn u (y .clock)) (sym z) (w .1 .1))
 
+  -- demand 2's `stands`: after the last second of 2099 the clock stands still
   pub stands : t .clock ≡ lastSecond → x .time ≡ t
   unfolding nextTime
   stands e = shown ∙ simp (ap (λ (c : DateTime). secondsLater c 1) e ∙ last-past)

@@ -51,12 +51,15 @@ use Rattle.claims.proofs.Reading.{code-below}
 
 -- ---- lists of bytes
 
+-- a list of bytes, put together part by part
 pub record OfBytes (xs : List ℕ) : Type 0 where
   pub each : Bytes xs
 
+-- nothing, to begin with
 pub nil : OfBytes []
 nil = record { each = λ i. zero-lt-suc 255 }
 
+-- a byte before bytes
 pub bytes-cons : (x : ℕ) {xs : List ℕ} → x < 256 → OfBytes xs → OfBytes (x ∷ xs)
 bytes-cons x {xs} h b = record { each = go }
   where
@@ -69,9 +72,11 @@ together [] ys b c i = c i
 together (x ∷ xs) ys b c zero = b 0
 together (x ∷ xs) ys b c (suc i) = together xs ys (λ j. b (suc j)) c i
 
+-- bytes behind bytes
 pub append : {xs ys : List ℕ} → OfBytes xs → OfBytes ys → OfBytes (xs ++ ys)
 append {xs} {ys} b c = record { each = together xs ys (b .each) (c .each) }
 
+-- a number's bytes, whatever the number
 pub of-number : (k n : ℕ) → OfBytes (bytesOf k n)
 of-number k n = record { each = bytes-bytesOf k n }
 
@@ -119,6 +124,7 @@ slice-fits s k b = record { four = ap length (sym (four-counts s k)); below = go
 
 -- ---- the meter's data are bytes
 
+-- a time's six fields are bytes
 pub time-bytes : (t : DateTime) → isTime t ≡ true → OfBytes (dateTimeBytes t)
 unfolding dateTimeBytes
 time-bytes t h =
@@ -151,6 +157,7 @@ powers-bytes p detail = go (eqb detail 0)
     go true = append (of-number 4 (bitsOf (totalOf p))) (append (of-number 4 (bitsOf (p .a))) (append (of-number 4 (bitsOf (p .b))) (of-number 4 (bitsOf (p .c)))))
     go false = of-number 4 (bitsOf (phase p detail))
 
+-- a slice's data are bytes, whatever its counts
 pub row-bytes : (row : List ℕ) → OfBytes (rowBytes row)
 unfolding rowBytes
 row-bytes row =
@@ -192,6 +199,7 @@ unfolding energiesBytes
 energies-bytes e =
     append (of-number 4 (e .«e_plus» .0)) (append (of-number 4 (e .«e_minus» .0)) (append (of-number 4 (e .«r_plus» .0)) (of-number 4 (e .«r_minus» .0))))
 
+-- the figures that the meter sends for any read are bytes, if its record is within its ranges
 pub as-bytes : (x : Reading) (p : Parameter) (r : Record) (s : List ℕ) (q : Request) → Within r → FitsRecord r → OfBytes (figuresAs x p r s q)
 as-bytes Stored p r s q w f = figures-bytes p r s q w f
 as-bytes Displayed p r s q w f = energies-bytes (displayedOf r (sliceOf s (keyOf q)))

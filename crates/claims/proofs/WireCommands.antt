@@ -184,6 +184,7 @@ module _ (r : Record) (s out : List ℕ) where
         after = λ h. ap field (after-done r s f out function.Zero refl h) ∙ left;
       }
 
+  -- the wire's `changes`: each change and zeroing in bytes, what it needs, its reply and the value that it leaves
   pub changes : Changes r s out
   unfolding framed bytesOf parameterOf firstOf argumentFits dataFits changedTo dateTimeOf dateTimeBytes telemetryBytes maskBytes passwordsAfter zeroedTo
   changes = record {
@@ -242,6 +243,7 @@ module _ (r : Record) (s out : List ℕ) (a : ℕ) where
         after = λ h. ap (λ (x : Record). x .protection) (after-done r s f out function.Lock refl h);
       }
 
+  -- the wire's `protects`: the protection commands in bytes, by the own address or by 0
   pub protects : Protects r s out a
   unfolding passwordFor levelFor
   protects = record { main = λ n b. unlocks 0 n (lit≤ tt) b; auxiliary = λ n b. unlocks 1 n (lit≤ tt) b; shut = locks }

@@ -114,6 +114,7 @@ module _ (r : Record) (s out : List ℕ) (a : ℕ) (n : Named r s out a) where
   unfolding energiesBytes fourEnergies isSound bytesOf
   shown-is row = ap energiesBytes (displayed-own r (within r (both (eqb (length s) storeBytes) (isWithin r) (n .sound) .1)) row)
 
+  -- the wire's `reads`: each read in bytes, and the reply of a meter that it names in the record's figures
   pub reads : Reads r s out a
   unfolding subjectOf subjectFor unused parameterOf firstOf telemetryBytes maskBytes dateTimeBytes rowBytes sixBytes sixOf bytesOf
   reads = record {

@@ -46,10 +46,12 @@ request-written q room code e h = go (ltb (length room) 8) refl (askable (subjec
         simp (l, k) (front-again room (framed (bodyOf q (readingCode (q .reading)))) 8 (length-framed (bodyOf q (readingCode (q .reading)))) (ltb-false (length room) 8 l))
         ∙ ap (λ (c : ℕ). framed (bodyOf q c)) e
 
+-- the wire's `request`: the eight bytes of a request with function 3, from its fields
 pub request : (q : Request) (room : List ℕ) → q .reading ≡ Stored → requestNumber ((requested q room) .result) ≡ 0
     → take 8 ((requested q room) .left) ≡ framed (bodyOf q 3)
 request q room e h = request-written q room 3 (ap readingCode e) h
 
+-- the wire's `request-displayed`: and with function 4
 pub request-displayed : (q : Request) (room : List ℕ) → q .reading ≡ Displayed → requestNumber ((requested q room) .result) ≡ 0
     → take 8 ((requested q room) .left) ≡ framed (bodyOf q 4)
 request-displayed q room e h = request-written q room 4 (ap readingCode e) h
@@ -156,6 +158,7 @@ none-of-six false false false true e f h = absurd (false≢true (sym h))
 none-of-six false false false false true f h = absurd (false≢true (sym h))
 none-of-six false false false false false true h = absurd (false≢true (sym h))
 
+-- the wire's `refusals`: the refusal frame of each number from 10 to 16, by function, for any bytes that follow
 pub refusals : (r : Record) (s out : List ℕ) (a : ℕ) → Refusals r s out a
 unfolding parameterByte functionOf
 refusals r s out a = record {

@@ -53,6 +53,7 @@ copied-on h figs d out e = go (ltb d (h .days)) refl
 
 -- ---- past the most days that a log has
 
+-- no log has a date for such a day: for the line and for the strip
 pub day-past : (s : List ℕ) (h : Header) (d : ℕ) → soundOf s ≡ Sound h → daysMost ≤ d → dayDate h d ≡ Outside
 unfolding dayDate
 day-past s h d p l =
@@ -80,6 +81,7 @@ module _ (s figs : List ℕ) (d : ℕ) (out : List ℕ) (lent : figuresMost ≤ 
   sound-line h e true t = on-line (dayDate h d) (length-row figs d (has-day h figs d e (ltb-true d (h .days) t)))
   sound-line h e false t = rw t (λ p. omega (arith, p))
 
+  -- no line is refused for want of room
   pub line-room : Never 1 (dayText (soundOf s) figs d out)
   unfolding dayText
   line-room = by-sound (Never 1) (soundOf s) (λ p e. omega (arith, e)) line

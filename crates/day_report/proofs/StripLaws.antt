@@ -33,6 +33,7 @@ use Rattle.day_report.proofs.DayLaws.{day-past}
 
 -- ---- how long a strip is
 
+-- the date with a space, the marks and the line feed
 pub length-strip : (d : Date) (marks : List ℕ) → length (stripOf d marks) ≡ marksAt + length marks + 1
 unfolding stripOf
 length-strip d marks = simp (length-append, length-dateText) (omega arith)
@@ -70,11 +71,13 @@ module _ (h : Header) (cell : ℕ → CellAnswer) (first i n : ℕ) (l : i < n) 
       ∙ sym (written-append line (marksAt + i) (m ∷ []) after)
       ∙ ap (written line (marksAt + i)) (ap (λ (k : ℕ). k ∷ after) p ∙ sym (ap (map markOf) (seen-next (placeAt h cell (λ j. 0)) first i n l)))
 
+-- a loop's end: past the last slot no mark is left
 pub marks-end : (h : Header) (cell : ℕ → CellAnswer) (i n : ℕ) → n ≡ 0 → marksFrom h cell i n ≡ []
 marks-end h cell i n e = ap (map markOf) (seen-end (placeAt h cell (λ j. 0)) i n e)
 
 -- ---- a strip's parts, written one behind the other
 
+-- the date, the space, the marks and the line feed by four stores are the strip by one
 pub written-strip : (s : List ℕ) (d : Date) (marks : List ℕ) (n : ℕ) → length marks ≡ n
     → written (written (written (written s 0 (dateText d)) dateSize (space ∷ [])) marksAt marks) (marksAt + n) (lineFeed ∷ [])
     ≡ written s 0 (stripOf d marks)

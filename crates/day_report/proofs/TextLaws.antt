@@ -46,6 +46,7 @@ numbers-most [] h = omega arith
 numbers-most (n ∷ ns) h =
     omega (arith, length-append (decimal n) (numbersText ns), decimal-most-u32 n (h 0), numbers-most ns (λ i. h (suc i)))
 
+-- the date, the numbers each with its space, and the line feed
 pub length-line : (d : Date) (ns : List ℕ) → length (lineText d ns) ≡ dateSize + 1 + length (numbersText ns)
 unfolding lineText
 length-line d ns = simp (length-append, length-dateText) (omega arith)
@@ -61,6 +62,7 @@ module _ (ns : List ℕ) (i : ℕ) (h : i < length ns) where
   unfolding numbersText
   next-number = rw add-one (ap numbersText (drop-cons ns i 0 h))
 
+  -- for the room that `write_numbers` looks for: a space, the number's digits and what is left behind it
   pub length-next : length (numbersText (drop i ns)) ≡ 1 + length (decimal (getD ns i 0)) + length (numbersText (drop (i + 1) ns))
   length-next =
       ap length next-number ∙ omega (arith, length-append (decimal (getD ns i 0)) (numbersText (drop (i + 1) ns)))
@@ -79,6 +81,7 @@ module _ (ns : List ℕ) (i : ℕ) (h : i < length ns) where
 
 -- ---- a line's parts, written one behind the other
 
+-- the date, the numbers and the line feed by three stores are the line by one
 pub written-line : (s : List ℕ) (d : Date) (ns : List ℕ)
     → written (written (written s 0 (dateText d)) dateSize (numbersText ns)) (dateSize + length (numbersText ns)) (lineFeed ∷ [])
     ≡ written s 0 (lineText d ns)

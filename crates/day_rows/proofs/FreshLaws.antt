@@ -119,6 +119,7 @@ pub record Made (h : Header) (out figs : List ℕ) (left : LogAndRows) (n : ℕ)
 refused : (a : FreshAnswer) (x y : LogAndRows) (n : ℕ) → 0 < freshNumber a → outcome a x ≡ outcome (Done n) y → ⊥
 refused a x y n l p = omega (arith, ap (λ (o : Outcome FreshAnswer LogAndRows). freshNumber (o .result)) p)
 
+-- a call that says `Done` has made the log and its figures
 pub fresh-made : (h : Header) (out figs : List ℕ) (left : LogAndRows) (n : ℕ) → freshWith h out figs ≡ outcome (Done n) left → Made h out figs left n
 unfolding freshWith
 fresh-made h out figs left n p =

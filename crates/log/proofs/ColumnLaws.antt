@@ -29,6 +29,7 @@ pub record Room (s : List ℕ) (n : ℕ) : Type 0 where
   pub fours : n % 4 ≡ 0
   pub size : sizeFor n ≤ length s
 
+-- bytes of the same length have the same room
 pub room-kept : (s t : List ℕ) (n : ℕ) → length t ≡ length s → Room s n → Room t n
 room-kept s t n e r = record { fours = r .fours; size = omega (arith, e, r .size) }
 
@@ -41,10 +42,12 @@ pub record Parts : Type 0 where
   pub r- : ℕ
   pub lapses : ℕ
 
+-- those of cell i in a log of n cells
 abbrev pub partsAt : ℕ → List ℕ → ℕ → Parts
 partsAt n s i =
     record { kind = kindAt s i; e+ = countAt n s i; e- = countAt n s (n + i); r+ = countAt n s (2 * n + i); r- = countAt n s (3 * n + i); lapses = byteAt s (lapsesPlace n i) }
 
+-- those that a cell with these lapses has
 abbrev pub partsOf : Cell → ℕ → Parts
 partsOf c x = record { kind = kindOf c; e+ = e+Of c; e- = e-Of c; r+ = r+Of c; r- = r-Of c; lapses = x }
 
@@ -56,11 +59,13 @@ lapsed p x = record { kind = p .kind; e+ = p .e+; e- = p .e-; r+ = p .r+; r- = p
 abbrev pub cellFrom : Parts → CellAnswer
 cellFrom p = kindCell (p .kind) (p .e+) (p .e-) (p .r+) (p .r-)
 
+-- a kind fits its two bits
 pub kind-four : (c : Cell) → kindOf c < 4
 kind-four Gap = omega arith
 kind-four Empty = omega arith
 kind-four (Measured e+ e- r+ r-) = omega arith
 
+-- the counts of a cell that fits are numbers of 16 bits
 pub counts-fit : (c : Cell) → CellFits c → CountsFit (e+Of c) (e-Of c) (r+Of c) (r-Of c)
 counts-fit Gap f = record { e-plus = omega arith; e-minus = omega arith; r-plus = omega arith; r-minus = omega arith }
 counts-fit Empty f = record { e-plus = omega arith; e-minus = omega arith; r-plus = omega arith; r-minus = omega arith }
@@ -68,6 +73,7 @@ counts-fit (Measured e+ e- r+ r-) f = f
 
 -- ---- a byte, a count
 
+-- a byte that is put is the one that is read there
 pub byte-put : (s : List ℕ) (q x : ℕ) → q < length s → byteAt (written s q (x ∷ [])) q ≡ x
 unfolding written
 byte-put s q x l = getD-set-same s q x 0 l
@@ -88,6 +94,7 @@ apart-one q p ne = go (ltb q p) refl
     go true e = inl (omega (arith, ltb-true q p e))
     go false e = let l = ltb-false q p e in let m : p < q = omega (arith, ne) in inr (omega arith)
 
+-- a byte that is put leaves every other
 pub byte-other : (s : List ℕ) (p x q : ℕ) → (q ≡ p → ⊥) → byteAt (written s p (x ∷ [])) q ≡ byteAt s q
 byte-other s p x q ne = byteAt-kept s p (x ∷ []) q (apart-one q p ne)
 
@@ -136,6 +143,7 @@ pub record Off (n i q : ℕ) : Type 0 where
   pub r- : Apart q 1 (countPlace n (3 * n + i)) 2
 
 module _ (n : ℕ) (s : List ℕ) (i a b c d : ℕ) where
+  -- counts that are put leave the length
   pub length-putCounts : length (putCounts n s i a b c d) ≡ length s
   unfolding putCounts
   length-putCounts = simp length-written
@@ -157,6 +165,7 @@ module _ (n : ℕ) (s : List ℕ) (i a b c d : ℕ) where
 pub before-off : (n i q : ℕ) → q < countPlace n 0 → Off n i q
 before-off n i q h = record { e+ = inl (omega arith); e- = inl (omega arith); r+ = inl (omega arith); r- = inl (omega arith) }
 
+-- a byte of the lapses, or behind the log, is no count's
 pub behind-off : (n i q : ℕ) → i < n → lapsesPlace n 0 ≤ q → Off n i q
 behind-off n i q l h = record { e+ = inr (omega arith); e- = inr (omega arith); r+ = inr (omega arith); r- = inr (omega arith) }
 
@@ -224,6 +233,7 @@ module _ (s : List ℕ) (i k : ℕ) (below : k < 4) (l : kindPlace i < length s)
       ∙ pair-put old (i % 4) k below (i % 4) (omega arith)
       ∙ simp (eq-eqb (i % 4) (i % 4) refl)
 
+-- a kind that is put leaves the length
 pub length-putKind : (s : List ℕ) (i k : ℕ) → length (putKind s i k) ≡ length s
 unfolding putKind
 length-putKind s i k = length-written s (kindPlace i) _
@@ -239,6 +249,7 @@ length-putCellAmong n s i c = go (ltb i n)
     go true = length-putCounts n (putKind s i (kindOf c)) i (e+Of c) (e-Of c) (r+Of c) (r-Of c) ∙ length-putKind s i (kindOf c)
     go false = refl
 
+-- lapses that are put leave the length
 pub length-putLapsesAmong : (n : ℕ) (s : List ℕ) (i x : ℕ) → length (putLapsesAmong n s i x) ≡ length s
 unfolding putLapsesAmong
 length-putLapsesAmong n s i x = go (ltb i n)
@@ -329,12 +340,14 @@ module _ (n : ℕ) (s : List ℕ) (room : Room s n) (i : ℕ) (l : i < n) where
     unfolding putLapsesAmong
     lapses-in = simp (lt-ltb i n l)
 
+    -- lapses that are put change no byte but their own
     pub byte-lapses : (q : ℕ) → (q ≡ lapsesPlace n i → ⊥) → byteAt (putLapsesAmong n s i x) q ≡ byteAt s q
     byte-lapses q ne = rw lapses-in (byte-other s (lapsesPlace n i) x q ne)
 
     count-lapses : (m : ℕ) → m < 4 * n → countAt n (putLapsesAmong n s i x) m ≡ countAt n s m
     count-lapses m h = rw lapses-in (numberAt-kept s (lapsesPlace n i) (x ∷ []) (countPlace n m) 2 (inl (omega arith)))
 
+    -- they leave the kind and the counts of every cell
     pub front-lapses : (j : ℕ) → j < n → lapsed (partsAt n (putLapsesAmong n s i x) j) 0 ≡ lapsed (partsAt n s j) 0
     front-lapses j h =
         let k : kindAt (putLapsesAmong n s i x) j ≡ kindAt s j = ap (λ (b : ℕ). pairOf b (j % 4)) (byte-lapses (kindPlace j) (λ e. omega (arith, room .fours))) in
@@ -344,12 +357,14 @@ module _ (n : ℕ) (s : List ℕ) (room : Room s n) (i : ℕ) (l : i < n) where
         let e₄ = count-lapses (3 * n + j) (omega arith) in
         λ t. record { kind = k t; e+ = e₁ t; e- = e₂ t; r+ = e₃ t; r- = e₄ t; lapses = 0 }
 
+    -- their cell has them, and is else what it was
     pub lapses-there : partsAt n (putLapsesAmong n s i x) i ≡ lapsed (partsAt n s i) x
     lapses-there =
         let f = front-lapses i l in
         let e : byteAt (putLapsesAmong n s i x) (lapsesPlace n i) ≡ x = rw lapses-in (byte-put s (lapsesPlace n i) x (omega (arith, room .size))) in
         λ t. lapsed (f t) (e t)
 
+    -- every other cell keeps its own
     pub lapses-elsewhere : (j : ℕ) → j < n → (j ≡ i → ⊥) → partsAt n (putLapsesAmong n s i x) j ≡ partsAt n s j
     lapses-elsewhere j h ne =
         let f = front-lapses j h in
@@ -370,18 +385,22 @@ pub same-front : (n : ℕ) (s t : List ℕ) (j : ℕ) → (j < n → lapsed (par
 unfolding readAmong
 same-front n s t j e = choice j n Bad (λ l. ap cellFrom (e l))
 
+-- cells with the same parts are seen alike
 pub same-cell : (n : ℕ) (s t : List ℕ) (j : ℕ) → (j < n → partsAt n s j ≡ partsAt n t j) → cellAmong n s j ≡ cellAmong n t j
 unfolding readAmong
 same-cell n s t j e = choice j n Bad (λ l. ap cellFrom (e l))
 
+-- lapses go by their byte alone
 pub same-lapses : (n : ℕ) (s t : List ℕ) (j : ℕ) → (j < n → byteAt s (lapsesPlace n j) ≡ byteAt t (lapsesPlace n j)) → lapsesAmong n s j ≡ lapsesAmong n t j
 unfolding lapsesAmong
 same-lapses n s t j e = choice j n 0 e
 
+-- a cell of the log is the one that its parts are
 pub cell-in : (n : ℕ) (s : List ℕ) (j : ℕ) → j < n → cellAmong n s j ≡ cellFrom (partsAt n s j)
 unfolding readAmong
 cell-in n s j l = simp (lt-ltb j n l)
 
+-- lapses of a cell of the log are the byte at their place
 pub lapses-in-log : (n : ℕ) (s : List ℕ) (j : ℕ) → j < n → lapsesAmong n s j ≡ byteAt s (lapsesPlace n j)
 unfolding lapsesAmong
 lapses-in-log n s j l = simp (lt-ltb j n l)
@@ -391,6 +410,7 @@ pub none-past : (f : ℕ → ℕ → ℕ → ℕ → ℕ → CellAnswer) (n : �
 unfolding readAmong
 none-past f n s j l = simp (le-ltb j n l)
 
+-- nor are there lapses: they are read as 0
 pub no-lapses-past : (n : ℕ) (s : List ℕ) (j : ℕ) → n ≤ j → lapsesAmong n s j ≡ 0
 unfolding lapsesAmong
 no-lapses-past n s j l = simp (le-ltb j n l)

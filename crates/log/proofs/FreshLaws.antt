@@ -22,20 +22,24 @@ use Rattle.log_cell.specs.declared.cell.Cell.{Cell}
 use Rattle.log_cell.specs.declared.cell.Cell.the-variants.{Gap}
 use Rattle.log_cell.specs.declared.cell.CellAnswer.the-variants.{Good}
 
+-- as many gaps as are asked for
 pub length-gaps : (n : ℕ) → length (gaps n) ≡ n
 unfolding gaps
 length-gaps n = length-replicate n Gap
 
+-- each of them is one
 pub gap-at : (n i : ℕ) → i < n → getD (gaps n) i Gap ≡ Gap
 unfolding gaps
 gap-at n i h = getD-replicate n i Gap Gap h
 
+-- every cell of a fresh log is read as a gap
 pub fresh-gaps : (h : Header) (i : ℕ) → isHeader h ≡ true → i < cellsOf h → cellAt (freshImage h) i ≡ Good Gap
 unfolding freshImage
 fresh-gaps h i right l =
     let e = gap-at (cellsOf h) i l in
     cellAt-image noLapses h (gaps (cellsOf h)) right (length-gaps (cellsOf h)) i (rw length-gaps l) (subst IsCell (sym e) gap-is-cell) ∙ ap Good e
 
+-- a fresh log is as long as its header says
 pub length-freshImage : (h : Header) → length (freshImage h) ≡ lengthOf h
 unfolding freshImage lengthOf
 length-freshImage h = length-imageOf noLapses h (gaps (cellsOf h)) ∙ ap (λ (n : ℕ). sizeFor n) (length-gaps (cellsOf h))
@@ -79,6 +83,7 @@ cells-zero n m =
     let four : 4 * (n / 4) ≡ n = omega arith in
     more (n / 4) (8 * n + n) (n / 4 + 8 * n + n) _ _ (rw four at (kinds-zero (n / 4))) a (omega arith)
 
+-- the kinds, the counts and the lapses of gaps are all of them zeros
 pub fresh-zeros : (h : Header) → freshImage h ≡ headerBytes h ++ replicate (lengthOf h - headerSize) 0
 unfolding freshImage imageOf lengthOf
 fresh-zeros h =

@@ -87,10 +87,12 @@ module _ {A : Type 0} (f : List ℕ → A) (kept : (s : List ℕ) (a : ℕ) (bs 
       go true = kept s (lapsesPlace n i) (x ∷ []) (omega arith)
       go false = refl
 
+-- a cell that is put leaves the length
 pub length-putCell : (s : List ℕ) (i : ℕ) (c : Cell) → length (putCell s i c) ≡ length s
 unfolding putCell
 length-putCell s i c = length-putCellAmong (cellsAt s) s i c
 
+-- lapses that are put leave the length
 pub length-putLapses : (s : List ℕ) (i n : ℕ) → length (putLapses s i n) ≡ length s
 unfolding putLapses
 length-putLapses s i n = length-putLapsesAmong (cellsAt s) s i n
@@ -100,14 +102,17 @@ pub soundOf-putCell : (s : List ℕ) (i : ℕ) (c : Cell) → soundOf (putCell s
 unfolding putCell
 soundOf-putCell s i c = put-keeps soundOf soundOf-kept (cellsAt s) s i c
 
+-- the same of lapses
 pub soundOf-putLapses : (s : List ℕ) (i n : ℕ) → soundOf (putLapses s i n) ≡ soundOf s
 unfolding putLapses
 soundOf-putLapses s i n = lapses-keep soundOf soundOf-kept (cellsAt s) s i n
 
+-- as many cells are said after a cell was put as before
 pub cellsAt-putCell : (s : List ℕ) (i : ℕ) (c : Cell) → cellsAt (putCell s i c) ≡ cellsAt s
 unfolding putCell
 cellsAt-putCell s i c = put-keeps cellsAt cellsAt-kept (cellsAt s) s i c
 
+-- and after lapses were put
 pub cellsAt-putLapses : (s : List ℕ) (i n : ℕ) → cellsAt (putLapses s i n) ≡ cellsAt s
 unfolding putLapses
 cellsAt-putLapses s i n = lapses-keep cellsAt cellsAt-kept (cellsAt s) s i n
@@ -115,18 +120,22 @@ cellsAt-putLapses s i n = lapses-keep cellsAt cellsAt-kept (cellsAt s) s i n
 -- ---- bytes whose header says n cells
 
 module _ (s : List ℕ) (n : ℕ) (e : cellsAt s ≡ n) where
+  -- a cell of theirs is read as one of n
   pub cellAt-among : (i : ℕ) → cellAt s i ≡ cellAmong n s i
   unfolding cellAt
   cellAt-among i = ap (λ (k : ℕ). cellAmong k s i) e
 
+  -- and so are its lapses
   pub lapsesAt-among : (i : ℕ) → lapsesAt s i ≡ lapsesAmong n s i
   unfolding lapsesAt
   lapsesAt-among i = ap (λ (k : ℕ). lapsesAmong k s i) e
 
+  -- a cell is put as one of n
   pub putCell-among : (i : ℕ) (c : Cell) → putCell s i c ≡ putCellAmong n s i c
   unfolding putCell
   putCell-among i c = ap (λ (k : ℕ). putCellAmong k s i c) e
 
+  -- and so are its lapses
   pub putLapses-among : (i x : ℕ) → putLapses s i x ≡ putLapsesAmong n s i x
   unfolding putLapses
   putLapses-among i x = ap (λ (k : ℕ). putLapsesAmong k s i x) e
@@ -143,10 +152,12 @@ room-of s h p = record { fours = cells-fours h; size = omega (arith, sound-log s
 
 -- ---- what is read
 
+-- past the last cell there is none
 pub cellAt-past : (s : List ℕ) (i : ℕ) → cellsAt s ≤ i → cellAt s i ≡ Bad
 unfolding cellAt
 cellAt-past s i l = none-past kindCell (cellsAt s) s i l
 
+-- nor are there lapses: they are read as 0
 pub lapsesAt-past : (s : List ℕ) (i : ℕ) → cellsAt s ≤ i → lapsesAt s i ≡ 0
 unfolding lapsesAt
 lapsesAt-past s i l = no-lapses-past (cellsAt s) s i l
@@ -181,6 +192,7 @@ module _ (s : List ℕ) (h : Header) (p : soundOf s ≡ Sound h) (i : ℕ) (l : 
     cell-of : (j : ℕ) → cellAt (putCell s i c) j ≡ cellAmong n (putCellAmong n s i c) j
     cell-of j = cellAt-among (putCell s i c) n (cellsAt-putCell s i c ∙ same) j ∙ ap (λ (t : List ℕ). cellAmong n t j) (putCell-among s n same i c)
 
+    -- a cell that is put is the one that is read there
     pub cellAt-put : IsCell c → cellAt (putCell s i c) i ≡ Good c
     cellAt-put k =
         cell-of i ∙ cell-in n (putCellAmong n s i c) i below ∙ ap cellFrom (parts-there n s room i below c (k .fits)) ∙ kindCell-of c (k .right)
@@ -208,12 +220,14 @@ module _ (s : List ℕ) (h : Header) (p : soundOf s ≡ Sound h) (i : ℕ) (l : 
     lapsesAt-lapses =
         lapses-of i ∙ lapses-in-log n (putLapsesAmong n s i x) i below ∙ ap (λ (q : Parts). q .lapses) (lapses-there n s room i below x)
 
+    -- every other cell keeps its lapses
     pub lapsesAt-lapses-other : (j : ℕ) → (j ≡ i → ⊥) → lapsesAt (putLapses s i x) j ≡ lapsesAt s j
     lapsesAt-lapses-other j ne =
         lapses-of j
         ∙ same-lapses n (putLapsesAmong n s i x) s j (λ m. ap (λ (q : Parts). q .lapses) (lapses-elsewhere n s room i below x j m ne))
         ∙ sym (lapsesAt-among s n same j)
 
+    -- and all cells stay
     pub cellAt-lapses : (j : ℕ) → cellAt (putLapses s i x) j ≡ cellAt s j
     cellAt-lapses j =
         cellAt-among (putLapses s i x) n (cellsAt-putLapses s i x ∙ same) j
@@ -230,11 +244,13 @@ bytes-set (x ∷ s) zero b k l (suc j) = k (suc j)
 bytes-set (x ∷ s) (suc i) b k l zero = k 0
 bytes-set (x ∷ s) (suc i) b k l (suc j) = bytes-set s i b (λ m. k (suc m)) l j
 
+-- bytes stored among bytes
 pub bytes-written : (s : List ℕ) (i : ℕ) (bs : List ℕ) → Bytes s → Bytes bs → Bytes (written s i bs)
 unfolding written
 bytes-written s i [] k l = k
 bytes-written s i (b ∷ bs) k l = bytes-written (set s i b) (suc i) bs (bytes-set s i b k (l 0)) (λ j. l (suc j))
 
+-- a cell that is put leaves bytes
 pub bytes-putCell : (s : List ℕ) (i : ℕ) (c : Cell) → Bytes s → Bytes (putCell s i c)
 unfolding putCell putCellAmong putCounts putKind
 bytes-putCell s i c k = go (cellsAt s) (ltb i (cellsAt s))
@@ -249,6 +265,7 @@ bytes-putCell s i c k = go (cellsAt s) (ltb i (cellsAt s))
     go n true = one n _ (3 * n + i) (r-Of c) (one n _ (2 * n + i) (r+Of c) (one n _ (n + i) (e-Of c) (one n _ i (e+Of c) kinds)))
     go n false = k
 
+-- and so do lapses that fit a byte
 pub bytes-putLapses : (s : List ℕ) (i x : ℕ) → Bytes s → x < 256 → Bytes (putLapses s i x)
 unfolding putLapses putLapsesAmong
 bytes-putLapses s i x k l = go (ltb i (cellsAt s))
@@ -259,6 +276,7 @@ bytes-putLapses s i x k l = go (ltb i (cellsAt s))
 
 -- ---- the image of a header, its cells and their lapses
 
+-- a byte for the kinds of four cells
 pub length-kindsBytes : (cs : List Cell) → length (kindsBytes cs) ≡ length cs / 4
 unfolding kindsBytes
 length-kindsBytes [] = refl
@@ -267,11 +285,13 @@ length-kindsBytes (a ∷ b ∷ []) = refl
 length-kindsBytes (a ∷ b ∷ c ∷ []) = refl
 length-kindsBytes (a ∷ b ∷ c ∷ d ∷ cs) = ap suc (length-kindsBytes cs) ∙ omega arith
 
+-- two bytes for a count of each cell
 pub length-columnBytes : (f : Cell → ℕ) (cs : List Cell) → length (columnBytes f cs) ≡ 2 * length cs
 unfolding columnBytes bytesOf
 length-columnBytes f [] = refl
 length-columnBytes f (c ∷ cs) = ap (λ (n : ℕ). suc (suc n)) (length-columnBytes f cs) ∙ omega arith
 
+-- a byte for the lapses of each cell
 pub length-lapsesBytes : (i : ℕ) (cs : List Cell) (lapses : ℕ → ℕ) → length (lapsesBytes i cs lapses) ≡ length cs
 unfolding lapsesBytes
 length-lapsesBytes i [] lapses = refl
@@ -334,12 +354,14 @@ append-nil [] = refl
 append-nil (x ∷ xs) = ap (λ (l : List ℕ). x ∷ l) (append-nil xs)
 
 module _ (lapses : ℕ → ℕ) where
+  -- the kinds, the four columns of counts and the lapses together
   pub length-cellsBytes : (cs : List Cell) → length (cellsBytes cs lapses) ≡ length cs / 4 + 8 * length cs + length cs
   unfolding cellsBytes
   length-cellsBytes cs =
       simp length-append
       (omega (arith, length-kindsBytes cs, length-columnBytes e+Of cs, length-columnBytes e-Of cs, length-columnBytes r+Of cs, length-columnBytes r-Of cs, length-lapsesBytes 0 cs lapses))
 
+  -- with its header an image is as long as a log of as many cells
   pub length-imageOf : (h : Header) (cs : List Cell) → length (imageOf h cs lapses) ≡ sizeFor (length cs)
   unfolding imageOf
   length-imageOf h cs = length-append (headerBytes h) (cellsBytes cs lapses) ∙ omega (arith, length-headerBytes version h, length-cellsBytes cs)
@@ -363,6 +385,7 @@ module _ (lapses : ℕ → ℕ) where
   bytes-lapses k i [] = bytes-nil
   bytes-lapses k i (c ∷ cs) = bytes-cons (lapses i) (lapsesBytes (suc i) cs lapses) (k i) (bytes-lapses k (suc i) cs)
 
+  -- where its lapses fit a byte and its header is right, it is bytes
   pub bytes-image : (h : Header) (cs : List Cell) → LapsesFit lapses → isHeader h ≡ true → Bytes (imageOf h cs lapses)
   unfolding imageOf cellsBytes
   bytes-image h cs k e =
@@ -484,6 +507,7 @@ module _ (lapses : ℕ → ℕ) where
     fours : length cs % 4 ≡ 0
     fours = ap (λ (n : ℕ). n % 4) count ∙ cells-fours h
 
+    -- its header says as many cells as it was made of, whatever stands behind it
     pub says-front : (rest : List ℕ) → cellsAt (imageOf h cs lapses ++ rest) ≡ length cs
     unfolding imageOf cellsAt
     says-front rest =
@@ -499,9 +523,11 @@ module _ (lapses : ℕ → ℕ) where
         ∙ ap cellFrom (image-parts h cs rest i l fours is)
         ∙ kindCell-of (getD cs i Gap) (is .right)
 
+    -- its i-th cell is read as the one that it was made of
     pub cellAt-image : (i : ℕ) → i < length cs → IsCell (getD cs i Gap) → cellAt (imageOf h cs lapses) i ≡ Good (getD cs i Gap)
     cellAt-image i l is = ap (λ (s : List ℕ). cellAt s i) (sym (append-nil (imageOf h cs lapses))) ∙ cellAt-front [] i l is
 
+    -- and so are its lapses
     pub lapsesAt-image : (i : ℕ) → i < length cs → lapsesAt (imageOf h cs lapses) i ≡ lapses i
     lapsesAt-image i l =
         lapsesAt-among (imageOf h cs lapses) (length cs) says i
@@ -516,6 +542,7 @@ lapses-alike a b i [] k = refl
 lapses-alike a b i (c ∷ cs) k =
     ap₂ (λ (n : ℕ) (x : List ℕ). n ∷ x) (k i (omega arith) (omega arith)) (lapses-alike a b (suc i) cs (λ j l m. k j (omega arith) (omega arith)))
 
+-- lapses that are alike at its own cells make the same image
 pub image-alike : (h : Header) (cs : List Cell) (a b : ℕ → ℕ) → ((j : ℕ) → j < length cs → a j ≡ b j) → imageOf h cs a ≡ imageOf h cs b
 unfolding imageOf cellsBytes
 image-alike h cs a b k =
@@ -560,6 +587,7 @@ pub record Laid (s u : List ℕ) (cs : List Cell) (lapses : ℕ → ℕ) (i : �
   pub behind : (q : ℕ) → sizeFor (length cs) ≤ q → byteAt u q ≡ byteAt s q
   pub parts : (j : ℕ) → j < i → partsAt (length cs) u j ≡ partsOf (getD cs j Gap) (lapses j)
 
+-- before the first cell is put all is as it was
 pub none-laid : (s : List ℕ) (cs : List Cell) (lapses : ℕ → ℕ) → Bytes s → Laid s s cs lapses 0
 none-laid s cs lapses b = record { bytes = b; long = refl; head = λ q l. refl; behind = λ q l. refl; parts = λ j l. absurd (omega arith) }
 
@@ -668,6 +696,7 @@ module _ (s : List ℕ) (bytes : Bytes s) where
       let k = kind-of _ _ _ _ _ c (good-below kindCell n s i c p .1) in
       λ t. record { kind = k .kind-is t; e+ = k .e+-is t; e- = k .e--is t; r+ = k .r+-is t; r- = k .r--is t; lapses = byteAt s (lapsesPlace n i) }
 
+  -- lapses that are read fit a byte
   pub lapses-fit : LapsesFit (lapsesAt s)
   unfolding lapsesAt lapsesAmong
   lapses-fit i = go (cellsAt s) (ltb i (cellsAt s))
@@ -676,6 +705,7 @@ module _ (s : List ℕ) (bytes : Bytes s) where
       go n true = bytes (lapsesPlace n i)
       go n false = omega arith
 
+  -- a log whose cells are all good is the image of its header, of these cells and of their lapses
   pub image-of-log : (h : Header) (cs : List Cell) → soundOf s ≡ Sound h → seenFrom (cellAt s) 0 (cellsOf h) ≡ map Good cs → s ≡ imageOf h cs (lapsesAt s)
   unfolding lengthOf
   image-of-log h cs p q =
@@ -700,6 +730,7 @@ module _ (s : List ℕ) (bytes : Bytes s) where
 -- ---- what `&mut s[a..a + k]` and `&mut s[a..]` leave of s where bytes were written to the front of the part
 
 module _ (s : List ℕ) (a : ℕ) (bs part : List ℕ) where
+  -- what was written to the part is written to s at the part's place
   pub part-put : (k : ℕ) → length bs ≤ k → part ≡ written (take k (drop a s)) 0 bs → take a s ++ (part ++ drop k (drop a s)) ≡ written s a bs
   part-put k l p =
       let fits : 0 + length bs ≤ k = omega arith in

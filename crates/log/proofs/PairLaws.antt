@@ -15,12 +15,14 @@ below-four P a b c d (suc (suc zero)) h = c
 below-four P a b c d (suc (suc (suc zero))) h = d
 below-four P a b c d (suc (suc (suc (suc j)))) h = absurd (omega arith)
 
+-- a pair is one of four values
 pub pair-below : (b j : ℕ) → pairOf b j < 4
 unfolding pairOf
 pair-below b j = omega arith
 
 -- ---- four pairs and their byte
 
+-- each of them is read back at its place
 pub packed-at : (P : ℕ → ℕ) → ((m : ℕ) → P m < 4) → (m : ℕ) → m < 4 → pairOf (packed (P 0) (P 1) (P 2) (P 3)) m ≡ P m
 unfolding pairOf packed
 packed-at P h =
@@ -30,6 +32,7 @@ packed-at P h =
     let d = h 3 in
     below-four (λ m. pairOf (packed (P 0) (P 1) (P 2) (P 3)) m ≡ P m) (omega arith) (omega arith) (omega arith) (omega arith)
 
+-- four pairs make no more than a byte
 pub packed-byte : (P : ℕ → ℕ) → ((m : ℕ) → P m < 4) → packed (P 0) (P 1) (P 2) (P 3) < 256
 unfolding packed
 packed-byte P h = omega (arith, h 0, h 1, h 2, h 3)
@@ -41,6 +44,7 @@ digit x = omega arith
 digits : (b a c p q r d : ℕ) → p + a * 4 ≡ b → q + c * 4 ≡ a → r + d * 4 ≡ c → p + 4 * q + 16 * r + 64 * d ≡ b
 digits b a c p q r d x y z = omega arith
 
+-- a byte is its four pairs packed
 pub pairs-packed : (b : ℕ) → b < 256 → packed (pairOf b 0) (pairOf b 1) (pairOf b 2) (pairOf b 3) ≡ b
 unfolding pairOf packed
 pairs-packed b h =
@@ -70,12 +74,14 @@ pub pair-put : (b j k : ℕ) → k < 4 → (m : ℕ) → m < 4 → pairOf (putPa
 unfolding putPair
 pair-put b j k h m l = packed-at (pairAfter b j k) (after-below b j k h) m l
 
+-- the byte with another pair is a byte
 pub pair-byte : (b j k : ℕ) → k < 4 → putPair b j k < 256
 unfolding putPair
 pair-byte b j k h = packed-byte (pairAfter b j k) (after-below b j k h)
 
 -- ---- by shifts
 
+-- for `pair_of`: a pair is read by a shift
 pub pair-shift : (b j : ℕ) → j < 4 → b / 2 ^ (2 * j) % 4 ≡ pairOf b j
 unfolding pairOf
 pair-shift b = below-four (λ j. b / 2 ^ (2 * j) % 4 ≡ pairOf b j) (omega arith) (omega arith) (omega arith) (omega arith)
@@ -85,11 +91,13 @@ module _ (b : ℕ) (h : b < 256) where
   unfolding packed
   sum = pairs-packed b h
 
+  -- for `put_pair`: the old pair at its place can be taken off the byte
   pub shift-below : (j : ℕ) → j < 4 → pairOf b j * 2 ^ (2 * j) % 256 ≤ b
   shift-below =
       let e = sum in
       below-four (λ m. pairOf b m * 2 ^ (2 * m) % 256 ≤ b) (omega arith) (omega arith) (omega arith) (omega arith)
 
+  -- for `put_pair`: the old pair taken off and the new one added, each at its place
   pub put-shift : (k : ℕ) → k < 4 → (j : ℕ) → j < 4 → b - pairOf b j * 2 ^ (2 * j) % 256 + k * 2 ^ (2 * j) % 256 ≡ putPair b j k
   unfolding putPair packed
   put-shift k l =

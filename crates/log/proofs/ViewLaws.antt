@@ -151,12 +151,14 @@ others-stay s (Lapses m x) i j k a ne =
     let seen = view-applied s (Lapses m x) k in
     (ap (λ (v : View). v .cell j) seen, ap (λ (v : View). v .lapses j) seen ∙ simp (ne-eqb j m (λ e. ne (e ∙ a))))
 
+-- no change makes a log longer or shorter
 pub length-applied : (ch : Change) (s : List ℕ) → length (applied ch s) ≡ length s
 unfolding applied
 length-applied None s = refl
 length-applied (Put i c) s = length-putCell s i c
 length-applied (Lapses i n) s = length-putLapses s i n
 
+-- a change that the log can hold leaves bytes
 pub bytes-applied : (s : List ℕ) (ch : Change) → Bytes s → Holds (viewOf s) ch → Bytes (applied ch s)
 unfolding applied
 bytes-applied s None b k = b
@@ -169,6 +171,7 @@ bytes-applied s (Lapses i n) b k = bytes-putLapses s i n b (k .1)
 abbrev pub AreCells : (ℕ → CellAnswer) → Type 0
 AreCells cell = (i : ℕ) (c : Cell) → cell i ≡ Good c → IsCell c
 
+-- it is so of all bytes, whether they are a log or not
 pub seen-are-cells : (s : List ℕ) → Bytes s → AreCells (viewOf s .cell)
 seen-are-cells s bytes i c p = go (soundOf s) refl
   where
@@ -184,12 +187,14 @@ cellIn [] i = Bad
 cellIn (c ∷ cs) zero = Good c
 cellIn (c ∷ cs) (suc i) = cellIn cs i
 
+-- each of them is found at its index
 pub cell-in : (cs : List Cell) (i : ℕ) → i < length cs → cellIn cs i ≡ Good (getD cs i Gap)
 unfolding cellIn
 cell-in [] i l = absurd (not-suc-le-zero l)
 cell-in (c ∷ cs) zero l = refl
 cell-in (c ∷ cs) (suc i) l = cell-in cs i (omega arith)
 
+-- past the last of them there is none
 pub none-in : (cs : List Cell) (i : ℕ) → length cs ≤ i → cellIn cs i ≡ Bad
 unfolding cellIn
 none-in [] i l = refl
@@ -209,6 +214,7 @@ seen-in cs i (suc n) l =
 abbrev pub viewBy : Header → List Cell → (ℕ → ℕ) → View
 viewBy h cs lapses = record { lent = Sound h; cell = cellIn cs; lapses = λ i. cond (ltb i (length cs)) (lapses i) 0 }
 
+-- what is seen of an image is what it was made of
 pub view-image : (h : Header) (cs : List Cell) (lapses : ℕ → ℕ) → isHeader h ≡ true → length cs ≡ cellsOf h → AllCells cs
     → viewOf (imageOf h cs lapses) ≡ viewBy h cs lapses
 view-image h cs lapses e l k =
@@ -256,6 +262,7 @@ cellsAfter None cs = cs
 cellsAfter (Put i c) cs = set cs i c
 cellsAfter (Lapses i n) cs = cs
 
+-- and the lapses, at each index
 abbrev pub lapsesAfter : Change → (ℕ → ℕ) → ℕ → ℕ
 lapsesAfter None lapses j = lapses j
 lapsesAfter (Put i c) lapses j = lapses j

@@ -21,16 +21,19 @@ use Rattle.log_cell.specs.declared.cell.Cell.the-variants.{Gap, Empty, M
 use Rattle.log_cell.specs.declared.cell.CellAnswer.{CellAnswer}
 use Rattle.log_cell.specs.declared.cell.CellAnswer.the-variants.{Good, Bad}
 
+-- a gap is a right cell
 pub gap-is-cell : IsCell Gap
 unfolding isCell
 gap-is-cell = record { right = refl; fits = tt }
 
+-- and so is an empty one
 pub empty-is-cell : IsCell Empty
 unfolding isCell
 empty-is-cell = record { right = refl; fits = tt }
 
 -- ---- from the cell to its bytes and back
 
+-- a cell's kind and counts are nine bytes
 pub length-countsBytes : (c : Cell) → length (countsBytes c) ≡ countsSize
 unfolding countsBytes kindBytes bytesOf
 length-countsBytes Gap = refl
@@ -48,6 +51,7 @@ bytes-kind kind e+ e- r+ r- k =
     (bytes-append (bytesOf 2 e-) c (bytes-bytesOf 2 e-)
     (bytes-append (bytesOf 2 r+) (bytesOf 2 r-) (bytes-bytesOf 2 r+) (bytes-bytesOf 2 r-))))
 
+-- each of them is a byte
 pub bytes-cell : (c : Cell) → Bytes (countsBytes c)
 unfolding countsBytes
 bytes-cell Gap = bytes-kind 0 0 0 0 0 (omega arith)
@@ -62,6 +66,7 @@ length-cellBytes c lapses = length-append (countsBytes c) (lapses ∷ []) ∙ ap
 low-high : (n : ℕ) → n < 65536 → (0 * 256 + n / 256 % 256) * 256 + n % 256 ≡ n
 low-high n h = omega arith
 
+-- a cell's nine bytes are read back as the cell
 pub cellOf-bytes : (c : Cell) → IsCell c → cellOf (countsBytes c) ≡ Good c
 unfolding cellOf countsBytes kindBytes kindCell kindFits cellBy isCell noCounts bytesOf numberAt number
 cellOf-bytes Gap i = refl
@@ -89,6 +94,7 @@ pub record Kind (kind e+ e- r+ r- : ℕ) (c : Cell) : Type 0 where
   pub r+-is : r+ ≡ r+Of c
   pub r--is : r- ≡ r-Of c
 
+-- an answer that there is no cell gives none
 pub bad≢good : (c : Cell) → Bad ≡ Good c → ⊥
 bad≢good c p = let z : _≡_ {A = ℕ} 0 1 = cc in omega arith
 
@@ -118,6 +124,7 @@ module _ (kind e+ e- r+ r- : ℕ) where
       let e : kind ≡ 2 = eqb-true kind 2 p in
       rw e (record { right = ap not z; fits = λ f. f; bytes = refl; kind-is = refl; e+-is = refl; e--is = refl; r+-is = refl; r--is = refl })
 
+  -- all this holds of whatever cell was read
   pub kind-of : (c : Cell) → kindCell kind e+ e- r+ r- ≡ Good c → Kind kind e+ e- r+ r- c
   unfolding kindCell
   kind-of c p =
@@ -149,13 +156,16 @@ unfolding kindFits
 fits-below kind true p = omega (arith, ltb-true kind 2 p)
 fits-below kind false p = omega (arith, eqb-true kind 2 p)
 
+-- so the cell that the kind names is the one that is read
 pub fits-named : (kind e+ e- r+ r- : ℕ) (n : Bool) → kindFits kind n ≡ true → kindNames kind e+ e- r+ r- ≡ Good (cellBy kind e+ e- r+ r-)
 unfolding kindNames
 fits-named kind e+ e- r+ r- n p = simp (lt-ltb kind 3 (fits-below kind n p))
 
+-- a number of two bytes, such as a count, is below 65,536
 pub two-below : (bs : List ℕ) (i : ℕ) → Bytes bs → numberAt bs i 2 < 65536
 two-below bs i h = omega (arith, two bs i, h i, h (i + 1))
 
+-- what nine bytes are read as is a right cell
 pub good-is-cell : (bs : List ℕ) (c : Cell) → Bytes bs → cellOf bs ≡ Good c → IsCell c
 good-is-cell bs c h p =
     let n = nine-of bs c p in

@@ -47,12 +47,14 @@ days-fours d m = go (eqb m 15) refl (eqb m 30) refl
     go false e true f = rw (eqb-true m 30 f) (omega arith)
     go false e false f = rw (e, f) (omega arith)
 
+-- so a log has its cells in fours
 pub cells-fours : (h : Header) → cellsOf h % 4 ≡ 0
 unfolding cellsOf
 cells-fours h = days-fours (h .days) (h .minutes)
 
 -- ---- what a header keeps to
 
+-- each of its fields by itself
 pub record HeaderRanges (h : Header) : Type 0 where
   pub start : isDate (h .start) ≡ true
   pub days-from : 1 ≤ h .days
@@ -63,6 +65,7 @@ pub record HeaderRanges (h : Header) : Type 0 where
   pub ke-to : h .ke ≤ 65535
   pub seasons-to : h .seasons ≤ 1
 
+-- a right header keeps to all of them
 pub header-ranges : (h : Header) → isHeader h ≡ true → HeaderRanges h
 unfolding isHeader daysRight
 header-ranges h e =
@@ -84,6 +87,7 @@ header-ranges h e =
       seasons-to = leb-true _ _ (z .1);
     }
 
+-- whether there is a date
 abbrev pub isOn : DateAnswer → Bool
 isOn (On d) = true
 isOn NotADate = false
@@ -118,10 +122,12 @@ before-last d n y h = go (isDate d) refl
 
 -- ---- a header and its bytes
 
+-- a header has fourteen bytes, whatever its version
 pub length-headerBytes : (v : ℕ) (h : Header) → length (headerBytesAs v h) ≡ headerSize
 unfolding headerBytesAs dateBytes bytesOf
 length-headerBytes v h = refl
 
+-- a header that was put is the one that is read, whatever stands behind it
 pub headerAt-bytes : (v : ℕ) (h : Header) (rest : List ℕ) → h .ke ≤ 65535 → headerAt (headerBytesAs v h ++ rest) ≡ h
 unfolding headerAt headerBytesAs dateBytes bytesOf numberAt number
 headerAt-bytes v h rest k =
@@ -130,10 +136,12 @@ headerAt-bytes v h rest k =
 
 -- bytes that begin with a header's, of whatever version, are read as that header
 module _ (v : ℕ) (h : Header) (rest : List ℕ) where
+  -- their mark is the right one
   pub mark-right : markRight (headerBytesAs v h ++ rest) ≡ true
   unfolding markRight headerBytesAs dateBytes bytesOf
   mark-right = refl
 
+  -- their version is the one that was put
   pub version-at : v ≤ 65535 → versionAt (headerBytesAs v h ++ rest) ≡ v
   unfolding headerBytesAs dateBytes bytesOf numberAt number
   version-at k = let e : (0 * 256 + v / 256 % 256) * 256 + v % 256 ≡ v = omega arith in e
@@ -142,10 +150,12 @@ module _ (v : ℕ) (h : Header) (rest : List ℕ) where
   unfolding headerBytesAs dateBytes bytesOf
   zero-right = refl
 
+  -- a right header is found right
   pub header-right : isHeader h ≡ true → headerOf (headerBytesAs v h ++ rest) ≡ Right h
   unfolding headerOf fieldsRight
   header-right e = simp (headerAt-bytes v h rest (header-ranges h e .ke-to), e, zero-right)
 
+-- the bytes of today's header are of today's version
 pub version-right : (h : Header) (rest : List ℕ) → versionRight (headerBytes h ++ rest) ≡ true
 unfolding versionRight
 version-right h rest = eq-eqb _ _ (version-at version h rest (omega arith))
@@ -208,6 +218,7 @@ short-unsound s k =
     let e : eqb (length s) (lengthOf (headerAt s)) ≡ false = ne-eqb (length s) (lengthOf (headerAt s)) (λ p. omega (arith, k, p)) in
     sound-where s ∙ rw (e, and-false (fieldsRight s), and-false (markRight s && versionRight s))
 
+-- each thing that was tested, by itself
 pub record SoundLog (s : List ℕ) (h : Header) : Type 0 where
   pub mark : markRight s ≡ true
   pub version : versionRight s ≡ true
@@ -225,6 +236,7 @@ unfolding fittedTo
 fitted-right true n x h p = (refl, p)
 fitted-right false n x h p = absurd (unsound≢sound h p)
 
+-- bytes that are a log have all of these
 pub sound-log : (s : List ℕ) (h : Header) → soundOf s ≡ Sound h → SoundLog s h
 unfolding soundOf headerOf fieldsRight
 sound-log s h p =
@@ -245,6 +257,7 @@ sound-log s h p =
 
 -- ---- what bytes have that are read as a header
 
+-- the zero byte and a header with its ranges
 pub record RightHeader (s : List ℕ) (h : Header) : Type 0 where
   pub zero : byteAt s 13 ≡ 0
   pub header : headerAt s ≡ h
@@ -253,6 +266,7 @@ pub record RightHeader (s : List ℕ) (h : Header) : Type 0 where
 wrong≢right : (h : Header) → Wrong ≡ Right h → ⊥
 wrong≢right h p = let z : _≡_ {A = ℕ} 0 1 = cc in omega arith
 
+-- bytes that are read as a header have all of these
 pub right-header : (s : List ℕ) (h : Header) → headerOf s ≡ Right h → RightHeader s h
 unfolding headerOf fieldsRight
 right-header s h p =
@@ -261,6 +275,7 @@ right-header s h p =
     let e : headerAt s ≡ h = cc (a .1) in
     record { zero = eqb-true _ _ (b .1); header = e; ranges = sym (ap isHeader e) ∙ b .0 }
 
+-- bytes that pass the test of the version say today's
 pub version-is : (s : List ℕ) → versionRight s ≡ true → versionAt s ≡ version
 unfolding versionRight
 version-is s e = eqb-true (versionAt s) version e
@@ -283,10 +298,12 @@ header-listed v s h bytes mark right l =
       l .zero,
     )
 
+-- the first fourteen bytes of what is read as a header are that header's
 pub header-front : (v : ℕ) (s : List ℕ) (h : Header) → Bytes s → markRight s ≡ true → versionAt s ≡ v → RightHeader s h → headerSize ≤ length s
     → take headerSize s ≡ headerBytesAs v h
 header-front v s h bytes mark right l long = take-run headerSize 0 s long ∙ header-listed v s h bytes mark right l ∙ ap (headerBytesAs v) (l .header)
 
+-- a log is long enough for its header
 pub sound-long : (s : List ℕ) (h : Header) → soundOf s ≡ Sound h → headerSize ≤ length s
 unfolding lengthOf
 sound-long s h p = omega (arith, sound-log s h p .size)
@@ -301,15 +318,18 @@ pub cells-most : (h : Header) → isHeader h ≡ true → cellsOf h ≤ cellsMos
 unfolding cellsOf
 cells-most h e = mul-le-mul (header-ranges h e .days-to) (slots-at-most (h .minutes))
 
+-- no right header has a longer image
 pub image-most : (h : Header) → isHeader h ≡ true → lengthOf h ≤ imageMost
 unfolding lengthOf
 image-most h e = omega (arith, cells-most h e)
 
+-- no log is longer than the longest image
 pub image-at-most : (s : List ℕ) (h : Header) → soundOf s ≡ Sound h → length s ≤ imageMost
 image-at-most s h p =
     let l = sound-log s h p in
     omega (arith, l .size, image-most h (l .ranges))
 
+-- a log begins with its header's bytes
 pub sound-front : (s : List ℕ) (h : Header) → Bytes s → soundOf s ≡ Sound h → take headerSize s ≡ headerBytes h
 sound-front s h bytes p =
     let l = sound-log s h p in

@@ -32,9 +32,11 @@ pub record InLog (h : Header) (d s i : ℕ) : Type 0 where
   pub there : exists h d s ≡ true
   pub index : d * slotsOf (h .minutes) + s ≡ i
 
+-- an interval outside the log has no index
 pub outside≢at : (i : ℕ) → Outside ≡ At i → ⊥
 outside≢at i p = let z : _≡_ {A = ℕ} 0 1 = cc in omega arith
 
+-- all this holds of an interval that has an index
 pub in-log : (h : Header) (d s i : ℕ) → intervalOf h d s ≡ At i → InLog h d s i
 unfolding intervalOf
 in-log h d s i p =
@@ -44,6 +46,7 @@ in-log h d s i p =
     let e : d * slotsOf (h .minutes) + s ≡ i = cc (a .1) in
     record { day-below = ltb-true _ _ (b .0); slot-below = ltb-true _ _ (b .1); there = t .1; index = e }
 
+-- a slot of the log's days that exists has its index
 pub interval-at : (h : Header) (d s : ℕ) → d < h .days → s < slotsOf (h .minutes) → exists h d s ≡ true
     → intervalOf h d s ≡ At (d * slotsOf (h .minutes) + s)
 unfolding intervalOf
@@ -63,6 +66,7 @@ pub exists-index : (h : Header) (d s : ℕ) → s < slotsOf (h .minutes) → exi
 unfolding existsAt
 exists-index h d s l = rw (digits-div d l, digits-mod d l)
 
+-- and so for whether it comes twice
 pub twice-index : (h : Header) (d s : ℕ) → s < slotsOf (h .minutes) → comesTwiceAt h (d * slotsOf (h .minutes) + s) ≡ comesTwice h d s
 unfolding comesTwiceAt
 twice-index h d s l = rw (digits-div d l, digits-mod d l)

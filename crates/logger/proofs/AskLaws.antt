@@ -24,6 +24,7 @@ use Rattle.log_header.proofs.HeaderLaws.{header-ranges}
 use Rattle.log_header.specs.declared.header.Header.{Header}
 use Rattle.logger.specs.Ask.{dateOfDay, sliceRequest, askFrame}
 
+-- a date's slice of any slot that a day can have is a request that is made, where there is room for its frame
 pub slice-requested : (address : ℕ) (d : Date) (slot : ℕ) (out : List ℕ) → isDate d ≡ true → slot < slotsMost → readSize ≤ length out
     → requested (sliceRequest address d slot) out ≡ outcome Done (written out 0 (requestFrame (sliceRequest address d slot)))
 unfolding requested subjectOf subjectFor parameterOf firstOf isLegal
@@ -33,12 +34,14 @@ slice-requested address d slot out e s l =
     let day-to : d .day ≤ 31 = omega (arith, r .day-to, m .at-most) in
     simp (le-ltb _ _ l, le-leb _ _ (r .month-from), le-leb _ _ (r .month-to), le-leb _ _ (r .day-from), le-leb _ _ day-to, lt-ltb _ _ s)
 
+-- a day of a log with a right header is a date
 pub day-is-date : (h : Header) (day : ℕ) → isHeader h ≡ true → day < h .days → isDate (dateOfDay h day) ≡ true
 day-is-date h day e l =
     let r = header-ranges h e in
     let b : dayNumber (h .start) + day < centuryDays = omega (arith, r .last-day) in
     date-of (dayNumber (h .start) + day) b .valid
 
+-- for `put_slot`: an ask for a slot of a log's day puts its frame
 pub ask-made : (h : Header) (address day slot : ℕ) (out : List ℕ)
     → isHeader h ≡ true → day < h .days → slot < slotsOf (h .minutes) → readSize ≤ length out
     → requested (sliceRequest address (dateOfDay h day) slot) out ≡ outcome Done (written out 0 (askFrame h address day slot))

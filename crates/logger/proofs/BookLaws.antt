@@ -105,17 +105,20 @@ pub cell-more : (rows : List Row) (r : Row) → effect (updateOf (afresh rows) r
 unfolding afresh
 cell-more rows r = cell-by (firstOf rows) rows r ∙ sym (ap (λ (f : First). byFirst f (rows ++ (r ∷ []))) (firstOf-more rows r))
 
+-- for `step-agrees`: the number of a cell's update is the one that the book answers with one reply more
 pub number-more : (rows : List Row) (r : Row) → updateNumber (updateOf (afresh rows) r) ≡ keptAnswer (firstOf rows) r
 unfolding afresh
 number-more rows r = number-by (firstOf rows) rows r
 
 -- ---- the cells worked out
 
+-- as many cells are worked out as are asked for
 pub length-workedOut : (kept : ℕ → List Row) (i n : ℕ) → length (workedOut kept i n) ≡ n
 unfolding workedOut
 length-workedOut kept i zero = refl
 length-workedOut kept i (suc n) = ap suc (length-workedOut kept (suc i) n)
 
+-- the j-th of them is worked out from the replies that are kept for its interval
 pub workedOut-at : (kept : ℕ → List Row) (i n j : ℕ) → j < n → getD (workedOut kept i n) j Gap ≡ afresh (kept (i + j))
 unfolding workedOut
 workedOut-at kept i zero j l = absurd (not-suc-le-zero l)
@@ -152,10 +155,12 @@ workedOut-with kept r i (suc n) (suc j) l =
 
 -- ---- rows whose counts fit two bytes give cells
 
+-- every row of a list has counts that fit two bytes
 abbrev pub Fitting : List Row → Type 0
 Fitting [] = Unit
 Fitting (r ∷ rows) = RowFits r × Fitting rows
 
+-- a reply more whose counts fit leaves the kept ones fitting
 pub fitting-more : (rows : List Row) (r : Row) → Fitting rows → RowFits r → Fitting (rows ++ (r ∷ []))
 fitting-more [] r f k = (k, tt)
 fitting-more (q ∷ rows) r f k = (f .0, fitting-more rows r (f .1) k)
@@ -184,6 +189,7 @@ by-first none [] k = gap-is-cell
 by-first none (r ∷ rows) k = empty-is-cell
 by-first (counts r) rows k = record { right = ap not (k .nonzero); fits = k .fits }
 
+-- what is worked out from rows that fit is a cell that a log can hold
 pub afresh-is-cell : (rows : List Row) → Fitting rows → IsCell (afresh rows)
 unfolding afresh
 afresh-is-cell rows f = by-first (firstOf rows) rows (first-fits rows f)

@@ -63,6 +63,7 @@ module _ (h : Header) (v : View) (p : v .lent ≡ Sound h) where
         counted = λ g i e o. record { lent = p; right = right };
       })
 
+-- one call keeps the log sound and its figures right
 pub step-faithful : (h : Header) (s : State) (c : Call) → CallBytes c → Faithful h s → Faithful h (step s c .left)
 unfolding step Take.taken Lapse.lapsed
 step-faithful h s (ask address day slot out) k f = record { bytes = f .bytes; sound = f .sound; right = f .right }
@@ -86,6 +87,7 @@ step-faithful h s (reply y) k f =
       right = fit .right;
     }
 
+-- and so does any list of calls (CR 8)
 pub run-faithful : (h : Header) (calls : List Call) (s : State) → AllBytes calls → Faithful h s → Faithful h (run s calls .left)
 unfolding runOf
 run-faithful h [] s k f = f
@@ -97,6 +99,7 @@ run-faithful h (c ∷ calls) s k f = run-faithful h calls (step s c .left) (k .1
 abbrev pub OtherDay : State → ℕ → Type 0
 OtherDay s d = (h : Header) (i : ℕ) → soundOf (s .log) ≡ Sound h → (o : OpenFor h (s .held) i) → d ≡ o .day → ⊥
 
+-- a call leaves the figures of every day but the open ask's
 pub row-stays : (s : State) (c : Call) (d : ℕ) → OtherDay s d → rowAt (step s c .left .figures) d ≡ rowAt (s .figures) d
 unfolding step Take.taken
 row-stays s (ask address day slot out) d other = refl
@@ -108,6 +111,7 @@ row-stays s (reply y) d other =
       put = λ h i old c e o g is done. row-elsewhere (o .day) (comesTwice h (o .day) (o .slot)) old c (s .figures) d (other h i e o);
     })
 
+-- a call leaves as many figures as there were
 pub as-many : (s : State) (c : Call) → length (step s c .left .figures) ≡ length (s .figures)
 unfolding step Take.taken
 as-many s (ask address day slot out) = refl

@@ -122,6 +122,7 @@ module _ (b : LogAndRows) (h : Header) (address day slot i : ℕ) (y : List ℕ)
   unfolding taken
   heard-number = ap (λ (d : Decision). numberOf (d .taken .answer)) decided-is ∙ number-for u
 
+  -- whether the cell was put, kept or in conflict, no ask is left open
   pub heard-held : taken b held y .result .held ≡ Closed
   unfolding taken
   heard-held = ap (λ (d : Decision). d .taken .held) decided-is

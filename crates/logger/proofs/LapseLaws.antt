@@ -25,6 +25,7 @@ use Rattle.logger.specs.declared.no_reply.LapseDecision.{LapseDecision}
 use Rattle.logger.specs.declared.held.OpenAsk.{OpenAsk}
 use Rattle.logger.specs.declared.held.OpenAsk.the-variants.{Closed}
 
+-- whether an answer to a lapse is a refusal, which leaves the ask open
 abbrev pub isRefused : LapseAnswer → Bool
 isRefused Done = false
 isRefused NotInLog = true
@@ -36,6 +37,7 @@ pub record Ways (P : LapseDecision → Type 0) (v : View) (held : OpenAsk) : Typ
   pub refused : (a : LapseAnswer) → isRefused a ≡ true → P (stays a held)
   pub counted : (h : Header) (i : ℕ) → v .lent ≡ lent.Sound h → OpenFor h held i → P (lapseCloses (change.Lapses i (oneMore (v .lapses i))))
 
+-- what holds of all three ways holds of a lapse
 pub lapsing-ways : (P : LapseDecision → Type 0) (v : View) (held : OpenAsk) → Ways P v held → P (lapsing v held)
 unfolding lapsing
 lapsing-ways P v held w =
@@ -45,6 +47,7 @@ lapsing-ways P v held w =
     by-good P (v .cell i) (λ b. w .refused Unsound refl) (λ c g.
     w .counted h i e (record { address = a; day = d; slot = t; open-ask = o; interval = n })))))
 
+-- one lapse more still fits a byte, as the count stops at 255
 pub one-more-fits : (n : ℕ) → oneMore n < 256
 unfolding oneMore
 one-more-fits n = go (ltb n lapsesMost) refl

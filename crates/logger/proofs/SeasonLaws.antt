@@ -39,17 +39,20 @@ not-there : (h : Header) (day slot : ℕ) → exists h day slot ≡ false → in
 unfolding intervalOf
 not-there h day slot e = simp (e, and-false)
 
+-- CR 5: an ask for a slot that does not exist is refused with 22, and none is opened
 pub ask-refused : (v : View) (h : Header) (address day slot : ℕ) (out : List ℕ) → v .lent ≡ Sound h → exists h day slot ≡ false → readSize ≤ length out
     → Ask.asked v Closed address day slot out ≡ Ask.answered asked.NotInLog Closed out
 unfolding Ask.asked
 ask-refused v h address day slot out p e l = simp (le-ltb _ _ l, p, not-there h day slot e)
 
+-- CR 5: a reply to an ask for a slot that does not exist is refused with 22, and all stays
 pub reply-refused : (s figs : List ℕ) (h : Header) (address day slot : ℕ) (y : List ℕ) → soundOf s ≡ Sound h → figuresOf h ≤ length figs
     → exists h day slot ≡ false
     → Take.taken (logAndRows s figs) (Open address day slot) y ≡ outcome (record { answer = taken.NotInLog; held = Open address day slot }) (logAndRows s figs)
 unfolding Take.taken Take.decided applied
 reply-refused s figs h address day slot y p l e = simp (p, le-leb _ _ l, not-there h day slot e)
 
+-- CR 5: a lapse of an ask for a slot that does not exist is refused with 22, and all stays
 pub lapse-refused : (s : List ℕ) (h : Header) (address day slot : ℕ) → soundOf s ≡ Sound h → exists h day slot ≡ false
     → Lapse.lapsed s (Open address day slot) ≡ outcome (record { answer = silent.NotInLog; held = Open address day slot }) s
 unfolding Lapse.lapsed Lapse.lapsing applied
@@ -97,6 +100,7 @@ module _ (h : Header) (j : ℕ) (gone : existsAt h j ≡ false) where
       subst (Kept j (viewOf (s .log))) (sym (taken-seen (s .log) (s .figures) (s .held) y b))
       (decided-kept (viewOf (s .log)) (s .figures) (s .held) y p)
 
+  -- CR 5: no list of calls alters the cell or the lapses of a slot that does not exist
   pub run-kept : (calls : List Call) (s : State) → soundOf (s .log) ≡ Sound h → AllBytes calls
       → (viewOf (run s calls .left .log) .cell j ≡ viewOf (s .log) .cell j) × (viewOf (run s calls .left .log) .lapses j ≡ viewOf (s .log) .lapses j)
   unfolding runOf

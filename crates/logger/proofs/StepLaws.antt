@@ -83,6 +83,7 @@ module _ (h : Header) (kept : ℕ → List Row) (lapses : ℕ → ℕ) (figs : L
   askStep o =
       outcome (plain (Ask.numberOf (o .result .answer))) (stateOf h (record { held = o .result .held; kept = kept; lapses = lapses }) figs)
 
+  -- an ask is answered alike by log and book, and opens the same ask in both
   pub ask-agrees : (held : OpenAsk) → isHeader h ≡ true
       → Agree h (step (stateOf h (record { held = held; kept = kept; lapses = lapses }) figs) (ask address day slot out)) (bookAsk h held kept lapses address day slot out)
   unfolding step Ask.asked bookAsk askStep
@@ -155,6 +156,7 @@ cut-fits n = go (ltb n 255) refl
     go false p = omega arith
 
 module _ (h : Header) (kept : ℕ → List Row) (lapses : ℕ → ℕ) (figs : List ℕ) (rows : (i : ℕ) → Fitting (kept i)) where
+  -- the cells that the book's replies come to
   abbrev pub cells : List Cell
   cells = workedOut kept 0 (cellsOf h)
 
@@ -176,6 +178,7 @@ module _ (h : Header) (kept : ℕ → List Row) (lapses : ℕ → ℕ) (figs : L
     fit = λ i. cut-fits (lapses i);
   }
 
+  -- what is seen of the log that they give is the header, these cells and the book's lapses, cut at 255
   pub seen-here : isHeader h ≡ true → viewOf (imageOf h cells (lapsesOut lapses)) ≡ viewBy h cells (lapsesOut lapses)
   seen-here e = let w = whole e in view-image h cells (lapsesOut lapses) (w .right) (w .count) (w .each)
 
@@ -246,6 +249,7 @@ module _ (h : Header) (kept : ℕ → List Row) (lapses : ℕ → ℕ) (figs : L
         (keepReply kept lapses i (rowOf y))) (sym same) kept-here);
   }
 
+  -- a reply is answered alike by log and book, and the log after it is the one that the book after it gives
   pub reply-agrees : (held : OpenAsk) (y : List ℕ) → Bytes y → isHeader h ≡ true → RightHere → HeldIn h held
       → Agree h (step (stateOf h (record { held = held; kept = kept; lapses = lapses }) figs) (reply y)) (bookReply h held kept lapses y)
   unfolding cells takeStep step Take.taken
@@ -278,6 +282,7 @@ module _ (h : Header) (kept : ℕ → List Row) (lapses : ℕ → ℕ) (figs : L
       go true p = cut-more (lapses i) ∙ ap (λ (k : ℕ). cutAt255 (lapses k + 1)) (sym (eqb-true j i p))
       go false p = refl
 
+  -- a lapse is answered alike by log and book, and counts in both
   pub lapse-agrees : (held : OpenAsk) → isHeader h ≡ true → HeldIn h held
       → Agree h (step (stateOf h (record { held = held; kept = kept; lapses = lapses }) figs) lapse) (bookLapse h held kept lapses)
   unfolding cells step bookLapse Lapse.lapsed Lapse.lapsing lapseStep
@@ -298,6 +303,7 @@ module _ (h : Header) (kept : ℕ → List Row) (lapses : ℕ → ℕ) (figs : L
 
 -- ---- any call
 
+-- for demand 3: any call on the log that a book gives leaves the log that the book gives after its entry
 pub step-agrees : (h : Header) (b : Book) (figs : List ℕ) (c : Call) → isHeader h ≡ true → Sane h b → CallBytes c
     → Right h (viewOf (stateOf h b figs .log) .cell) figs → Agree h (step (stateOf h b figs) c) (bookStep h b c)
 unfolding bookStep cells
@@ -339,6 +345,7 @@ module _ (h : Header) (kept : ℕ → List Row) (lapses : ℕ → ℕ) (rows : (
       by-ok KeepsSane (resultOf y) (λ e. record { inside = tt; rows = rows }) (λ e.
       record { inside = tt; rows = kept-fits kept (placeOf h d t) (countsIn y) rows (subst RowFits (sym (counts-in y)) (row-fits y k)) })))
 
+-- an entry for any call keeps a book sane, so that the next call agrees too
 pub step-sane : (h : Header) (b : Book) (c : Call) → Sane h b → CallBytes c → Sane h (bookStep h b c .left)
 unfolding bookStep bookLapse
 step-sane h b (ask address day slot out) s k = ask-sane h (b .kept) (b .lapses) (s .rows) (b .held) address day slot out (s .inside)

@@ -51,21 +51,25 @@ use Rattle.logger.specs.declared.held.OpenAsk.the-variants.{Closed, Open
 
 -- ---- what holds of both values holds of the one that is chosen
 
+-- by whether no ask is open
 pub by-none : {A : Type 0} (P : A → Type 0) (held : OpenAsk) {x y : A}
     → ((a d t : ℕ) → held ≡ Open a d t → P x) → (held ≡ Closed → P y) → P (ifNone held x y)
 by-none P (Open a d t) other none = other a d t refl
 by-none P Closed other none = none refl
 
+-- by the ask that is open, if one is
 pub by-open : {A : Type 0} (P : A → Type 0) (held : OpenAsk) {x : A} {f : ℕ → ℕ → ℕ → A}
     → (held ≡ Closed → P x) → ((a d t : ℕ) → held ≡ Open a d t → P (f a d t)) → P (ifOpen held x f)
 by-open P Closed other k = other refl
 by-open P (Open a d t) other k = k a d t refl
 
+-- by the form of a reply: a fault, or well formed
 pub by-form : {A : Type 0} (P : A → Type 0) (form : Form) {f : Fault → A} {x : A}
     → ((fault : Fault) → form ≡ Faulty fault → P (f fault)) → (form ≡ WellFormed → P x) → P (ifFormed form f x)
 by-form P (Faulty fault) k other = k fault refl
 by-form P WellFormed k other = other refl
 
+-- by the meter's result: 0 or another
 pub by-ok : {A : Type 0} (P : A → Type 0) (result : ℕ) {x y : A}
     → (eqb result 0 ≡ false → P x) → (eqb result 0 ≡ true → P y) → P (ifOk result x y)
 by-ok P result {x} {y} refused ok = go (eqb result 0) refl
@@ -74,6 +78,7 @@ by-ok P result {x} {y} refused ok = go (eqb result 0) refl
     go true e = ok e
     go false e = refused e
 
+-- by a test that has to pass before what follows it
 pub by-test : {A : Type 0} (P : A → Type 0) (b : Bool) {x y : A} → (b ≡ false → P x) → (b ≡ true → P y) → P (check b x y)
 by-test P true refused next = next refl
 by-test P false refused next = refused refl
@@ -103,6 +108,7 @@ pub record Cases (P : Step → Type 0) (h : Header) (v : View) (figs : List ℕ)
       → P (updated (updateOf c (rowOf y)) (comesTwice h (o .ask .day) (o .ask .slot)) held (o .ask .day) i c figs)
 
 module _ (P : Step → Type 0) (v : View) (figs : List ℕ) (held : OpenAsk) (y : List ℕ) where
+  -- what holds of an unsound log, and in each of the cases of a sound one, holds of what is decided
   pub decided-cases : (v .lent ≡ lent.Unsound → P (outcome (stays Unsound held) figs))
       → ((h : Header) → v .lent ≡ lent.Sound h → Cases P h v figs held y) → P (decided v figs held y)
   unfolding decided
@@ -122,6 +128,7 @@ module _ (P : Step → Type 0) (v : View) (figs : List ℕ) (held : OpenAsk) (y 
 
 -- what holds of a put, of a figure that cannot follow it, and of both answers that keep the cell
 module _ (P : Step → Type 0) (twice : Bool) (held : OpenAsk) (day i : ℕ) (old : Cell) (figs : List ℕ) where
+  -- for `decided-cases`' callers: the four ends of a reply with result 0 for a good cell
   pub update-cases : (u : Update)
       → ((c : Cell) → u ≡ Put c → changeOf day twice old c figs .result ≡ figure.Done
       → P (outcome (takeCloses Done (change.Put i c)) (changeOf day twice old c figs .left)))
@@ -140,6 +147,7 @@ module _ (P : Step → Type 0) (twice : Bool) (held : OpenAsk) (day i : ℕ) (ol
 abbrev pub RowFits : Row → Type 0
 RowFits r = CountsFit (r .«e_plus») (r .«e_minus») (r .«r_plus») (r .«r_minus»)
 
+-- the counts of a reply of bytes fit two bytes each
 pub row-fits : (y : List ℕ) → Bytes y → RowFits (rowOf y)
 unfolding rowAt
 row-fits y k =
@@ -163,6 +171,7 @@ module _ (r : Row) (f : RowFits r) where
   compared-cell false true = tt
   compared-cell false false = tt
 
+  -- whatever the cell held, a row that fits puts a cell that a log can hold
   pub update-cell : (c : Cell) → PutsCell (updateOf c r)
   unfolding updateOf
   update-cell cell.Gap = filled-cell (isZero r) refl
@@ -190,6 +199,7 @@ pub record Ways (P : Step → Type 0) (v : View) (figs : List ℕ) (held : OpenA
       → changeOf (o .day) (comesTwice h (o .day) (o .slot)) old c figs .result ≡ figure.Done
       → P (outcome (takeCloses Done (change.Put i c)) (changeOf (o .day) (comesTwice h (o .day) (o .slot)) old c figs .left))
 
+-- what holds of the three ways holds of what is decided, for callers that need not tell the refusals apart
 pub decided-ways : (P : Step → Type 0) (v : View) (figs : List ℕ) (held : OpenAsk) (y : List ℕ) → Ways P v figs held y → P (decided v figs held y)
 decided-ways P v figs held y w =
     decided-cases P v figs held y (λ e. w .kept-open Unsound refl) (λ h e.

@@ -102,6 +102,7 @@ handsBack (Done r) s = isSound r s
 handsBack OutOfRange s = true
 handsBack Unsound s = true
 
+-- a slice that is put leaves record and store sound, for the calls after it
 pub put-sound : (r : Record) (s : List ℕ) (k : Key) (row : List ℕ) → handsBack ((slicePut r s k row) .result) ((slicePut r s k row) .left) ≡ true
 unfolding slicePut isSound
 put-sound r s k row = go (isSound r s) refl (isLegal k (slotsOf (r .minutes))) refl

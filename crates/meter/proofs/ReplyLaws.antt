@@ -46,10 +46,12 @@ length-power p detail = go (eqb detail 0) refl
     go true e = simp (e, length-append, length-powerBytes)
     go false e = simp (e, length-powerBytes)
 
+-- a slice's four counts are eight bytes
 pub length-row : (row : List ℕ) → length (rowBytes row) ≡ 8
 unfolding rowBytes bytesOf
 length-row row = refl
 
+-- what is stored of a parameter has as many bytes as the parameter's row in the table says
 pub length-figures : (p : Parameter) (r : Record) (s : List ℕ) (q : Request) → length (figuresOf p r s q) ≡ replyBytes Stored p (q .detail)
 unfolding replyBytes telemetryBytes maskBytes dateTimeBytes bytesOf rowBytes sixBytes sixOf
 length-figures parameter.ActivePower r s q = length-power (r .active) (q .detail)
@@ -65,12 +67,14 @@ length-figures parameter.SixSlices r s q = refl
 length-figures parameter.Password r s q = refl
 length-figures parameter.Unknown r s q = refl
 
+-- and what either function reads of it has as many as its reply's data
 pub length-as : (reading : Reading) (p : Parameter) (r : Record) (s : List ℕ) (q : Request)
     → length (figuresAs reading p r s q) ≡ replyBytes reading p (q .detail)
 unfolding replyBytes
 length-as Stored p r s q = length-figures p r s q
 length-as Displayed p r s q = length-energies (displayedOf r (sliceOf s (keyOf q)))
 
+-- the data of a reply have the size that is known from its command alone; none but a read has any
 pub length-data : (r : Record) (s f : List ℕ) → length (dataOf r s (commandOf f)) ≡ dataSize (commandOf f)
 unfolding dataOf dataSize replyBytes
 length-data r s f = go (isRead (functionIn f)) refl
@@ -90,6 +94,7 @@ data-small f = go (isRead (functionIn f)) refl
 
 -- ---- a reply's parts, one behind the other
 
+-- a reply's head is four bytes: address, function, parameter and result
 pub length-head : (v : Verdict) (c : Command) → length (headOf v c) ≡ 4
 unfolding headOf
 length-head v c = refl
@@ -128,6 +133,7 @@ replied-done v w r s f out e d =
     let q : isDone w ≡ true = ap isDone (sym e) ∙ d in
     ap (λ (x : Verdict). done x r s f out) e ∙ sym (ap (λ (b : Bool). cond b (done w r s f out) (refused w r s f out)) q)
 
+-- for `replied`: a verdict that refuses leads to the head alone, in six bytes, and leaves record and store
 pub replied-refused : (v w : Verdict) (r : Record) (s f out x : List ℕ) → v ≡ w → isDone v ≡ false → x ≡ written out 0 (framed (headOf v (commandOf f)))
     → outcome (record { verdict = v; length = 6; after = r }) s x ≡ replied w r s f out
 unfolding replied

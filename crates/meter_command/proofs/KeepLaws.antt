@@ -27,9 +27,11 @@ use Rattle.meter_command.specs.Command.{detailIn, dataIn}
 abbrev pub changed : Parameter → Record → List ℕ → Record
 changed p r f = changedTo (codeOf p) r (detailIn f) (dataIn f)
 
+-- a zeroing has no data, so its code says all of it
 abbrev pub zeroed : Parameter → Record → Record
 zeroed p r = zeroedTo (codeOf p) r
 
+-- a record with another right protection stays within its ranges
 pub protection-within : (r : Record) (p : Protection) → Within r → isProtection p ≡ true → Within (withProtection r p)
 protection-within r p w h = remade-within r _ _ _ _ _ _ _ w (w .address) h (w .time) (w .telemetry) (w .next)
 
@@ -41,6 +43,7 @@ fits-within : (b : Bool) {x y : Bool} {u v : Record} → (x ≡ true → Within 
 fits-within true f g = f
 fits-within false f g = g
 
+-- a change whose argument fits keeps a record within its ranges, whatever parameter it names
 pub change-within : (p : Parameter) (r : Record) (f : List ℕ) → Within r → argumentFits (parameterRow p) (detailIn f) (r .telemetry) (dataIn f) ≡ true
     → Within (changed p r f)
 unfolding changedTo argumentFits dataFits telemetryFits
@@ -66,6 +69,7 @@ change-within p r f w h = go (both (detailFits ((parameterRow p) .«detail_from�
         (fits-within (eqb (codeOf p) 32) (λ e. time-within r _ w (is-fitting _ (record { clock = e; summer = t .summer; winter = t .winter })))
         (λ e. either Within (eqb (codeOf p) 35) (kept _ _) (either Within (eqb (codeOf p) 37) (kept _ _) w))))))
 
+-- and so does a zeroing of any parameter
 pub zero-within : (p : Parameter) (r : Record) → Within r → Within (zeroed p r)
 unfolding zeroedTo
 zero-within p r w =
@@ -86,6 +90,7 @@ module _ (p : Parameter) (r : Record) where
   abbrev has : ℕ → Bool
   has code = eqb (codeOf p) code
 
+  -- a change leaves the level, so that what it needed is still open after it
   pub change-level : (f : List ℕ) → Alike (changed p r f)
   unfolding changedTo
   change-level f =
@@ -94,6 +99,7 @@ module _ (p : Parameter) (r : Record) where
       (either Alike (has 27) refl
       (either Alike (has 28) refl (either Alike (has 32) refl (either Alike (has 35) refl (either Alike (has 37) refl refl))))))
 
+  -- and so does a zeroing
   pub zero-level : Alike (zeroed p r)
   unfolding zeroedTo
   zero-level = either Alike (has 27) refl (either Alike (has 28) refl (either Alike (has 36) refl refl))

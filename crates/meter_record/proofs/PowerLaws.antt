@@ -17,10 +17,12 @@ use Rattle.wire_values.specs.declared.power.Phases.{Phases}
 use Rattle.wire_values.specs.declared.power.PowersAnswer.the-variants as powers
 use Rattle.meter_record.specs.Power.{most, least, inBounds, arePowers}
 
+-- "to 1,000,000": the upper bound, given by its bits, is the float of that number
 pub most-is : most ≡ ofInt binary32 (pos 1000000)
 unfolding ofBits ofInt
 most-is = refl
 
+-- "from -1,000,000": and the lower bound that of its opposite
 pub least-is : least ≡ ofInt binary32 (negsuc 999999)
 unfolding ofBits ofInt
 least-is = refl
@@ -42,6 +44,7 @@ le-within (inf false) l h = unfold le in absurd h
 le-within (fin true m e) l h = rw mul-one at (not-below m e 15625 (pos 6) l)
 le-within (fin false m e) l h = rw mul-one at (not-above m e 15625 (pos 6) h)
 
+-- a power that the bench's test lets pass lies from -1,000,000 to 1,000,000
 pub bounds-within : (x : Float) → inBounds x ≡ true → Within 1000000 x
 unfolding inBounds
 bounds-within x e =
@@ -50,6 +53,7 @@ bounds-within x e =
     (subst (λ (y : Float). T (le y x)) least-fin (and-l (le least x) (le x most) t))
     (subst (λ (y : Float). T (le x y)) most-fin (and-r (le least x) (le x most) t))
 
+-- so it is finite
 pub bounds-finite : (x : Float) → inBounds x ≡ true → finite x ≡ true
 bounds-finite x e = within-finite 1000000 x (bounds-within x e)
 
@@ -67,12 +71,14 @@ three true true false e = absurd (subst T (sym e) tt)
 three true false c e = absurd (subst T (sym e) tt)
 three false b c e = absurd (subst T (sym e) tt)
 
+-- three powers that pass have each passed
 pub powers-bounds : (p : Phases) → arePowers p ≡ true → BoundsPhases p
 unfolding arePowers
 powers-bounds p e =
     let t = three (inBounds (p .a)) (inBounds (p .b)) (inBounds (p .c)) e in
     record { a = t .0; b = t .1; c = t .2 }
 
+-- the total of three powers that the bench sets is finite, as it is at most 3,000,000
 pub total-finite : (p : Phases) → arePowers p ≡ true → finite (totalOf p) ≡ true
 total-finite p e =
     let h = powers-bounds p e in

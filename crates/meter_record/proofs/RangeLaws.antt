@@ -27,6 +27,7 @@ use Rattle.meter_record.specs.declared.record.Record.{Record}
 use Rattle.meter_record.specs.declared.record.RecordAnswer.{RecordAnswer}
 use Rattle.meter_record.specs.declared.record.RecordAnswer.the-variants.{Done, OutOfRange, Unsound}
 
+-- every part of a record is in its range
 pub record Within (r : Record) : Type 0 where
   pub address : leb 1 (r .address) ≡ true
   pub protection : isProtection (r .protection) ≡ true
@@ -38,6 +39,7 @@ pub record Within (r : Record) : Type 0 where
   pub reactive : arePowers (r .reactive) ≡ true
   pub ratios : areRatios (r .ratios) ≡ true
 
+-- the test of a record tells this of each part
 pub within : (r : Record) → isWithin r ≡ true → Within r
 unfolding isWithin settingsRight benchRight
 within r h =
@@ -61,6 +63,7 @@ within r h =
       ratios = k .1;
     }
 
+-- and parts that are all in their ranges pass the test
 pub is-within : (r : Record) → Within r → isWithin r ≡ true
 unfolding isWithin settingsRight benchRight
 is-within r w =
@@ -95,11 +98,13 @@ later-within r h =
 
 -- ---- what a bench call that is done hands back is within its ranges
 
+-- whether a record that a bench call hands back is within its ranges; a refused call hands back none
 abbrev pub handsBack : RecordAnswer → Bool
 handsBack (Done r) = isWithin r
 handsBack OutOfRange = true
 handsBack Unsound = true
 
+-- a meter that is made is within its ranges
 pub made-within : (address minutes : ℕ) (t : Telemetry) (c : DateTime) (s : Season) → handsBack (made address minutes t c s) ≡ true
 unfolding made
 made-within address minutes t c s = go (isWithin (fresh address minutes t c s)) refl
@@ -108,6 +113,7 @@ made-within address minutes t c s = go (isWithin (fresh address minutes t c s)) 
     go true e = simp e
     go false e = simp e
 
+-- the record a second later is, too
 pub second-within : (r : Record) → handsBack (secondOf r) ≡ true
 unfolding secondOf
 second-within r = go (isWithin r) refl
@@ -130,6 +136,7 @@ powers-kept r a b w p q =
       ratios = w .ratios;
     })
 
+-- setting powers keeps the record within its ranges
 pub powers-within : (r : Record) (n : ℕ) (p : Phases) → handsBack (setPowers r n p) ≡ true
 unfolding setPowers powersSet
 powers-within r n p = go (isWithin r) refl (arePowers p) refl (eqb n 8) refl (eqb n 9) refl
@@ -156,6 +163,7 @@ ratios-kept r k w h =
       ratios = h;
     })
 
+-- setting the ratios keeps the record within its ranges
 pub ratios-within : (r : Record) (k : Ratios) → handsBack (setRatios r k) ≡ true
 unfolding setRatios
 ratios-within r k = go (isWithin r) refl (areRatios k) refl

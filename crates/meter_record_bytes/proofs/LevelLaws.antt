@@ -5,6 +5,7 @@ use Rattle.meter_clock.specs.declared.protection.Level.the-variants.{Shut, Auxi
 use Rattle.meter_record_bytes.specs.declared.level.LevelRead.the-variants.{Read}
 use Rattle.meter_record_bytes.specs.Level.{levelByte, levelOf}
 
+-- a level is read back from its byte
 pub level-back : (l : Level) → levelOf (levelByte l) ≡ Read l
 unfolding levelOf
 level-back Shut = refl

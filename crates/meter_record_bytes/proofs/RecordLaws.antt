@@ -32,18 +32,22 @@ use Rattle.meter_record_bytes.specs.declared.time.TimeRead.the-variants 
 
 -- ---- lengths
 
+-- address, protection and passwords are the first 19 bytes
 pub length-access : (r : Record) → length (accessBytes r) ≡ 19
 unfolding accessBytes bytesOf
 length-access r = refl
 
+-- time, telemetry and display mask are the next 35
 pub length-setting : (r : Record) → length (settingBytes r) ≡ 35
 unfolding settingBytes timeBytes switchBytes dateTimeBytes telemetryBytes maskBytes bytesOf
 length-setting r = refl
 
+-- and what the bench sets, with the next place and the interval, the last 35
 pub length-bench : (r : Record) → length (benchBytes r) ≡ 35
 unfolding benchBytes powerBytes bytesOf
 length-bench r = refl
 
+-- together they are the 89 bytes of a record
 pub length-record : (r : Record) → length (recordBytes r) ≡ recordSize
 unfolding recordBytes
 length-record r = simp (length-append, length-access, length-setting, length-bench)

@@ -16,6 +16,7 @@ use Rattle.meter_record_bytes.specs.declared.time.TimeRead.the-variants 
 
 -- ---- lengths, and there and back
 
+-- for `put_settings`: telemetry stands 21 bytes behind the time's first
 pub length-timeBytes : (t : Time) → length (timeBytes t) ≡ 21
 unfolding timeBytes switchBytes dateTimeBytes
 length-timeBytes t = refl
@@ -30,6 +31,7 @@ unfolding switchOf switchBytes dateTimeOf dateTimeBytes
 switch-back Automatic rest = refl
 switch-back (ByHand t) rest = refl
 
+-- clock, season and both switch dates are read back from their bytes, whatever stands behind them
 pub time-back : (t : Time) (rest : List ℕ) → timeOf (timeBytes t ++ rest) ≡ time.Read t
 unfolding timeOf together timeBytes switchBytes dateTimeOf dateTimeBytes
 time-back t rest =

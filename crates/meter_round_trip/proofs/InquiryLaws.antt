@@ -60,6 +60,7 @@ answer-room r s f out = go (ltb (length out) 64) refl (isSound r s) refl (heard 
     go false e true k true l false m = simp (e, k, l, m, length-written)
     go false e true k true l true m = simp (e, k, l, m, length-written)
 
+-- for `ask`: a reply is no longer than the output that it was written into, so it can be lent on
 pub reply-lies : (r : Record) (s f out : List ℕ) (a : Answered) (S O : List ℕ) → 64 ≤ length out
     → meter.outcome a S O ≡ answerOf r s f out → a .length ≤ length O
 reply-lies r s f out a S O h e =
@@ -69,6 +70,7 @@ reply-lies r s f out a S O h e =
 
 -- ---- what the meter answered, as it is told
 
+-- for `ask`: where the meter kept silent nothing is decoded, and silence is told
 pub asked-silent : (r : Record) (s f : List ℕ) (q : Request) (out : List ℕ) (a : Answered) (S O : List ℕ) → f ≡ requestFrame q
     → meter.outcome a S O ≡ answerOf r s f out → isSilent (a .verdict) ≡ true → outcome Silent S O ≡ asked r s q out
 unfolding asked toldOf
@@ -77,6 +79,7 @@ asked-silent r s f q out a S O p e h =
     ap (λ (o : meter.Outcome). toldOf o q) (e ∙ ap (λ (x : List ℕ). answerOf r s x out) p) in
     sym (ap (λ (b : Bool). cond b (outcome Silent S O) (outcome (Told (decodedOf q (take (a .length) O))) S O)) h) ∙ told
 
+-- for `ask`: where it answered, what its reply decodes to is told
 pub asked-told : (r : Record) (s f : List ℕ) (q : Request) (out : List ℕ) (a : Answered) (S O : List ℕ) (d : Decoded) → f ≡ requestFrame q
     → meter.outcome a S O ≡ answerOf r s f out → isSilent (a .verdict) ≡ false → d ≡ decodedOf q (take (a .length) O)
     → outcome (Told d) S O ≡ asked r s q out

@@ -14,6 +14,7 @@ use Rattle.meter_record_bytes.specs.declared.record.RecordRead.the-variants.{Re
 use Rattle.metlazuel.specs.MeterCalls.{phasesFrom, powersIn}
 use Rattle.metlazuel.specs.Bits.{floatFrom}
 
+-- the powers as the code hands them on: the infinity in place of what is not finite
 abbrev pub phasesHanded : ℕ → ℕ → ℕ → Phases
 phasesHanded a b c = record { a = floatFrom a; b = floatFrom b; c = floatFrom c }
 

@@ -12,6 +12,7 @@ use Rattle.c_values.specs.Row.{figuresFor}
 use Rattle.c_values.proofs.RowLaws.{decoded-foretold}
 use Rattle.metlazuel.specs.WireCalls.{countAfter}
 
+-- for `decode`: the count given with 0 is the request's, and any other answer leaves the lent one
 pub count-foretold : (q : Request) (y : List ℕ) (before : ℕ)
     → cond (eqb (numberOf (decodedOf q y)) 0) (figuresFor (subjectOf q mostSlots)) before ≡ countAfter (decodedOf q y) y before
 unfolding countAfter

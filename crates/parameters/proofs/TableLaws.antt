@@ -32,6 +32,7 @@ code-leads-back Unknown = refl
 
 -- ---- a test that every row passes
 
+-- whether a test holds of each of some parameters, and of the unknown one
 unfoldable pub all : (Parameter → Bool) → List Parameter → Bool
 all t [] = t Unknown
 all t (p ∷ ps) = t p && all t ps
@@ -43,6 +44,7 @@ first-passes t (p ∷ ps) n h =
     let b = both (t p) (all t ps) h in
     either (λ (x : Parameter). t x ≡ true) (eqb n (codeOf p)) (b .0) (first-passes t ps n (b .1))
 
+-- a test that antt computed over the whole table holds of any parameter
 pub every-row : (t : Parameter → Bool) → all t parameters ≡ true → (p : Parameter) → t p ≡ true
 unfolding parameterOf
 every-row t h p = ap t (sym (code-leads-back p)) ∙ first-passes t parameters (codeOf p) h
@@ -56,6 +58,7 @@ phase-small Unused detail whole h = h
 phase-small Slot detail whole h = h
 phase-small SixSlots detail whole h = h
 
+-- no reply has more data than 48 bytes, with either function
 pub reply-small : (reading : Reading) (p : Parameter) (detail : ℕ) → replyBytes reading p detail ≤ 48
 unfolding replyBytes all
 reply-small Displayed p detail = lit≤ tt

@@ -27,14 +27,17 @@ spaces (suc n) = 32 ∷ spaces n
 
 -- ---- a lock's text, put piece by piece
 
+-- for `put_holder`: of ten spaces those that the digits do not take are the padding
 pub is-pad : (p k : ℕ) (xs : List ℕ) → k ≡ length (decimal p) → xs ≡ drop k (spaces 10) → xs ≡ padOf p
 unfolding padOf
 is-pad p k xs e q = q ∙ ap (λ (j : ℕ). drop j (spaces 10)) e
 
+-- the padding is what a number lacks of ten digits
 pub pad-length : (p : ℕ) → length (padOf p) ≡ 10 - length (decimal p)
 unfolding padOf
 pad-length p = length-drop (length (decimal p)) (spaces 10)
 
+-- the padding, the number and the line feed by three stores are the text by one
 pub put : (s t u v : List ℕ) (p k : ℕ) (pad : List ℕ) → k ≡ length (decimal p) → pad ≡ padOf p
     → t ≡ written s 0 pad → u ≡ written t (length pad) (decimal p) → v ≡ written u (length pad + k) (10 ∷ []) → v ≡ written s 0 (holderText p)
 unfolding holderText
@@ -44,10 +47,12 @@ put s t u v p k pad e q a b c =
 
 -- ---- laws for the walks
 
+-- a space is passed
 pub space-at : (s : List ℕ) (i : ℕ) → i < length s → getD s i 0 ≡ 32 → afterSpaces (drop i s) ≡ afterSpaces (drop (i + 1) s)
 unfolding afterSpaces
 space-at s i h e = rw (add-one, drop-cons s i 0 h, eq-eqb (getD s i 0) 32 e)
 
+-- any other sign ends the walk over the spaces
 pub other-at : (s : List ℕ) (i : ℕ) → i < length s → (getD s i 0 ≡ 32 → ⊥) → afterSpaces (drop i s) ≡ drop i s
 unfolding afterSpaces
 other-at s i h e = rw (drop-cons s i 0 h, ne-eqb (getD s i 0) 32 e)

@@ -21,12 +21,14 @@ use Rattle.polling.specs.declared.fate.Fate.the-variants as fate
 
 -- ---- the two cases
 
+-- for `heard`: no byte is no reply: log and ask stay, and the meter was silent
 pub heard-nothing : (b : LogAndRows) (held : OpenAsk) (y : List ℕ) → length y ≡ 0
     → heard b held y ≡ outcome (record { fate = fate.Silent; held = held }) b
 unfolding heard
 heard-nothing b held [] e = refl
 heard-nothing b held (x ∷ y) e = absurd (omega arith)
 
+-- for `heard`: any byte heard is taken as a reply, whose answer says the fate
 pub heard-some : (b : LogAndRows) (held : OpenAsk) (y : List ℕ) (r : Taken) (l : LogAndRows) → (length y ≡ 0 → ⊥)
     → outcome r l ≡ Take.taken b held y
     → outcome (record { fate = fateOf (r .answer); held = r .held }) l ≡ heard b held y
@@ -59,6 +61,7 @@ settleCalls (b ∷ y) = reply (b ∷ y) ∷ lapse ∷ []
 abbrev pub stateAfter : Outcome Settled LogAndRows → State
 stateAfter o = state (o .left) (o .result .held)
 
+-- what becomes of an ask leaves log and ask as these calls do
 pub settled-run : (b : LogAndRows) (held : OpenAsk) (y : List ℕ) → stateAfter (askSettled b held y) ≡ run (state b held) (settleCalls y) .left
 unfolding askSettled heard settleCalls runOf step
 settled-run b held [] = refl

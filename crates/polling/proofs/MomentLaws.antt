@@ -22,6 +22,7 @@ days-below d = go (isDate d) refl
     go true e = number-below d e
     go false e = omega arith
 
+-- so that the minutes of a date's days fit 32 bits, for `moment_of` and `standing_of`
 pub days-most : (d : Date) (n : ℕ) → n ≡ daysTo d → n < centuryDays
 days-most d n e = rw e (days-below d)
 
@@ -43,6 +44,7 @@ days-found d n e = go (isDate d) e
     go true p = cc
     go false p = let z : _≡_ {A = ℕ} 0 1 = cc in absurd (omega arith)
 
+-- and 0 where there is none
 pub days-none : (d : Date) → dayOf d ≡ NotADate → 0 ≡ daysTo d
 unfolding dayOf daysTo
 days-none d e = go (isDate d) e

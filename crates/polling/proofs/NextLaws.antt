@@ -83,12 +83,15 @@ module _ (w : Wanted) (h : Header) (cell : ℕ → CellAnswer) (d : ℕ) where
       go false e = sym (ap (λ (b : Bool). cond b (Slot k) Nothing) (none-outside k e))
 
   module _ (k : ℕ) (l : k < slots) where
+    -- for the loop: a slot that is asked for is the one found
     pub walk-stops : asksFor w h cell d k ≡ true → nextIn w h cell d k ≡ Slot k
     walk-stops e = turn k l ∙ simp e
 
+    -- for the loop: a slot that is not asked for is passed, and the rest is as before
     pub walk-on : asksFor w h cell d k ≡ false → nextIn w h cell d (k + 1) ≡ nextIn w h cell d k
     walk-on e = sym (turn k l ∙ simp e)
 
+  -- for the loop: past the day's last slot nothing is found
   pub walk-ends : (k : ℕ) → slots ≤ k → nextIn w h cell d k ≡ Nothing
   unfolding nextIn firstAsked
   walk-ends k l =
@@ -183,6 +186,7 @@ pub record Asks (w : Wanted) (h : Header) (cell : ℕ → CellAnswer) (d k : ℕ
   pub place : InLog h d k (d * slotsOf (h .minutes) + k)
   pub wanted : isWanted w (cell (d * slotsOf (h .minutes) + k)) ≡ true
 
+-- a slot that is asked for is in the log, and its cell is wanted
 pub asks-is : (w : Wanted) (h : Header) (cell : ℕ → CellAnswer) (d k : ℕ) → asksFor w h cell d k ≡ true → Asks w h cell d k
 unfolding asksFor
 asks-is w h cell d k e = go (intervalOf h d k) refl e
@@ -213,6 +217,7 @@ next-in w h v d k j q e =
     let f = found-in w h (v .cell) d k j e in
     record { header = h; sound = q; asks = asks-is w h (v .cell) d j (f .asked); found = f }
 
+-- the slot that is told to ask for next is the first wanted one of a sound log
 pub next-is : (w : Wanted) (v : View) (d k j : ℕ) → nextWanted w v d k ≡ Slot j → NextIs w v d k j
 unfolding nextWanted
 next-is w v d k j e = go (v .lent) refl e

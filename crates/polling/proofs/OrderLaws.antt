@@ -73,14 +73,17 @@ module _ (w : Wanted) (h : Header) (cell : ℕ → CellAnswer) (d : ℕ) where
           ∙ sym (ap (λ (b : Bool). cond b (Slot k) (firstAsked w (reverse (take k day)))) (none-past k l))
       go false e b f = sym (ap (λ (b : Bool). cond b (Slot k) Nothing) (none-outside w h cell d k e))
 
+  -- the slot before those passed is found where it is asked for
   pub down-stops : (i : ℕ) → 0 < i → asksFor w h cell d (i - 1) ≡ true → lastIn w h cell d i ≡ Slot (i - 1)
   down-stops zero l e = absurd (omega arith)
   down-stops (suc n) l e = let m : suc n - 1 ≡ n = omega arith in rw m (turn n ∙ simp (rw m at e))
 
+  -- it is passed too where it is not asked for, and the rest is as before
   pub down-on : (i : ℕ) → 0 < i → asksFor w h cell d (i - 1) ≡ false → lastIn w h cell d (i - 1) ≡ lastIn w h cell d i
   down-on zero l e = absurd (omega arith)
   down-on (suc n) l e = let m : suc n - 1 ≡ n = omega arith in rw m (sym (turn n ∙ simp (rw m at e)))
 
+  -- with no slot left nothing is found
   pub down-ends : (i : ℕ) → i ≡ 0 → lastIn w h cell d i ≡ Nothing
   unfolding lastIn firstAsked
   down-ends i p = rw p (go (ltb d (h .days)))
@@ -97,6 +100,7 @@ pub record LastAsked (asks : ℕ → Bool) (end j : ℕ) : Type 0 where
   pub asked : asks j ≡ true
   pub none-behind : (i : ℕ) → j < i → i < end → asks i ≡ false
 
+-- what the walk down finds is the last that is asked for
 pub last-is : (w : Wanted) (h : Header) (cell : ℕ → CellAnswer) (d n j : ℕ) → lastIn w h cell d n ≡ Slot j → LastAsked (asksFor w h cell d) n j
 last-is w h cell d zero j e = let q = sym (down-ends w h cell d 0 refl) ∙ e in let z : _≡_ {A = ℕ} 0 1 = cc in absurd (omega arith)
 last-is w h cell d (suc n) j e = go (asksFor w h cell d n) refl (sym (turn w h cell d n) ∙ e) (last-is w h cell d n j)
@@ -122,6 +126,7 @@ pub record NewestIs (w : Wanted) (v : View) (d passed j : ℕ) : Type 0 where
   pub asks : Asks w header (v .cell) d j
   pub found : LastAsked (asksFor w header (v .cell) d) (daySlots - passed) j
 
+-- the slot that is told to ask for next, newest first, is the last wanted one of a sound log
 pub newest-is : (w : Wanted) (v : View) (d passed j : ℕ) → nextInOrder NewestFirst w v d passed ≡ Slot j → NewestIs w v d passed j
 unfolding nextInOrder lastWanted
 newest-is w v d passed j e = go (v .lent) refl e

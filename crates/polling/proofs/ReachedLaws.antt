@@ -18,6 +18,7 @@ use Rattle.polling.specs.Reached.{Reached}
 
 -- ---- laws
 
+-- no call at all leads from a state to itself
 pub stays : (s : State) → Reached s s
 unfolding runOf
 stays s = record { calls = []; bytes = tt; leads = refl }
@@ -31,6 +32,7 @@ unfolding runOf
 run-both s [] b = refl
 run-both s (c ∷ a) b = run-both (step s c .left) a b
 
+-- calls that lead on from where others led make one list with them
 pub onward : {s t u : State} → Reached s t → Reached t u → Reached s u
 onward {s} {t} {u} x y = record {
   calls = x .calls ++ y .calls;

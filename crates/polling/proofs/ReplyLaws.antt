@@ -28,6 +28,7 @@ formed-length address function parameter full y e = go (eqb (length y) (lengthFo
     go true p q = eqb-true _ _ p
     go false p q = let z : _≡_ {A = ℕ} 0 1 = cc in absurd (omega arith)
 
+-- a well-formed reply is whole: listening stops at its end
 pub formed-whole : (address function parameter full : ℕ) (y : List ℕ) → formOf address function parameter full y ≡ WellFormed → isWhole full y ≡ true
 unfolding isWhole
 formed-whole address function parameter full y e = le-leb (lengthFor (byteAt y functionPlace) full) (length y) (omega (arith, formed-length address function parameter full y e))

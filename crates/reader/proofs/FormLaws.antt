@@ -57,6 +57,7 @@ module _ (address function parameter full : ℕ) (y : List ℕ) where
 
 -- what holds of the value for each case holds of the one that is chosen
 module _ {A : Type 0} (P : A → Type 0) (address function parameter full : ℕ) (y : List ℕ) {f : Fault → A} (g : ℕ → A) {x : A} where
+  -- three cases: a fault in the form, a result other than 0, and an answer
   pub by-reply : ((fault : Fault) → formOf address function parameter full y ≡ Faulty fault → P (f fault))
       → (formOf address function parameter full y ≡ WellFormed → eqb (byteAt y resultPlace) 0 ≡ false → P (g (byteAt y resultPlace)))
       → (formOf address function parameter full y ≡ WellFormed → eqb (byteAt y resultPlace) 0 ≡ true → P x)

@@ -44,10 +44,12 @@ use Rattle.report_page.specs.declared.page.Line.{Line}
 use Rattle.report_page.specs.Page.{refusedText, refusedLine, reportLine, imageIn, readLine, readStrip, linesMost}
 use Rattle.report_page.specs.Page.{room, figuresRoom, ReadOf, pageAfter, nextLine, nextStrip, pageLine, stripLine}
 
+-- the word with its space, the digits and the line feed
 pub length-refused : (n : ℕ) → length (refusedText n) ≡ 9 + length (decimal n)
 unfolding refusedText ascii
 length-refused n = omega (arith, length-append (decimal n) (lineFeed ∷ []))
 
+-- the word, the number and the line feed by three stores are the line by one
 pub written-refused : (s : List ℕ) (n : ℕ)
     → written (written (written s 0 (ascii "refused ")) 8 (decimal n)) (8 + length (decimal n)) (lineFeed ∷ []) ≡ written s 0 (refusedText n)
 unfolding refusedText ascii
@@ -206,6 +208,7 @@ module _ (f : List ℕ) (p : Page) (given : LogAndRows) (out : List ℕ) (l : Li
   unfolding nextStrip
   strip-read e = ap (λ (o : Outcome Line (List ℕ)). o .result .after .read) e ∙ after-read p (readStrip (p .read) (given .log) (p .next) out .result)
 
+  -- what is put into a buffer for a strip of what was read is that strip of the file
   pub strip-put : ReadOf f (p .read) given → outcome l text ≡ nextStrip p (given .log) out → outcome (l .answer) text ≡ stripLine f (p .next) out
   unfolding nextStrip
   strip-put r e = ap (λ (o : Outcome Line (List ℕ)). outcome (o .result .answer) (o .left)) e ∙ strip-of-file f (p .read) given (p .next) out r
@@ -226,6 +229,7 @@ number-most WrongCrc = omega arith
 number-most WrongCell = omega arith
 number-most TooShort = omega arith
 
+-- no line of a page is refused for want of room
 pub page-room : (f : List ℕ) (i : ℕ) (out : List ℕ) → Bytes f → lineMost ≤ length out → Never 1 (pageLine f i out)
 unfolding pageLine readLine reportLine refusedLine
 page-room f i out bytes l =
@@ -241,6 +245,7 @@ page-room f i out bytes l =
     (text-fits (refusedText n) out (omega (arith, length-refused n, digits)))
     (λ e. omega (arith, e)))
 
+-- nor is a strip
 pub strips-room : (f : List ℕ) (d : ℕ) (out : List ℕ) → stripMost ≤ length out → Never 1 (stripLine f d out)
 unfolding stripLine readStrip
 strips-room f d out l = let o = readFile f room figuresRoom in strip-room (viewOf (imageIn (o .result) (o .left .log))) d out l

@@ -20,11 +20,13 @@ use Rattle.request.specs.declared.subject.Subject.the-variants.{Figures,
 
 -- ---- what a request that asks for something asks for
 
+-- the parameter is open to the function, the fields fit, and the figures are the parameter's
 pub record Asked (p : Parameter) (q : Request) (slots : ℕ) : Type 0 where
   pub open-to : opensTo (q .reading) (parameterRow p) ≡ true
   pub fits : fieldsFit ((parameterRow p) .fields) q slots ≡ true
   pub subject : subjectFor p q slots ≡ Figures (q .reading) p (q .detail)
 
+-- all of this holds of a request that asks for something
 pub asked : (p : Parameter) (q : Request) (slots : ℕ) → askable (subjectFor p q slots) ≡ true → Asked p q slots
 unfolding subjectFor
 asked p q slots = go (opensTo (q .reading) (parameterRow p)) refl (fieldsFit ((parameterRow p) .fields) q slots) refl
@@ -59,6 +61,7 @@ subject-wider q slots h e =
 
 -- ---- data bytes
 
+-- a reply to any request has at most 48 bytes of data, so its length is small enough to compute
 pub dataBytes-small : (s : Subject) → dataBytes s ≤ 48
 dataBytes-small (Figures reading p detail) = reply-small reading p detail
 dataBytes-small Nothing = lit≤ tt

@@ -29,10 +29,12 @@ finite-below n h = finite-bits n ∙ lt-ltb (n % 0x80000000) 0x7F800000 (omega a
 front : (n : ℕ) (rest : List ℕ) → n < 0x7F800000 → numberAt (bytesOf 4 n ++ rest) 0 4 ≡ n
 front n rest h = numberAt-front 4 n rest ∙ mod-eq-of-lt (omega (arith, h))
 
+-- four energies are 16 bytes
 pub length-energies : (e : Energies) → length (energiesBytes e) ≡ 16
 unfolding energiesBytes bytesOf
 length-energies e = refl
 
+-- four finite energies are read back from their bytes, whatever stands behind them
 pub energiesOf-bytes : (e : Energies) (rest : List ℕ) → Plain e → energiesOf (energiesBytes e ++ rest) ≡ Finite e
 unfolding energiesOf energiesIn areFinite energiesBytes
 energiesOf-bytes e rest h =

@@ -9,6 +9,7 @@ use Rattle.byte_numbers.proofs.PlaceLaws.{numberAt-front}
 use Rattle.wire_values.specs.declared.mask.DisplayMask.{DisplayMask}
 use Rattle.wire_values.specs.Mask.{maskOf, maskBytes}
 
+-- a display mask is read back from its bytes, where its parameters fit four
 pub maskOf-bytes : (m : DisplayMask) (rest : List ℕ) → m .parameters < 2 ^ 32 → maskOf (maskBytes m ++ rest) ≡ m
 unfolding maskOf maskBytes bytesOf
 maskOf-bytes m rest h =

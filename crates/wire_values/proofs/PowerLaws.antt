@@ -64,6 +64,7 @@ same-number nan e = subst T e tt
 same-number (inf s) e = tt
 same-number (fin s m k) e = tt
 
+-- a power is four bytes
 pub length-powerBytes : (x : Float) → length (powerBytes x) ≡ 4
 unfolding powerBytes
 length-powerBytes x = length-bytesOf 4 (bitsOf x)
@@ -75,6 +76,7 @@ total-fits p = add-fits binary32 _ (p .c)
 
 -- ---- one float, at the front and behind another
 
+-- a float of 32 bits is read back from the front, bit for bit
 pub floatAt-front : (x : Float) (rest : List ℕ) → T (fits binary32 x) → floatAt (powerBytes x ++ rest) 0 ≡ x
 unfolding floatAt powerBytes
 floatAt-front x rest h =
@@ -82,6 +84,7 @@ floatAt-front x rest h =
     numberAt-front 4 (bitsOf x) rest ∙ mod-eq-of-lt (toBits-lt binary32 x h) in
     ap (ofBits binary32) bits ∙ ofBits-toBits binary32 x h
 
+-- what stands behind a power is read as it would be alone
 pub floatAt-behind : (x : Float) (rest : List ℕ) (i : ℕ) → floatAt (powerBytes x ++ rest) (4 + i) ≡ floatAt rest i
 unfolding floatAt powerBytes
 floatAt-behind x rest i = ap (ofBits binary32) (numberAt-behind-bytes 4 (bitsOf x) rest i 4)
@@ -92,17 +95,20 @@ powerOf-float : (bs : List ℕ) (i : ℕ) (x : Float) → floatAt bs i ≡ x →
 unfolding powerOf
 powerOf-float bs i x e h = rw (e, h)
 
+-- a finite power is read back as one
 pub powerOf-bytes : (x : Float) (rest : List ℕ) → T (fits binary32 x) → finite x ≡ true
     → powerOf (powerBytes x ++ rest) 0 ≡ power.Finite x
 powerOf-bytes x rest f h = powerOf-float _ 0 x (floatAt-front x rest f) h
 
 -- ---- the phases, and the total before them
 
+-- all three powers are finite
 pub record FinitePhases (p : Phases) : Type 0 where
   pub a : finite (p .a) ≡ true
   pub b : finite (p .b) ≡ true
   pub c : finite (p .c) ≡ true
 
+-- three finite powers are read back from their bytes, in their order
 pub phasesOf-bytes : (p : Phases) (rest : List ℕ) → FitsPhases p → FinitePhases p → phasesOf (phasesBytes p ++ rest) ≡ phases.Finite p
 unfolding phasesOf together
 phasesOf-bytes p rest f h =
@@ -114,6 +120,7 @@ phasesOf-bytes p rest f h =
     let at-8 : floatAt bs 8 ≡ p .c = floatAt-behind (p .a) from-b 4 ∙ floatAt-behind (p .b) from-c 0 ∙ floatAt-front (p .c) rest (f .c) in
     rw (apart, powerOf-bytes (p .a) from-b (f .a) (h .a), powerOf-float bs 4 (p .b) at-4 (h .b), powerOf-float bs 8 (p .c) at-8 (h .c))
 
+-- and with them their total, which stands before them, where it is finite too
 pub powersOf-bytes : (p : Phases) (rest : List ℕ) → FitsPhases p → FinitePhases p → finite (totalOf p) ≡ true
     → powersOf (powersBytes p ++ rest) ≡ powers.Finite (record { total = totalOf p; phases = p })
 unfolding powersOf powersBytes

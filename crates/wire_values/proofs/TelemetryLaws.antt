@@ -9,6 +9,7 @@ use Rattle.byte_numbers.proofs.PlaceLaws.{numberAt-front, numberAt-behind-bytes
 use Rattle.wire_values.specs.declared.telemetry.Telemetry.{Telemetry}
 use Rattle.wire_values.specs.Telemetry.{telemetryOf, telemetryBytes, FitsTelemetry}
 
+-- telemetry whose numbers fit is read back from its bytes, whatever stands behind them
 pub telemetryOf-bytes : (t : Telemetry) (rest : List ℕ) → FitsTelemetry t → telemetryOf (telemetryBytes t ++ rest) ≡ t
 unfolding telemetryOf telemetryBytes
 telemetryOf-bytes t rest h =

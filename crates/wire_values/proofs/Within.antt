@@ -17,11 +17,13 @@ use lib.Ieee.Scale.{finite, overflow}
 use Rattle.wire_values.specs.Power.{totalOf}
 use Rattle.wire_values.specs.declared.power.Phases.{Phases}
 
+-- a float is finite and lies from -n to n
 abbrev pub Within : ℕ → Float → Type 0
 Within n nan = ⊥
 Within n (inf s) = ⊥
 Within n (fin s m e) = m * up e ≤ n * down e
 
+-- what lies within a bound is finite
 pub within-finite : (n : ℕ) (x : Float) → Within n x → finite x ≡ true
 within-finite n nan h = absurd h
 within-finite n (inf s) h = absurd h
@@ -34,6 +36,7 @@ less-or-same true b P f g t = f tt
 less-or-same false true P f g t = g tt
 less-or-same false false P f g t = absurd t
 
+-- a float that is not negative and at most another is no larger in size
 pub not-above : (m : ℕ) (e : ℤ) (n : ℕ) (d : ℤ) → T (le (fin false m e) (fin false n d)) → m * up e * down d ≤ n * up d * down e
 unfolding le
 not-above m e n d t =
@@ -41,6 +44,7 @@ not-above m e n d t =
     let y = n * up d * down e in
     less-or-same (ltb x y) (eqb x y) (x ≤ y) (λ u. le-of-lt (ltb→lt x y u)) (λ u. le-of-eq (eqb→eq x y u)) t
 
+-- a negative float that is at least another is no larger in size
 pub not-below : (m : ℕ) (e : ℤ) (n : ℕ) (d : ℤ) → T (le (fin true n d) (fin true m e)) → m * up e * down d ≤ n * up d * down e
 unfolding le
 not-below m e n d t =
@@ -83,6 +87,7 @@ within-value (inf t) s a c n C v h = v
 within-value (fin t m e) s a c n C v h =
     le-of-mul-le-mul-right (le-trans (le-of-eq (v .1)) (le-trans (mul-le-mul-right (down e) h) (le-of-eq (mul-right-comm n c (down e))))) C
 
+-- rounding keeps a whole bound, where the format holds every whole number up to it
 pub round-within : (f : Format) (s : Bool) (a c n : ℕ) → 0 < c → a ≤ n * c → n ≤ 2 ^ prec f → Within n (round f s a c)
 round-within f s a c n C h N =
     let q = kept (prec f) (a * 2 ^ low f) c in
@@ -110,6 +115,7 @@ sum-within f s a t b c n C h N =
     (within-cond n (ltb a b) (round f t (b - a) c) (round f (s && ltb b a) (a - b) c)
     (round-within f t (b - a) c n C (omega arith) N) (round-within f (s && ltb b a) (a - b) c n C (omega arith) N))
 
+-- a sum lies within the sum of the bounds
 pub add-within : (f : Format) (i j : ℕ) (x y : Float) → i + j ≤ 2 ^ prec f → Within i x → Within j y → Within (i + j) (add f x y)
 unfolding add
 add-within f i j nan y N h k = absurd h
