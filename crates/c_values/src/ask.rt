@@ -15,7 +15,7 @@ const CLOSED: u8 = 0;
 
 const OPEN: u8 = 1;
 
-#[derive(Drop)]
+#[derive(Clone, Copy)]
 pub enum AskRead {
     Read(OpenAsk),
     Unreadable,

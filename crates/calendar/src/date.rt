@@ -3,7 +3,7 @@ ghost use Rattle.std.specs.Prelude.{◌≡◌, true, ◌<◌, ◌+◌};
 ghost use Rattle.calendar.specs.Date.{is_date, days_in_month, length_of, days_before, month_number, day_number};
 ghost use Rattle.calendar.specs.Date.{date_at, date_on, date_back, days_later, days_earlier, day_of};
 
-#[derive(Drop)]
+#[derive(Clone, Copy)]
 pub struct Date {
     // Counted from 2000.
     pub year: u8,
@@ -12,7 +12,7 @@ pub struct Date {
     pub day: u8,
 }
 
-#[derive(Drop)]
+#[derive(Clone, Copy)]
 pub enum DateAnswer {
     On(Date),
     // What was handed in is no date.
@@ -21,7 +21,7 @@ pub enum DateAnswer {
     OutOfRange,
 }
 
-#[derive(Drop)]
+#[derive(Clone, Copy)]
 pub enum DayAnswer {
     // Days since 2000-01-01.
     Day(u32),

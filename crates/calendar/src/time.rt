@@ -5,7 +5,7 @@ ghost use Rattle.calendar.specs.Steps.{on_day};
 
 use crate::date::{Date, DateAnswer, is_date, next_day, previous_day};
 
-#[derive(Drop)]
+#[derive(Clone, Copy)]
 pub struct DateTime {
     pub date: Date,
     pub hour: u8,
@@ -13,7 +13,7 @@ pub struct DateTime {
     pub second: u8,
 }
 
-#[derive(Drop)]
+#[derive(Clone, Copy)]
 pub enum TimeAnswer {
     At(DateTime),
     // What was handed in is no time.

@@ -90,7 +90,7 @@ pub fn long(line: &[u8], k: usize) -> u32
     }
 }
 
-#[derive(Drop)]
+#[derive(Clone, Copy)]
 pub enum YearAnswer {
     // From 2000.
     Year(u8),

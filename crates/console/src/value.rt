@@ -8,25 +8,25 @@ ghost use Rattle.console.specs.Value.{byte_of, short_of, long_of, pair_of, bytes
 
 use text::{HexAnswer, NumberAnswer};
 
-#[derive(Drop)]
+#[derive(Clone, Copy)]
 pub enum ByteAnswer {
     Byte(u8),
     Unread,
 }
 
-#[derive(Drop)]
+#[derive(Clone, Copy)]
 pub enum ShortAnswer {
     Short(u16),
     Unread,
 }
 
-#[derive(Drop)]
+#[derive(Clone, Copy)]
 pub enum LongAnswer {
     Long(u32),
     Unread,
 }
 
-#[derive(Drop)]
+#[derive(Clone, Copy)]
 pub enum BytesAnswer {
     // How many.
     Bytes(usize),

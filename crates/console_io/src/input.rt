@@ -1,13 +1,13 @@
 // A descriptor's bytes, a line at a time. They are read in blocks: a read gives what is there, so a person who types is answered at
 // once, and a script takes few reads.
 // What of a block is yet to be taken: from one place up to another.
-#[derive(Drop)]
+#[derive(Clone, Copy)]
 pub struct Rest {
     pub at: usize,
     pub end: usize,
 }
 
-#[derive(Drop)]
+#[derive(Clone, Copy)]
 pub struct Taken {
     pub ended: bool,
     // Of the line, without the newline and a carriage return before it.

@@ -19,7 +19,7 @@ use log_header::{Header, Interval, LogHeader};
 use logger::{AskAnswer, OpenAsk, TakeAnswer};
 
 // What is kept of the log beside its image and its figures: its length, 0 where there is no log, and the open ask.
-#[derive(Drop)]
+#[derive(Clone, Copy)]
 pub struct ConsoleLog {
     pub length: usize,
     pub held: OpenAsk,

@@ -2,7 +2,7 @@
 use mercury::Decoded;
 use mercury_bench::Meter;
 
-#[derive(Drop)]
+#[derive(Clone, Copy)]
 pub enum Answer {
     // No line of the console's.
     Unread,
@@ -15,7 +15,7 @@ pub enum Answer {
 }
 
 // The answer, and the bench's meter that stands after the line.
-#[derive(Drop)]
+#[derive(Clone, Copy)]
 pub struct Called {
     pub answer: Answer,
     pub after: Meter,

@@ -9,7 +9,7 @@ use mercury::units::{
 use mercury::{Frequency, Load, Tariffs};
 use mercury_bench::Meter;
 
-#[derive(Drop)]
+#[derive(Clone, Copy)]
 pub enum MeterLine {
     Set(Meter),
     // A figure above its digits.
@@ -18,7 +18,7 @@ pub enum MeterLine {
     Unread,
 }
 
-#[derive(Drop)]
+#[derive(Clone, Copy)]
 enum RestWord {
     Of(Rest),
     Unread,

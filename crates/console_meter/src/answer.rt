@@ -2,7 +2,7 @@
 use meter_record::Record;
 use meter_round_trip::Inquired;
 
-#[derive(Drop)]
+#[derive(Clone, Copy)]
 pub enum Answer {
     // No line of the console's.
     Unread,
@@ -19,7 +19,7 @@ pub enum Answer {
 }
 
 // The answer, and the record that stands after the line.
-#[derive(Drop)]
+#[derive(Clone, Copy)]
 pub struct Called {
     pub answer: Answer,
     pub after: Record,

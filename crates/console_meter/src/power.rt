@@ -8,13 +8,13 @@ use console::{BYTE, BytesAnswer};
 use meter_record::{Record, RecordAnswer};
 use wire_values::{Phases, Power};
 
-#[derive(Drop)]
+#[derive(Clone, Copy)]
 pub enum PowerWord {
     Of(Power),
     Unread,
 }
 
-#[derive(Drop)]
+#[derive(Clone, Copy)]
 pub enum PhaseWords {
     Of(Phases),
     // A figure that is not finite.

@@ -4,7 +4,7 @@ ghost use Rattle.console_meter.specs.SetLines.{record_after};
 
 use meter_record::{Record, RecordAnswer};
 
-#[derive(Drop)]
+#[derive(Clone, Copy)]
 pub enum LineAnswer {
     Answered(RecordAnswer),
     // No line of the console's.

@@ -47,7 +47,7 @@ fn word_more(a: u64, word: u64) -> u64
 }
 
 // Sixteen bytes as the first and the second of two words.
-#[derive(Drop)]
+#[derive(Clone, Copy)]
 struct Pair {
     first: u64,
     second: u64,

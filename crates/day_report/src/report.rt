@@ -8,7 +8,7 @@ ghost use Rattle.day_report.specs.Report.{report_number, report_of};
 use day_rows::REPORT_NUMBERS;
 use log_header::LogHeader;
 
-#[derive(Drop)]
+#[derive(Clone, Copy)]
 pub enum ReportAnswer {
     Done,
     // The row is, or there are fewer figures than the log has.

@@ -2,7 +2,7 @@
 use crate::path::too_long;
 use paths_and_locks::{PathAnswer, folder_of, joined};
 
-#[derive(Drop)]
+#[derive(Clone, Copy)]
 pub struct Beside {
     // Open for writing, or below 0: there is no file.
     pub fd: i32,

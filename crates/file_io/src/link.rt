@@ -2,7 +2,7 @@
 use crate::path::{ended, is_whole, too_long};
 use paths_and_locks::{PathAnswer, base_of, front, joined, start_of};
 
-#[derive(Drop)]
+#[derive(Clone, Copy)]
 enum Step {
     // What a path names is no link.
     End,

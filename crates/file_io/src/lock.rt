@@ -4,7 +4,7 @@ use crate::pause::pause;
 use crate::reading::{FileAnswer, contents};
 use paths_and_locks::{Holder, front, holder_of, put_holder};
 
-#[derive(Drop)]
+#[derive(Clone, Copy)]
 pub enum Lock {
     // By this process, from now on.
     Held,
@@ -16,7 +16,7 @@ pub enum Lock {
 }
 
 // What one try comes to.
-#[derive(Drop)]
+#[derive(Clone, Copy)]
 enum Try {
     Held,
     By(u32),
@@ -27,7 +27,7 @@ enum Try {
     Failed,
 }
 
-#[derive(Drop)]
+#[derive(Clone, Copy)]
 enum Look {
     Process(u32),
     NoNumber,

@@ -1,7 +1,7 @@
 // Reading.
 
 // What a file holds, as far as it is read.
-#[derive(Drop)]
+#[derive(Clone, Copy)]
 pub enum FileAnswer {
     Bytes(usize),
     Failed,

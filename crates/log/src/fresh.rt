@@ -7,7 +7,7 @@ ghost use Rattle.log.specs.Fresh.{fresh_number, fresh_of};
 
 use log_header::{HEADER_BYTES, Header};
 
-#[derive(Drop)]
+#[derive(Clone, Copy)]
 pub enum FreshAnswer {
     // The image's length.
     Done(usize),

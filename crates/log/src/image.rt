@@ -11,7 +11,7 @@ use log_cell::{Cell, CellAnswer};
 use log_header::HEADER_BYTES;
 
 // What a call does to a log.
-#[derive(Drop)]
+#[derive(Clone, Copy)]
 pub enum Change {
     None,
     // The cell with this index is another, with the lapses that it had.

@@ -5,7 +5,7 @@ ghost use Rattle.log.specs.Walk.{stand_at, stepped, index_of};
 use log_header::Header;
 use season_nights::Night;
 
-#[derive(Drop)]
+#[derive(Clone, Copy)]
 pub struct Walk {
     pub day: u8,
     pub slot: u8,

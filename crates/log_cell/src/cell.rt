@@ -3,7 +3,7 @@ ghost use Rattle.std.specs.Prelude.{◌≡◌};
 ghost use Rattle.byte_numbers.specs.Place.{written};
 ghost use Rattle.log_cell.specs.Cell.{cell_of, kind_bytes, kind_cell, kind_fits, kind_names, no_counts, kind_of, e_plus_of, e_minus_of, r_plus_of, r_minus_of};
 
-#[derive(Drop)]
+#[derive(Clone, Copy)]
 pub enum Cell {
     // No well-formed reply with result 0 came.
     Gap,
@@ -13,7 +13,7 @@ pub enum Cell {
     Measured(u16, u16, u16, u16),
 }
 
-#[derive(Drop)]
+#[derive(Clone, Copy)]
 pub enum CellAnswer {
     Good(Cell),
     // The bytes are no cell.

@@ -14,7 +14,7 @@ use crate::missing::Held;
 use crate::row::ROW_BYTES;
 use log_header::HEADER_BYTES;
 
-#[derive(Drop)]
+#[derive(Clone, Copy)]
 pub enum WriteAnswer {
     // The file's length.
     Done(usize),

@@ -5,7 +5,7 @@ ghost use Rattle.calendar.specs.Date.{is_date, day_number, century_days};
 ghost use Rattle.log_header.specs.Header.{cells_of, length_of, is_header, header_bytes, header_at, date_bytes};
 ghost use Rattle.log_header.specs.Header.{mark_right, version_at, version_right, fields_right, header_of, sound_of};
 
-#[derive(Drop)]
+#[derive(Clone, Copy)]
 pub struct Header {
     pub start: calendar::Date,
     pub days: u8,
@@ -17,14 +17,14 @@ pub struct Header {
     pub seasons: u8,
 }
 
-#[derive(Drop)]
+#[derive(Clone, Copy)]
 pub enum HeaderAnswer {
     Right(Header),
     Wrong,
 }
 
 // What lent bytes are.
-#[derive(Drop)]
+#[derive(Clone, Copy)]
 pub enum LogHeader {
     Sound(Header),
     Unsound,

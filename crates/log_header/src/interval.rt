@@ -9,14 +9,14 @@ use season_nights::{Night, Run};
 const SEASONS_FOLLOWED: u8 = 1;
 
 // Where the cell of an interval stands among the log's cells.
-#[derive(Drop)]
+#[derive(Clone, Copy)]
 pub enum Interval {
     At(usize),
     Outside,
 }
 
 // The date of a day of the log.
-#[derive(Drop)]
+#[derive(Clone, Copy)]
 pub enum DayAnswer {
     On(calendar::Date),
     Outside,

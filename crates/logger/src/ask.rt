@@ -15,7 +15,7 @@ use parameters::code;
 use parameters::code::Reading;
 use request::Request;
 
-#[derive(Drop)]
+#[derive(Clone, Copy)]
 pub enum AskAnswer {
     Done,
     TooShort,
@@ -25,7 +25,7 @@ pub enum AskAnswer {
 }
 
 // The answer, and the ask that is open after it.
-#[derive(Drop)]
+#[derive(Clone, Copy)]
 pub struct Asked {
     pub answer: AskAnswer,
     pub held: OpenAsk,

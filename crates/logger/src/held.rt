@@ -1,5 +1,5 @@
 // The open ask.
-#[derive(Drop)]
+#[derive(Clone, Copy)]
 pub enum OpenAsk {
     Closed,
     // Address, day and slot.

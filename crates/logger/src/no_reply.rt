@@ -9,7 +9,7 @@ use log::Change;
 use log_cell::CellAnswer;
 use log_header::{Interval, LogHeader};
 
-#[derive(Drop)]
+#[derive(Clone, Copy)]
 pub enum LapseAnswer {
     Done,
     NotInLog,
@@ -17,14 +17,14 @@ pub enum LapseAnswer {
 }
 
 // The answer, and the ask that is open after it.
-#[derive(Drop)]
+#[derive(Clone, Copy)]
 pub struct Lapsed {
     pub answer: LapseAnswer,
     pub held: OpenAsk,
 }
 
 // What a lapse comes to: what is answered, and what is done to the log.
-#[derive(Drop)]
+#[derive(Clone, Copy)]
 pub struct LapseDecision {
     pub lapsed: Lapsed,
     pub change: Change,

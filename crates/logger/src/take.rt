@@ -18,7 +18,7 @@ use parameters::code;
 use reader::{Fault, Reply};
 use wire_values::Row;
 
-#[derive(Drop)]
+#[derive(Clone, Copy)]
 pub enum TakeAnswer {
     Done,
     // There are fewer figures than the log has.
@@ -35,21 +35,21 @@ pub enum TakeAnswer {
 }
 
 // The answer, and the ask that is open after it.
-#[derive(Drop)]
+#[derive(Clone, Copy)]
 pub struct Taken {
     pub answer: TakeAnswer,
     pub held: OpenAsk,
 }
 
 // What a reply comes to: what is answered, and what is done to the log.
-#[derive(Drop)]
+#[derive(Clone, Copy)]
 pub struct Decision {
     pub taken: Taken,
     pub change: Change,
 }
 
 // What a reply does to a cell.
-#[derive(Drop)]
+#[derive(Clone, Copy)]
 pub enum Update {
     Put(Cell),
     Keep,

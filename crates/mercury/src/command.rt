@@ -2,7 +2,7 @@
 ghost use Rattle.std.specs.Prelude.{◌≡◌};
 ghost use Rattle.mercury.specs.Command.{command_of, code_of, is_known, data_size};
 
-#[derive(Drop)]
+#[derive(Clone, Copy)]
 pub enum Command {
     Tariffs,
     // Voltage, current and power.

@@ -6,7 +6,7 @@ use crate::head::address_in;
 use crate::{command, layout};
 
 // What is wrong with a frame, in the order in which it is looked for.
-#[derive(Drop)]
+#[derive(Clone, Copy)]
 pub enum Fault {
     Length,
     Crc,
@@ -14,7 +14,7 @@ pub enum Fault {
     Command,
 }
 
-#[derive(Drop)]
+#[derive(Clone, Copy)]
 pub enum Form {
     WellFormed,
     Faulty(Fault),

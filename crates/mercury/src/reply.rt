@@ -8,7 +8,7 @@ use crate::layout::DATA;
 use crate::units::{Frequency, Load, Tariffs};
 use crate::{command, data};
 
-#[derive(Drop)]
+#[derive(Clone, Copy)]
 pub enum Decoded {
     Tariffs(Tariffs),
     Load(Load),

@@ -7,7 +7,7 @@ use crate::command;
 use crate::head::put_head;
 use crate::layout::{BARE_BYTES, DATA};
 
-#[derive(Drop)]
+#[derive(Clone, Copy)]
 pub enum RequestAnswer {
     Done,
     TooShort,

@@ -1,22 +1,22 @@
 // What is read of a meter, each figure in its own unit.
 
-#[derive(Drop)]
+#[derive(Clone, Copy)]
 pub struct TensOfWattHours(pub u32);
 
-#[derive(Drop)]
+#[derive(Clone, Copy)]
 pub struct TenthsOfVolt(pub u16);
 
-#[derive(Drop)]
+#[derive(Clone, Copy)]
 pub struct HundredthsOfAmpere(pub u16);
 
-#[derive(Drop)]
+#[derive(Clone, Copy)]
 pub struct Watts(pub u32);
 
-#[derive(Drop)]
+#[derive(Clone, Copy)]
 pub struct HundredthsOfHertz(pub u16);
 
 // The energy by tariff.
-#[derive(Drop)]
+#[derive(Clone, Copy)]
 pub struct Tariffs {
     pub first: TensOfWattHours,
     pub second: TensOfWattHours,
@@ -24,7 +24,7 @@ pub struct Tariffs {
     pub fourth: TensOfWattHours,
 }
 
-#[derive(Drop)]
+#[derive(Clone, Copy)]
 pub struct Load {
     pub voltage: TenthsOfVolt,
     pub current: HundredthsOfAmpere,
@@ -32,11 +32,11 @@ pub struct Load {
 }
 
 // Seven bytes, whatever they are.
-#[derive(Drop)]
+#[derive(Clone, Copy)]
 pub struct Rest(pub u8, pub u8, pub u8, pub u8, pub u8, pub u8, pub u8);
 
 // The frequency, and the bytes behind it.
-#[derive(Drop)]
+#[derive(Clone, Copy)]
 pub struct Frequency {
     pub frequency: HundredthsOfHertz,
     pub rest: Rest,

@@ -4,7 +4,7 @@ ghost use Rattle.mercury_bench.specs.Meter.{tariffs_fit, load_fits, frequency_fi
 
 use mercury::{Frequency, Load, Tariffs};
 
-#[derive(Drop)]
+#[derive(Clone, Copy)]
 pub struct Meter {
     pub address: u32,
     pub tariffs: Tariffs,

@@ -11,7 +11,7 @@ use crate::meter::{Meter, is_within};
 use frame::layout::LONGEST;
 use mercury::{Command, Fault, Form, command, layout};
 
-#[derive(Drop)]
+#[derive(Clone, Copy)]
 pub enum Answered {
     // The reply's bytes, at the front of the output.
     Done(usize),

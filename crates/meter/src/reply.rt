@@ -14,7 +14,7 @@ use meter_command::{Command, Met, Verdict};
 use meter_record::Record;
 use parameters::code;
 
-#[derive(Drop)]
+#[derive(Clone, Copy)]
 pub struct Answered {
     pub verdict: Verdict,
     // The reply's bytes, at the front of the output; none where the meter is silent.

@@ -2,14 +2,14 @@
 ghost use Rattle.std.specs.Prelude.{◌≡◌};
 ghost use Rattle.meter_clock.specs.Protection.{shut, opened, is_running, is_protection, quiet_second};
 
-#[derive(Drop)]
+#[derive(Clone, Copy)]
 pub enum Level {
     Shut,
     Auxiliary,
     Main,
 }
 
-#[derive(Drop)]
+#[derive(Clone, Copy)]
 pub struct Protection {
     pub level: Level,
     // Seconds until protection returns; 0 while it is shut.

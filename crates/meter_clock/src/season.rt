@@ -5,14 +5,14 @@ ghost use Rattle.meter_clock.specs.Season.{same_date, same_time, time_or, reache
 
 use calendar::{Date, DateAnswer, DateTime, TimeAnswer};
 
-#[derive(Drop)]
+#[derive(Clone, Copy)]
 pub enum Season {
     Winter,
     Summer,
 }
 
 // The date on which a season begins.
-#[derive(Drop)]
+#[derive(Clone, Copy)]
 pub enum SwitchDate {
     // The calendar's, year by year.
     Automatic,
@@ -20,7 +20,7 @@ pub enum SwitchDate {
     ByHand(DateTime),
 }
 
-#[derive(Drop)]
+#[derive(Clone, Copy)]
 pub struct Time {
     pub clock: DateTime,
     pub season: Season,

@@ -13,7 +13,7 @@ use parameters::table::Access;
 const AUXILIARY: u8 = 1;
 
 // The address by which a frame met the meter: its own, 0, or neither.
-#[derive(Drop)]
+#[derive(Clone, Copy)]
 pub enum Met {
     Own,
     Zero,

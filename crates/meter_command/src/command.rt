@@ -8,7 +8,7 @@ use parameters::table::Row;
 use parameters::{code, table};
 use request::Request;
 
-#[derive(Drop)]
+#[derive(Clone, Copy)]
 pub struct Command {
     // The case that it is.
     pub function: Function,

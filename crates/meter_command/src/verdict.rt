@@ -4,7 +4,7 @@ ghost use Rattle.meter_command.specs.Verdict.{number_of, result_of, is_done};
 
 use parameters::code;
 
-#[derive(Drop)]
+#[derive(Clone, Copy)]
 pub enum Verdict {
     Done,
     TooShort,

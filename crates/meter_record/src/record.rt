@@ -5,23 +5,23 @@ use meter_clock::{Protection, Time};
 use wire_values::{DisplayMask, Phases, Telemetry};
 
 // Eight bytes as one number, the first of them lowest.
-#[derive(Drop)]
+#[derive(Clone, Copy)]
 pub struct Password(pub u64);
 
-#[derive(Drop)]
+#[derive(Clone, Copy)]
 pub struct Passwords {
     pub main: Password,
     pub auxiliary: Password,
 }
 
 // The ratios of the transformers before the meter, of current and of voltage.
-#[derive(Drop)]
+#[derive(Clone, Copy)]
 pub struct Ratios {
     pub ki: u32,
     pub ku: u32,
 }
 
-#[derive(Drop)]
+#[derive(Clone, Copy)]
 pub struct Record {
     pub address: u8,
     pub protection: Protection,
@@ -39,7 +39,7 @@ pub struct Record {
 }
 
 // What the bench's own calls answer.
-#[derive(Drop)]
+#[derive(Clone, Copy)]
 pub enum RecordAnswer {
     // The record after the call.
     Done(Record),

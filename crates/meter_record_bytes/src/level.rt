@@ -10,7 +10,7 @@ const AUXILIARY: u8 = 1;
 
 const MAIN: u8 = 2;
 
-#[derive(Drop)]
+#[derive(Clone, Copy)]
 pub enum LevelRead {
     Read(Level),
     Unreadable,

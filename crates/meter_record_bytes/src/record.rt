@@ -43,7 +43,7 @@ const KI: usize = 81;
 
 const KU: usize = 85;
 
-#[derive(Drop)]
+#[derive(Clone, Copy)]
 pub enum RecordRead {
     Read(Record),
     Unreadable,

@@ -7,19 +7,19 @@ ghost use Rattle.meter_record_bytes.specs.Time.{season_byte, season_of, choice_b
 use calendar::{Date, DateTime};
 use meter_clock::{Season, SwitchDate, Time};
 
-#[derive(Drop)]
+#[derive(Clone, Copy)]
 pub enum SeasonRead {
     Read(Season),
     Unreadable,
 }
 
-#[derive(Drop)]
+#[derive(Clone, Copy)]
 pub enum SwitchRead {
     Read(SwitchDate),
     Unreadable,
 }
 
-#[derive(Drop)]
+#[derive(Clone, Copy)]
 pub enum TimeRead {
     Read(Time),
     Unreadable,

@@ -11,7 +11,7 @@ use meter_record::Record;
 use reader::Decoded;
 use request::Request;
 
-#[derive(Drop)]
+#[derive(Clone, Copy)]
 pub enum Inquired {
     TooShort,
     Unsound,

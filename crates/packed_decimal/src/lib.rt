@@ -7,7 +7,7 @@ ghost use Rattle.byte_numbers.specs.Place.{written};
 ghost use Rattle.packed_decimal.specs.Packed.{pair_of, packed_of, decimal_of, decimal_at};
 
 // What bytes are as packed decimal.
-#[derive(Drop)]
+#[derive(Clone, Copy)]
 pub enum Decimal {
     Number(u32),
     // A half-byte is no digit, or there are more digits than a number of 32 bits is sure to hold.

@@ -54,7 +54,7 @@ pub const WRONG_ARGUMENT: u8 = 3;
 pub const NO_ACCESS: u8 = 4;
 
 // What a read is answered with.
-#[derive(Drop)]
+#[derive(Clone, Copy)]
 pub enum Reading {
     // Figures as the meter keeps them.
     Stored,
@@ -62,7 +62,7 @@ pub enum Reading {
     Displayed,
 }
 
-#[derive(Drop)]
+#[derive(Clone, Copy)]
 pub enum Function {
     Read(Reading),
     Change,
@@ -72,7 +72,7 @@ pub enum Function {
     Unknown,
 }
 
-#[derive(Drop)]
+#[derive(Clone, Copy)]
 pub enum Parameter {
     ActivePower,
     ReactivePower,

@@ -12,7 +12,7 @@ use crate::code::{
 };
 
 // What offset, tariff and detail of a read are.
-#[derive(Drop)]
+#[derive(Clone, Copy)]
 pub enum Fields {
     // All three are 0.
     Unused,
@@ -25,13 +25,13 @@ pub enum Fields {
 }
 
 // The access that a change needs.
-#[derive(Drop)]
+#[derive(Clone, Copy)]
 pub enum Access {
     Auxiliary,
     Main,
 }
 
-#[derive(Drop)]
+#[derive(Clone, Copy)]
 pub struct Row {
     pub code: u8,
     pub readable: bool,
@@ -51,7 +51,7 @@ pub struct Row {
 }
 
 // A row's columns for reads, and those for changes.
-#[derive(Drop)]
+#[derive(Clone, Copy)]
 struct Reads {
     may: bool,
     displayed: bool,
@@ -60,7 +60,7 @@ struct Reads {
     figures: usize,
 }
 
-#[derive(Drop)]
+#[derive(Clone, Copy)]
 struct Changes {
     may: bool,
     access: Access,

@@ -5,7 +5,7 @@ ghost use Rattle.paths_and_locks.specs.Lock.{holder_text, after_spaces, up_to, p
 
 use text::NumberAnswer;
 
-#[derive(Drop)]
+#[derive(Clone, Copy)]
 pub enum Holder {
     Process(u32),
     NoNumber,

@@ -4,7 +4,7 @@ ghost use Rattle.refusal.specs.Outcome.{outcome};
 ghost use Rattle.paths_and_locks.specs.Path.{folder_length, folder_of, base_of, start_of};
 ghost use Rattle.paths_and_locks.specs.Path.{joined as Path·joined};
 
-#[derive(Drop)]
+#[derive(Clone, Copy)]
 pub enum PathAnswer {
     // A path's bytes, from the front of the lent buffer on.
     Length(usize),

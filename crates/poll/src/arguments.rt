@@ -5,7 +5,7 @@ use polling::{Order, Wanted};
 use text::NumberAnswer;
 
 // The days that are polled.
-#[derive(Drop)]
+#[derive(Clone, Copy)]
 pub enum Chosen {
     All,
     // Counted from 0.
@@ -15,7 +15,7 @@ pub enum Chosen {
 }
 
 // What is said behind the log's file.
-#[derive(Drop)]
+#[derive(Clone, Copy)]
 pub struct Options {
     pub chosen: Chosen,
     pub wanted: Wanted,
@@ -24,26 +24,26 @@ pub struct Options {
     pub anyway: bool,
 }
 
-#[derive(Drop)]
+#[derive(Clone, Copy)]
 pub enum ByteArgument {
     Byte(u8),
     // No number, or a larger one.
     Unread,
 }
 
-#[derive(Drop)]
+#[derive(Clone, Copy)]
 pub enum ShortArgument {
     Short(u16),
     Unread,
 }
 
-#[derive(Drop)]
+#[derive(Clone, Copy)]
 pub enum LongArgument {
     Long(u32),
     Unread,
 }
 
-#[derive(Drop)]
+#[derive(Clone, Copy)]
 pub enum Start {
     Of(Header),
     OutOfRange,

@@ -4,13 +4,13 @@ use paths_and_locks::front;
 use poll_words::say;
 
 // What a lock is for.
-#[derive(Drop)]
+#[derive(Clone, Copy)]
 pub enum Kind {
     LogFile,
     Line,
 }
 
-#[derive(Drop)]
+#[derive(Clone, Copy)]
 pub enum Taken {
     // The lock's path, by its length.
     Path(usize),

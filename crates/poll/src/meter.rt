@@ -6,7 +6,7 @@ use poll_line::{Ask, Heard, REPLY_ROOM, Wire};
 use poll_words::say;
 use polling::{Learned, Moment, Question};
 
-#[derive(Drop)]
+#[derive(Clone, Copy)]
 pub enum Known {
     // Its clock's minute since 2000.
     At(u32),
@@ -14,7 +14,7 @@ pub enum Known {
     Not,
 }
 
-#[derive(Drop)]
+#[derive(Clone, Copy)]
 enum Told {
     Learned(Learned),
     // No byte came.

@@ -17,13 +17,13 @@ use poll_words::say;
 const FILE_ROOM: usize = log_file::FILE_MOST + 1;
 
 // The days from one on and before another.
-#[derive(Drop)]
+#[derive(Clone, Copy)]
 pub struct Span {
     pub from: u8,
     pub end: u8,
 }
 
-#[derive(Drop)]
+#[derive(Clone, Copy)]
 pub enum SpanAnswer {
     Of(Span),
     NotInLog,

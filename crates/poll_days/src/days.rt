@@ -19,7 +19,7 @@ use polling::{Fate, Faults, Next, Order, Passed, Settled, Standing, Tally, Wante
 use slots::SLOTS_MOST;
 
 // What is asked for: of this log's intervals those that are wanted and over at a moment, in an order.
-#[derive(Drop)]
+#[derive(Clone, Copy)]
 pub struct Plan {
     pub header: Header,
     // The meter's clock, in minutes since 2000.
@@ -28,7 +28,7 @@ pub struct Plan {
     pub order: Order,
 }
 
-#[derive(Drop)]
+#[derive(Clone, Copy)]
 pub enum End {
     GoesOn,
     // Early, and that is said; what was taken is saved.
@@ -39,7 +39,7 @@ pub enum End {
 
 // Where the poll stands: what became of its asks, which intervals were passed over, whether it has ended early, and the ask that is open:
 // between two asks none, and one where the poll ends with it.
-#[derive(Drop)]
+#[derive(Clone, Copy)]
 pub struct Course {
     pub tally: Tally,
     pub passed: Passed,

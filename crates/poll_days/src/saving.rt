@@ -6,7 +6,7 @@ use log_file::{FILE_MOST, WriteAnswer};
 use paths_and_locks::front;
 
 // How the file comes to its path.
-#[derive(Drop)]
+#[derive(Clone, Copy)]
 pub enum Way {
     // Where there is none yet.
     New,
@@ -14,7 +14,7 @@ pub enum Way {
     InItsPlace,
 }
 
-#[derive(Drop)]
+#[derive(Clone, Copy)]
 pub enum SaveAnswer {
     Done,
     // The log, with this number.

@@ -8,7 +8,7 @@ use paths_and_locks::front;
 use polling::{Learned, Question};
 
 // What is asked of which meter.
-#[derive(Drop)]
+#[derive(Clone, Copy)]
 pub enum Ask {
     // An SS-301, at the wire's address.
     Meter(Question),

@@ -3,7 +3,7 @@ use frame::layout::LONGEST;
 use paths_and_locks::front;
 use poll_words::say;
 
-#[derive(Drop)]
+#[derive(Clone, Copy)]
 pub struct Wire {
     pub fd: i32,
     // The meter's.
@@ -14,7 +14,7 @@ pub struct Wire {
     pub refuses: bool,
 }
 
-#[derive(Drop)]
+#[derive(Clone, Copy)]
 pub enum Heard {
     // How many bytes: none are no answer.
     Bytes(usize),
@@ -22,7 +22,7 @@ pub enum Heard {
     Failed,
 }
 
-#[derive(Drop)]
+#[derive(Clone, Copy)]
 enum Read {
     // How many bytes stand in the buffer then.
     Bytes(usize),
@@ -30,7 +30,7 @@ enum Read {
     Failed,
 }
 
-#[derive(Drop)]
+#[derive(Clone, Copy)]
 enum Line {
     Silent,
     // It went on for all the reads that a drain has.

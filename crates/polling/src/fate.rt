@@ -7,7 +7,7 @@ ghost use Rattle.polling.specs.Fate.{heard, ask_settled, fate_of, fate_lapsed};
 use logger::{LapseAnswer, OpenAsk, TakeAnswer};
 use reader::Fault;
 
-#[derive(Drop)]
+#[derive(Clone, Copy)]
 pub enum Fate {
     // The interval's cell is no gap any more.
     Taken,
@@ -21,7 +21,7 @@ pub enum Fate {
 }
 
 // The fate, and the ask that is open after it.
-#[derive(Drop)]
+#[derive(Clone, Copy)]
 pub struct Settled {
     pub fate: Fate,
     pub held: OpenAsk,

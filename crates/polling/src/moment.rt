@@ -4,7 +4,7 @@ ghost use Rattle.polling.specs.Moment.{moment_of, machine_minute, far_apart, day
 
 use calendar::{Date, DateTime, DayAnswer};
 
-#[derive(Drop)]
+#[derive(Clone, Copy)]
 pub enum Moment {
     Minute(u32),
     NotATime,

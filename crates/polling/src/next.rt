@@ -9,7 +9,7 @@ ghost use Rattle.log_cell.specs.declared.cell.CellAnswer.TheVariants.{Good};
 use log_cell::{Cell, CellAnswer};
 use log_header::{Header, Interval, LogHeader};
 
-#[derive(Drop)]
+#[derive(Clone, Copy)]
 pub enum Next {
     // A slot of the day.
     Slot(u8),
@@ -17,7 +17,7 @@ pub enum Next {
 }
 
 // Which cells are asked for.
-#[derive(Drop)]
+#[derive(Clone, Copy)]
 pub enum Wanted {
     Gaps,
     // An empty one again: a figure that came later fills it.

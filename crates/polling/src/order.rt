@@ -9,7 +9,7 @@ use crate::next::{Next, Wanted};
 use log_header::{Header, LogHeader};
 use slots::SLOTS_MOST;
 
-#[derive(Drop)]
+#[derive(Clone, Copy)]
 pub enum Order {
     OldestFirst,
     NewestFirst,

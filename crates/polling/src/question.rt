@@ -13,7 +13,7 @@ use parameters::code::Reading;
 use reader::{Fault, Reply};
 use request::{Request, RequestAnswer};
 
-#[derive(Drop)]
+#[derive(Clone, Copy)]
 pub enum Question {
     Clock,
     // Ke, the milliwatt-hours for a count.
@@ -22,7 +22,7 @@ pub enum Question {
     Interval,
 }
 
-#[derive(Drop)]
+#[derive(Clone, Copy)]
 pub enum Learned {
     // The bytes as they were sent: whether they are a time, the calendar says.
     Clock(DateTime),

@@ -8,7 +8,7 @@ use calendar::{Date, DateAnswer};
 use log_header::Header;
 use season_nights::Night;
 
-#[derive(Drop)]
+#[derive(Clone, Copy)]
 pub enum Standing {
     Due,
     // Its end has not come: the meter would answer zeros.

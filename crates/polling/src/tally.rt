@@ -7,7 +7,7 @@ use crate::standing::Standing;
 use reader::Fault;
 
 // The replies that were not well formed, by what was wrong with them. A wrong length or CRC speaks of the cable, the others of a setting.
-#[derive(Drop)]
+#[derive(Clone, Copy)]
 pub struct Faults {
     pub length: u32,
     pub crc: u32,
@@ -16,7 +16,7 @@ pub struct Faults {
     pub parameter: u32,
 }
 
-#[derive(Drop)]
+#[derive(Clone, Copy)]
 pub struct Tally {
     pub taken: u32,
     pub silent: u32,
@@ -25,7 +25,7 @@ pub struct Tally {
 }
 
 // The wanted intervals that were not asked for.
-#[derive(Drop)]
+#[derive(Clone, Copy)]
 pub struct Passed {
     pub not_over: u32,
     pub too_old: u32,

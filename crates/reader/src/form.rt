@@ -6,7 +6,7 @@ use frame::layout;
 use parameters::code;
 
 // What is wrong with a reply, in the order in which it is looked for.
-#[derive(Drop)]
+#[derive(Clone, Copy)]
 pub enum Fault {
     // How many bytes came.
     Length(usize),
@@ -17,13 +17,13 @@ pub enum Fault {
     Parameter,
 }
 
-#[derive(Drop)]
+#[derive(Clone, Copy)]
 pub enum Form {
     WellFormed,
     Faulty(Fault),
 }
 
-#[derive(Drop)]
+#[derive(Clone, Copy)]
 pub enum Reply {
     Malformed(Fault),
     // The meter's result, which is not 0.

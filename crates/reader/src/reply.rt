@@ -13,7 +13,7 @@ use wire_values::{
     DisplayMask, Energies, EnergiesAnswer, Power, Powers, PowersAnswer, Row, Telemetry,
 };
 
-#[derive(Drop)]
+#[derive(Clone, Copy)]
 pub enum Decoded {
     // A request that no record would answer with 0.
     OutOfRange,

@@ -15,14 +15,14 @@ pub const DAYS_MOST: u8 = 62;
 pub const LINES_MOST: u8 = DAYS_MOST + 1;
 
 // How far a page is: what was read of the file, and which line comes next, or which day's strip.
-#[derive(Drop)]
+#[derive(Clone, Copy)]
 pub struct Page {
     pub read: ReadAnswer,
     pub next: u8,
 }
 
 // What became of a line, and the page behind it.
-#[derive(Drop)]
+#[derive(Clone, Copy)]
 pub struct Line {
     pub answer: TextAnswer,
     pub after: Page,

@@ -8,7 +8,7 @@ use frame::layout::{CRC_BYTES, READ_BYTES};
 use parameters::code;
 use parameters::code::Reading;
 
-#[derive(Drop)]
+#[derive(Clone, Copy)]
 pub struct Request {
     // Its function.
     pub reading: Reading,
@@ -19,7 +19,7 @@ pub struct Request {
     pub detail: u8,
 }
 
-#[derive(Drop)]
+#[derive(Clone, Copy)]
 pub enum RequestAnswer {
     Done,
     TooShort,

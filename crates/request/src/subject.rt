@@ -9,7 +9,7 @@ use parameters::table::Fields;
 use slots::Key;
 
 // What a request asks for; nothing, where the meter would not answer it with 0.
-#[derive(Drop)]
+#[derive(Clone, Copy)]
 pub enum Subject {
     // The figures of a parameter, as stored or as displayed, by the detail.
     Figures(Reading, Parameter, u8),

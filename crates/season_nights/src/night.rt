@@ -2,7 +2,7 @@
 ghost use Rattle.std.specs.Prelude.{◌≡◌};
 ghost use Rattle.season_nights.specs.Night.{night_of, is_day, in_hour, missing, doubled};
 
-#[derive(Drop)]
+#[derive(Clone, Copy)]
 pub enum Night {
     // As long as any other.
     Plain,

@@ -6,14 +6,14 @@ ghost use Rattle.season_nights.specs.Run.{spring_ahead, run_at, missing_run, in_
 ghost use Rattle.season_nights.specs.declared.run.Ahead.TheVariants.{In};
 
 // Cells by their index, `count` of them from `first` on; none where `count` is 0.
-#[derive(Drop)]
+#[derive(Clone, Copy)]
 pub struct Run {
     pub first: usize,
     pub count: usize,
 }
 
 // When the March day of a date's own year comes.
-#[derive(Drop)]
+#[derive(Clone, Copy)]
 enum Ahead {
     // So many days after the date.
     In(u8),

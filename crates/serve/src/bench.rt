@@ -2,7 +2,7 @@
 use mercury_bench::Meter;
 use meter_record::Record;
 
-#[derive(Drop)]
+#[derive(Clone, Copy)]
 pub enum Bench {
     Meter(Record),
     // A Mercury 206.

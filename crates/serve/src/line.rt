@@ -10,7 +10,7 @@ use mercury_bench::{Answered, Meter};
 use meter_record::Record;
 
 // The meter and the wall clock as they stand, and the frames so far.
-#[derive(Drop)]
+#[derive(Clone, Copy)]
 pub struct Served {
     pub bench: Bench,
     // The wall clock when it was last looked at.

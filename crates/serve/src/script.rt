@@ -7,27 +7,27 @@ use frame::layout::LONGEST;
 use mercury_bench::Meter;
 use meter_record::{Record, RecordAnswer};
 
-#[derive(Drop)]
+#[derive(Clone, Copy)]
 pub enum Ready {
     Made(Bench),
     // And it was said why.
     Stopped,
 }
 
-#[derive(Drop)]
+#[derive(Clone, Copy)]
 pub enum Second {
     None,
     Mercury(Meter),
 }
 
 // What the script has made so far.
-#[derive(Drop)]
+#[derive(Clone, Copy)]
 pub struct Made {
     pub record: Record,
     pub second: Second,
 }
 
-#[derive(Drop)]
+#[derive(Clone, Copy)]
 pub enum Step {
     Made(Made),
     Refused(u8),

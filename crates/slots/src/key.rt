@@ -2,7 +2,7 @@
 ghost use Rattle.std.specs.Prelude.{◌≡◌};
 ghost use Rattle.slots.specs.Key.{is_legal};
 
-#[derive(Drop)]
+#[derive(Clone, Copy)]
 pub struct Key {
     pub month: u8,
     pub day: u8,

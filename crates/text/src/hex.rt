@@ -3,7 +3,7 @@ ghost use Rattle.std.specs.Prelude.{◌≡◌, ◌<◌};
 ghost use Rattle.byte_numbers.specs.Place.{written};
 ghost use Rattle.text.specs.Hex.{hex_digit, hex_text, hex_value};
 
-#[derive(Drop)]
+#[derive(Clone, Copy)]
 pub enum HexAnswer {
     Value(u8),
     NotHex,

@@ -8,10 +8,10 @@ ghost use Rattle.byte_numbers.specs.Place.{written};
 use crate::power::is_finite;
 
 // Kilowatt-hours, as the bits of a float.
-#[derive(Drop)]
+#[derive(Clone, Copy)]
 pub struct KilowattHours(pub u32);
 
-#[derive(Drop)]
+#[derive(Clone, Copy)]
 pub struct Energies {
     pub e_plus: KilowattHours,
     pub e_minus: KilowattHours,
@@ -19,7 +19,7 @@ pub struct Energies {
     pub r_minus: KilowattHours,
 }
 
-#[derive(Drop)]
+#[derive(Clone, Copy)]
 pub enum EnergiesAnswer {
     Finite(Energies),
     NotFinite,

@@ -3,7 +3,7 @@ ghost use Rattle.std.specs.Prelude.{◌≡◌};
 ghost use Rattle.wire_values.specs.Mask.{mask_of, mask_bytes};
 ghost use Rattle.byte_numbers.specs.Place.{written};
 
-#[derive(Drop)]
+#[derive(Clone, Copy)]
 pub struct DisplayMask {
     pub parameters: u32,
     pub tariffs: u8,

@@ -4,7 +4,7 @@ ghost use Rattle.wire_values.specs.Power.{total_of, is_finite, power_of, togethe
 ghost use Rattle.byte_numbers.specs.Place.{written};
 
 // The phase powers of one reading.
-#[derive(Drop)]
+#[derive(Clone, Copy)]
 pub struct Phases {
     pub a: f32,
     pub b: f32,
@@ -12,26 +12,26 @@ pub struct Phases {
 }
 
 // The phases and their total, as a reply has them.
-#[derive(Drop)]
+#[derive(Clone, Copy)]
 pub struct Powers {
     pub total: f32,
     pub phases: Phases,
 }
 
 // One power of a reply.
-#[derive(Drop)]
+#[derive(Clone, Copy)]
 pub enum Power {
     Finite(f32),
     NotFinite,
 }
 
-#[derive(Drop)]
+#[derive(Clone, Copy)]
 pub enum PhasesAnswer {
     Finite(Phases),
     NotFinite,
 }
 
-#[derive(Drop)]
+#[derive(Clone, Copy)]
 pub enum PowersAnswer {
     Finite(Powers),
     NotFinite,

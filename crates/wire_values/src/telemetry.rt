@@ -3,7 +3,7 @@ ghost use Rattle.std.specs.Prelude.{◌≡◌};
 ghost use Rattle.wire_values.specs.Telemetry.{telemetry_of, telemetry_bytes};
 ghost use Rattle.byte_numbers.specs.Place.{written};
 
-#[derive(Drop)]
+#[derive(Clone, Copy)]
 pub struct Telemetry {
     // Pulses for a kilowatt-hour.
     pub k: u32,
