@@ -1,4 +1,6 @@
 // The console: a line of standard input is a call, and its answer a line of standard output.
+#![tactic(auto)]
+
 mod files;
 mod help;
 mod typing;

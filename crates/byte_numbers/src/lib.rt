@@ -2,6 +2,8 @@
 //
 // Every function is total: past the end a byte reads as 0 and nothing is stored. A lent part of a buffer (`&mut out[4..]`) is
 // written through the same functions, and `proofs/Part.antt` says what the whole buffer then holds.
+#![tactic(auto)]
+
 ghost use Rattle.std.specs.Prelude.{◌≡◌, [], ◌∷◌, drop};
 ghost use Rattle.byte_numbers.specs.Number.{bytes_of};
 ghost use Rattle.byte_numbers.specs.Place.{byte_at, number_at, written};

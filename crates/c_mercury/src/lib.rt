@@ -1,5 +1,7 @@
 // The Mercury 206 for firmware in C: numbers and lent memory alone go in and out, and each function answers with the papers' number.
 // `metlazuel` hands them on under their names for C.
+#![tactic(auto)]
+
 mod answering;
 mod decoding;
 

@@ -1,4 +1,6 @@
 // Values as C holds them: the open ask as four lent bytes, the figures of a decoded reply as a row of 32-bit numbers.
+#![tactic(auto)]
+
 mod ask;
 mod row;
 

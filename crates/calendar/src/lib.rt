@@ -2,6 +2,8 @@
 // hour, day, month and the year's last two digits. It says which bytes are a date or a time, which day, second or hour comes next or
 // came before, and on which days summer time begins and ends. What each answer means stands in specs/, as a count of days or of seconds
 // since the start of 2000.
+#![tactic(auto)]
+
 mod date;
 mod sunday;
 mod time;

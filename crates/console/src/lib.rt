@@ -1,5 +1,7 @@
 // The console's lines: their words, and the numbers and bytes that a word stands for. A line is its bytes without the line's end; words
 // are what stands between single spaces, so that two spaces in a row have an empty word between.
+#![tactic(auto)]
+
 mod form;
 mod line;
 mod value;

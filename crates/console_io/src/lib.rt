@@ -1,5 +1,7 @@
 // What the programs over the console's lines read and write: lines from a descriptor, the words of an answer to standard output, and for
 // people words about it to standard error.
+#![tactic(auto)]
+
 mod input;
 pub mod say;
 mod typed;

@@ -1,5 +1,7 @@
 // The console's lines of the log and of the reader, each with its answer on standard output. What is right is decided in the
 // libraries below.
+#![tactic(auto)]
+
 mod logs;
 mod reads;
 

@@ -1,5 +1,7 @@
 // The console's lines about the Mercury 206: the one that sets the bench's meter, and those that make, answer and decode frames. What each makes of the
 // meter and of an output, what it is answered, and the answer printed.
+#![tactic(auto)]
+
 mod answer;
 mod lines;
 mod printed;

@@ -1,5 +1,7 @@
 // The console's lines of the bench meter. `meter`, `power`, `slice`, `second` and `ratio` set it, each with the record that stands after the line;
 // the others are answered by it. What each makes of record, store and output and what it is answered is decided first, and then printed.
+#![tactic(auto)]
+
 mod answer;
 mod making;
 mod meters;

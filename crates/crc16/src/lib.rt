@@ -4,6 +4,8 @@
 // a product with x modulo P = x^16 + x^15 + x^2 + 1, which is A001 hex with its bits turned round. P is (x + 1) Q, where Q is x^15 + x + 1.
 // Modulo Q, x^60 is x^4 + 1, so x^64 is x^8 + x^4; and x^4 is x^19 + x^5. So modulo Q, x^64 is x^19 + x^8 + x^5; modulo x + 1 both are 1; and
 // they are the same modulo P.
+#![tactic(auto)]
+
 ghost use Rattle.std.specs.Prelude.{◌≡◌, ◌≤◌, length, drop};
 ghost use Rattle.byte_numbers.specs.Number.{number, bytes_of};
 ghost use Rattle.crc16.specs.Crc.{byte_step, crc_from, crc_of};

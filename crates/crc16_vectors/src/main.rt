@@ -1,5 +1,7 @@
 // The CRC-16 over frames that the papers print with theirs. Each line has the bytes before the CRC
 // and the CRC, low byte first; stdout was written by hand from the papers.
+#![tactic(auto)]
+
 use libc::STDOUT_FILENO;
 
 // Writes a byte as two hex digits, and what stands after it.

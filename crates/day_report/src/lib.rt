@@ -3,6 +3,8 @@
 // character a slot (`.` gap, `o` empty, `#` measured, `-` for a slot that does not exist), as `2024-05-17 #o......`. It reads the log by the
 // crate `log` alone and knows nothing of the image's layout. Each function fills what it is lent from the front on, or refuses and leaves it
 // as it was.
+#![tactic(auto)]
+
 mod answer;
 mod day;
 mod line;

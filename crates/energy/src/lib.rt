@@ -1,4 +1,6 @@
 // Register counts and energy, kept apart: multiplication by Ke is the only way from one to the other.
+#![tactic(auto)]
+
 ghost use Rattle.std.specs.Prelude.{◌≡◌};
 ghost use Rattle.energy.specs.Energy.{energy_of};
 

@@ -1,6 +1,8 @@
 // A file as a whole: read into a lent buffer, written anew, or made where there was none. A power cut while one is written anew
 // leaves the old file or the new one. A lock keeps a second program from the same file or line: a file that names the process that
 // holds it. Where a call answers that it failed, errno says why.
+#![tactic(auto)]
+
 mod beside;
 mod kept;
 mod link;

@@ -1,4 +1,6 @@
 // Frames on the wire: where their parts stand, and the CRC that closes a frame.
+#![tactic(auto)]
+
 pub mod layout;
 mod sealing;
 

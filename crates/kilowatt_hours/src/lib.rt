@@ -2,6 +2,8 @@
 //
 // Whole numbers alone: the number is moved up until it fills 64 binary digits, divided once so that the float's own 24 are left, and rounded
 // once. proofs/Claims.antt: no finite float is nearer, of two as near it is the even one, and no other float is such.
+#![tactic(auto)]
+
 ghost use Rattle.std.specs.Prelude.{◌≡◌, ◌*◌, ◌^◌, ◌≤◌, ◌<◌};
 ghost use Rattle.std.specs.Float.Ieee.Nearest.{closest};
 ghost use Rattle.kilowatt_hours.specs.Bits.{kwh_bits};

@@ -1,6 +1,8 @@
 // The log of slices as it stands in memory, its image: fourteen bytes of header, and behind them the kinds of all cells at two bits each, a
 // column for each of their counts, and their lapses. It reads and writes single cells, steps along its intervals in time order, and makes a fresh log.
 // Other crates speak of a log by these functions and their definitions alone, so that a change of the layout stays in here.
+#![tactic(auto)]
+
 mod fresh;
 mod image;
 mod look;

@@ -1,4 +1,6 @@
 // A cell of the log: a gap, empty, or measured with four counts; its kind, its counts, and the nine bytes that it is in a file.
+#![tactic(auto)]
+
 mod cell;
 
 pub use cell::{

@@ -2,6 +2,8 @@
 // image's length where there is one, and the output's first byte, which was 255 before. The file is document 01's example, of version 1: a log
 // from 2024-05-17, 1 day, 30 minutes, Ke 100, slot 0 measured 12 0 3 0, slot 1 empty, all others gaps. Then files of versions 1, 2 and 3 over the days
 // on which the clock is moved, and the figures that come with a log. stdout was written by hand from the tables of documents 01 and 02, and not by this code.
+#![tactic(auto)]
+
 use libc::STDOUT_FILENO;
 use log_file::{ReadAnswer, WriteAnswer};
 

@@ -1,5 +1,7 @@
 // The header of a log, and its intervals: which bytes are a header and whether lent bytes are a log with it, the index of a day's slot, a day's
 // date and its night, and the slots that do not exist.
+#![tactic(auto)]
+
 mod header;
 mod interval;
 

@@ -2,6 +2,8 @@
 //
 // A frame is the address, a command, data and the SS-301's CRC. A reading's figures have units of their own, and their bytes in a frame's
 // data part: `put_tariffs` and the others write them for a bench meter, `decode` reads them. No reading enters the log.
+#![tactic(auto)]
+
 pub mod command;
 mod data;
 mod form;

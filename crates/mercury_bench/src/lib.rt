@@ -1,4 +1,6 @@
 // The bench's Mercury 206: it answers requests from figures that it is given.
+#![tactic(auto)]
+
 mod meter;
 mod reply;
 

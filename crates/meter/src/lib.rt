@@ -2,6 +2,8 @@
 //
 // What becomes of a command is `meter_command`'s to say; only one that is done has effects: data read into the reply, a record after it, a
 // store made empty. The reply is put together around them.
+#![tactic(auto)]
+
 mod bench;
 mod effect;
 mod reply;

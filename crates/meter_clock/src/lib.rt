@@ -2,6 +2,8 @@
 //
 // Both are values: a step takes what stands and gives what stands a second later. Every step is total, and keeps what fits. `tick` is
 // protection's step in place, and `ticked` lends it the record; the meter's second goes that way.
+#![tactic(auto)]
+
 mod protection;
 mod season;
 

@@ -2,6 +2,8 @@
 //
 // `judge` says it by the address met, the record and the command, in the papers' order of checks. What a change or a zeroing that is done leaves
 // of the record is said here too; the meter puts its answer together from these.
+#![tactic(auto)]
+
 mod access;
 mod change;
 mod command;

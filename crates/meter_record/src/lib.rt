@@ -2,6 +2,8 @@
 //
 // Its ranges are one definition. Every call tests them, and every call that is done keeps them. Here the bench makes a record, sets
 // the powers and the ratios, and lets a second pass; what the meter does with a frame stands in the crate `meter`.
+#![tactic(auto)]
+
 mod display;
 mod making;
 mod passing;

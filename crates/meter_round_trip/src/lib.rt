@@ -1,4 +1,6 @@
 // A read request sent to the bench meter and its reply decoded, in one call.
+#![tactic(auto)]
+
 ghost use Rattle.std.specs.Prelude.{◌≡◌, true, ◌≤◌, length};
 ghost use Rattle.frame.specs.Layout.{longest};
 ghost use Rattle.request.specs.Request.{request_frame};

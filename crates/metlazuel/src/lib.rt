@@ -1,6 +1,8 @@
 // The core's functions for firmware written in C: numbers and byte slices alone go in and out, and nothing is required of the caller
 // but memory that is as long as it says. A slice is a pointer and then its length, `&mut` of a number or of an array a pointer. Each
 // function hands its arguments on to a proved one and answers with document 01's number.
+#![tactic(auto)]
+
 ghost use Rattle.std.specs.Prelude.{◌≡◌};
 ghost use Rattle.crc16.specs.Crc.{crc_of};
 ghost use Rattle.refusal.specs.Outcome.{outcome};

@@ -2,6 +2,8 @@
 //
 // Both functions are total: past the end nothing is read and nothing is stored. What was put reads back, and what was read is put as it
 // stood: proofs/PackedLaws.antt has both, once for every number of bytes.
+#![tactic(auto)]
+
 ghost use Rattle.std.specs.Prelude.{◌≡◌, take, ◌+◌, [], ◌∷◌};
 ghost use Rattle.byte_numbers.specs.Place.{written};
 ghost use Rattle.packed_decimal.specs.Packed.{pair_of, packed_of, decimal_of, decimal_at};

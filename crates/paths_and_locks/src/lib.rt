@@ -1,4 +1,6 @@
 // Paths as bytes, and the text of a lock: what of files and locks is decided over bytes alone. No function here calls the C library.
+#![tactic(auto)]
+
 mod holder;
 mod path;
 

@@ -1,5 +1,7 @@
 // Polls a meter on a serial line for the intervals of a log that are still gaps, makes the file of a fresh log, or reads a Mercury 206.
 // What is asked, what a reply does to the log and what the report says are decided in the libraries.
+#![tactic(auto)]
+
 mod arguments;
 mod fresh;
 mod help;

@@ -1,5 +1,7 @@
 // What a poller of the log decides: which interval it asks for next and in which order, when a reply is whole and when to stop listening, what becomes of
 // an ask, and the tally of that. Reading and writing the line is the caller's. The log changes by the logger's calls alone.
+#![tactic(auto)]
+
 mod fate;
 mod moment;
 mod next;

@@ -2,6 +2,8 @@
 //
 // From what a request asks for follow the length of its reply and the figures in it. Whether a reply is well formed and what the meter's
 // result is, `reply_of` alone says, to the log's asks and to a poll's questions too.
+#![tactic(auto)]
+
 mod form;
 mod reply;
 mod rows;

@@ -1,4 +1,6 @@
 // The numbers of document 01's refusal table and of document 02's requests, by name. What each leaves behind stands there.
+#![tactic(auto)]
+
 pub const DONE: u8 = 0;
 // A lent output that is too short.
 pub const TOO_SHORT: u8 = 1;

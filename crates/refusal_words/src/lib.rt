@@ -1,5 +1,7 @@
 // What each number of document 01's refusal table, and of document 02's additions to it, says in their own words, for messages that a
 // person reads.
+#![tactic(auto)]
+
 ghost use Rattle.std.specs.Prelude.{◌≡◌};
 ghost use Rattle.refusal.specs.Outcome.{outcome};
 ghost use Rattle.refusal_words.specs.Words.{words_of, log_words, reply_words, file_words, mercury_words, at_front};

@@ -1,6 +1,8 @@
 // Reads the file of a log on standard input, once, and prints its page: the heading and a line for each day, or, for a file that is
 // refused, one line with the refusal's number. Each line is one function of the file's bytes. A person who looks gets a strip a day on
 // standard error too.
+#![tactic(auto)]
+
 ghost use Rattle.std.specs.Prelude.{◌≡◌, take};
 ghost use Rattle.day_rows.specs.LogAndRows.{log_and_rows};
 ghost use Rattle.report_page.specs.Page.{ReadOf, page_line, strip_line};

@@ -4,6 +4,8 @@
 // cells in them, `refused 35`; and that one where the seasons are not followed. Last CR 7's, whose rows end with their lapses, of which the report
 // says nothing: the first example; the March day with lapses in slot 6; and with lapses in slot 4, `refused 35`. stdout was written by hand from the
 // two documents, and not by this code.
+#![tactic(auto)]
+
 ghost use Rattle.std.specs.Prelude.{◌≡◌, take};
 
 use day_report::{LINE_MOST, STRIP_MOST, TextAnswer};

@@ -1,4 +1,6 @@
 // Read requests: what a request asks for, by its fields and the slots of the meter's day, and the frame that it travels in.
+#![tactic(auto)]
+
 mod request;
 mod subject;
 

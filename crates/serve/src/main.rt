@@ -1,5 +1,7 @@
 // The bench meter on a serial line: it is made by a script of the console's lines, and then answers the frames that come in. What is
 // right is decided in the libraries.
+#![tactic(auto)]
+
 mod bench;
 mod help;
 mod line;

@@ -1,4 +1,6 @@
 // The slots of a day: how many an interval makes, and the key that names a slice by month, day and number.
+#![tactic(auto)]
+
 mod day;
 mod key;
 

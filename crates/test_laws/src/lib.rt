@@ -1,1 +1,3 @@
 // What follows from a test that passed: laws alone, and no code.
+
+#![tactic(auto)]

@@ -1,6 +1,8 @@
 // Numbers, dates and bytes as ASCII text at any place of a byte buffer.
 //
 // Every function that writes is total: what lies past the buffer's end is not stored, so a text that does not fit is cut there.
+#![tactic(auto)]
+
 mod date;
 mod decimal;
 mod hex;

@@ -2,6 +2,8 @@
 //
 // Each kind of figure is read from the front of a data part, and written to the front of one; what was written reads back as it
 // was. The bench meter writes and the reader reads through these same definitions.
+#![tactic(auto)]
+
 mod clock;
 mod displayed;
 mod mask;

@@ -1,0 +1,7 @@
+-- `byte_at` meets its contract: before the end it reads the byte itself, and past the end the definition's default is 0.
+use mathlib.Core.Path.{sym}
+use lib.ListN.{get_or-eq_default}
+use Rattle.byte_numbers.proofs.byte_at.Goals as goal
+
+pub returns-else-at-s : goal.returns-else-at-s
+returns-else-at-s c = sym (get_or-eq_default c.args.s.now 0 c.if-at-s.false)

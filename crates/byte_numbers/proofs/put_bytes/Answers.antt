@@ -1,0 +1,63 @@
+-- `put_bytes` meets its contract: the loop keeps that writing the bytes left at the next place gives the whole result; it ends as the bytes run out.
+use mathlib.Core.Path.{refl, sym, ap, ◌∙◌}
+use native.Mathlib.Nat.{add-zero, add-suc}
+use native.Mathlib.Numerals.{add-one}
+use native.Mathlib.Omega.{arith}
+use lib.ListN.{length-set, drop_of_length-le}
+use lib.Seq.{drop-cons}
+use Rattle.byte_numbers.specs.Place.{written}
+use Rattle.byte_numbers.proofs.PlaceLaws.{written-past}
+use Rattle.byte_numbers.proofs.put_bytes.Goals as goal
+
+pub overflow_sub-room : goal.overflow_sub-room
+overflow_sub-room c = omega arith
+
+pub loop-i-init : goal.loop-i-init
+loop-i-init c = (omega arith, refl, rw add-zero)
+
+pub shape_of-out-then-room-i : goal.shape_of-out-then-room-i
+shape_of-out-then-room-i c =
+    let loop = c.loop-i in
+    loop.invariant.1
+
+pub returns-then-room-i : goal.returns-then-room-i
+returns-then-room-i c =
+    let at-loop = c.loop-i in
+    sym (written-past at-loop.out _ _ (omega arith)) ∙ at-loop.invariant.2
+
+pub bounds-bytes-i : goal.bounds-bytes-i
+bounds-bytes-i c = omega arith
+
+pub overflow_add-out : goal.overflow_add-out
+overflow_add-out c = omega arith
+
+pub bounds-out-at : goal.bounds-out-at
+bounds-out-at c = omega arith
+
+pub overflow_add-i : goal.overflow_add-i
+overflow_add-i c = omega arith
+
+pub loop-i-smaller : goal.loop-i-smaller
+loop-i-smaller c = omega arith
+
+pub loop-i-preserved : goal.loop-i-preserved
+unfolding written
+loop-i-preserved c =
+    let l = c.loop-i in
+    let bytes = c.args.bytes.now in (
+      omega arith,
+      simp length-set l.invariant.1,
+      rw (add-one, add-suc) (sym (ap (written l.out _) (drop-cons bytes l.i 0 (omega arith))) ∙ l.invariant.2),
+    )
+
+pub shape_of-out : goal.shape_of-out
+shape_of-out c = c.loop-i.invariant.1
+
+pub returns-after-loop-i : goal.returns-after-loop-i
+unfolding written
+returns-after-loop-i c =
+    let l = c.loop-i in
+    sym (ap (written l.out _) (drop_of_length-le _ c.loop-i-test.false)) ∙ l.invariant.2
+
+pub returns-else-at-out : goal.returns-else-at-out
+returns-else-at-out c = sym (written-past _ _ _ c.if-at-out.false)

@@ -1,0 +1,13 @@
+-- `hex_digit` meets its contract: below ten is `hex_digit`'s own test, and from ten on 65 + (d - 10) is its 55 + d.
+use native.Mathlib.Omega.{arith}
+use Rattle.text.specs.Hex.{hex_digit}
+use borrow.Author.Tests.{lt-ltb, le-ltb}
+use Rattle.text.proofs.hex.hex_digit.Goals as goal
+
+pub returns-then-d-lt10 : goal.returns-then-d-lt10
+unfolding hex_digit
+returns-then-d-lt10 c = simp (lt-ltb _ _ c.if-d-lt10.true)
+
+pub returns-else-d-lt10 : goal.returns-else-d-lt10
+unfolding hex_digit
+returns-else-d-lt10 c = simp (le-ltb _ _ c.if-d-lt10.false) (omega arith)
