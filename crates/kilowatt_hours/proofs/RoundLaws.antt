@@ -41,6 +41,8 @@ bits-worth b h =
 
 value-number : (x : Float) (a : ℕ) → HasValue x false a (2 ^ 149) → T (not (is_nan x))
 unfolding is_nan
+value-number nan a h = elim h [ ]
+value-number (inf _) a h = elim h [ ]
 value-number (fin s m e) a h = tt
 
 -- and has these bits
@@ -76,6 +78,8 @@ told a = 0 + (size a - 24) * 8388608 + a / 2 ^ (size a - 24)
 
 bits-told : (x : Float) (a : ℕ) → HasValue x false a (2 ^ 149) → to_bits binary32 x ≡ told a
 unfolding to_bits told
+bits-told nan a h = elim h [ ]
+bits-told (inf _) a h = elim h [ ]
 bits-told (fin true m e) a h = absurd (true≢false h.0)
 bits-told (fin false m e) a h = ap told (ap (λ (z : ℕ). z / down e) h.1 ∙ mul-div_cancel a (down_pos e))
 

@@ -25,7 +25,7 @@ loop-i-preserved c =
     let l = c.loop-i in
     let put-at = c.put_at in
     let pair = c.pair in
-    let stored : put-at.new.0 ≡ written l.out (at + (l.i - 1)) (pair_of (l.rest % 100) ∷ []) = put-at.ensures
+    let stored : put-at.new.out ≡ written l.out (at + (l.i - 1)) (pair_of (l.rest % 100) ∷ []) = put-at.ensures
     ∙ ap (λ (b : ℕ). written l.out (at + (l.i - 1)) (b ∷ [])) pair.ensures in
     let one_less : l.i ≡ suc (l.i - 1) = omega arith in (
       ap length stored ∙ length-written l.out _ _ ∙ l.invariant.0,

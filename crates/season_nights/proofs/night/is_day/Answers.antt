@@ -6,14 +6,12 @@ use Rattle.season_nights.proofs.night.is_day.Goals as goal
 pub returns-then-day-date : goal.returns-then-day-date
 unfolding is_day
 returns-then-day-date c =
-    let at-answer = c.answer-1 in
-    simp (at-answer.given.1, ne_eqb _ _ c.if-day-date.true)
+    simp (c.in-On.is, ne_eqb _ _ c.if-day-date.true)
 
 pub returns-else-day-date : goal.returns-else-day-date
 unfolding is_day
 returns-else-day-date c =
-    let at-answer = c.answer-1 in
-    simp (at-answer.given.1, eq-eqb _ _ c.if-day-date.false)
+    simp (c.in-On.is, eq-eqb _ _ c.if-day-date.false)
 
 pub returns-in-NotADate : goal.returns-in-NotADate
 unfolding is_day

@@ -60,25 +60,19 @@ shape_of-out c = omega arith
 
 pub returns-then-at-out : goal.returns-then-at-out
 returns-then-at-out c =
-    let second = c in
-    let month = second.before.before.before.before in
-    let first = month.before.before.before.before in
-    let year = first.before.before.before.before in
-    let century = year.before.before.before.before in
-    let start = century.before.before.before.before.before in
-    let at = start.args.at in
-    let d = start.args.d in
+    let at = c.args.at in
+    let d = c.args.d in
     c.put_two-then-at-out-3.ensures
     ∙ ap (λ (x : List ℕ). written x (at + 8) (padded 2 d.day))
-    (second.put-byte2.ensures
+    (c.put_byte-then-at-out.ensures
     ∙ ap (λ (x : List ℕ). written x (at + 7) (hyphen ∷ []))
-    (month.put-two3.ensures
+    (c.put_two-then-at-out-2.ensures
     ∙ ap (λ (x : List ℕ). written x (at + 5) (padded 2 d.month))
-    (first.put_byte.ensures
+    (c.put_byte.ensures
     ∙ ap (λ (x : List ℕ). written x (at + 4) (hyphen ∷ []))
-    (year.put-two2.ensures
-    ∙ ap (λ (x : List ℕ). written x (at + 2) (padded 2 ((2000 + d.year) % 100))) century.put_two.ensures))))
-    ∙ written-date start.args.out.now at d
+    (c.put_two-then-at-out.ensures
+    ∙ ap (λ (x : List ℕ). written x (at + 2) (padded 2 ((2000 + d.year) % 100))) c.put_two.ensures))))
+    ∙ written-date c.args.out.now at d
 
 pub returns-else-at-out : goal.returns-else-at-out
 returns-else-at-out c = sym (written-past _ _ _ c.if-at-out.false)
