@@ -9,17 +9,17 @@ use lib.Seq.{take_at}
 use Rattle.refusal.specs.Outcome.{outcome}
 use Rattle.byte_numbers.specs.Number.{Bytes}
 use Rattle.log_header.specs.Header.{is_header, cells_of, length_of}
-use Rattle.log.specs.Fresh.{gaps, no_lapses, fresh_number, fresh_image}
-use Rattle.log.specs.Image.{cell_at, image_of}
-use Rattle.log.specs.View.{view_of}
+use Rattle.energy_log.specs.Fresh.{gaps, no_lapses, fresh_number, fresh_image}
+use Rattle.energy_log.specs.Image.{cell_at, image_of}
+use Rattle.energy_log.specs.View.{view_of}
 use Rattle.log_cell.proofs.CellLaws.{gap-is-cell}
-use Rattle.log.proofs.FreshLaws.{length-gaps, gap_at}
-use Rattle.log.proofs.ImageLaws.{sound-image}
+use Rattle.energy_log.proofs.FreshLaws.{length-gaps, gap_at}
+use Rattle.energy_log.proofs.ImageLaws.{sound-image}
 use Rattle.log_cell.specs.declared.cell.Cell.{Cell}
 use Rattle.log_cell.specs.declared.cell.CellAnswer.{CellAnswer}
 use Rattle.log_header.specs.declared.header.Header.{Header}
-use Rattle.log.specs.declared.fresh.FreshAnswer.{FreshAnswer}
-use Rattle.log.specs.declared.fresh.FreshAnswer.TheVariants as fresh-answer
+use Rattle.energy_log.specs.declared.fresh.FreshAnswer.{FreshAnswer}
+use Rattle.energy_log.specs.declared.fresh.FreshAnswer.TheVariants as fresh-answer
 use Rattle.day_rows.specs.LogAndRows.{LogAndRows}
 use Rattle.day_rows.specs.Fresh.{fresh_with}
 use Rattle.day_rows.specs.Rows.{figures_of, Right}

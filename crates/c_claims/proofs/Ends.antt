@@ -31,14 +31,14 @@ use Rattle.meter_command.specs.declared.verdict.Verdict.TheVariants as verdict
 use Rattle.meter.specs.Reply as reply
 use Rattle.meter.specs.Reply.{is_sound, heard, verdict_on, replied, answer_of}
 use Rattle.slots.specs.declared.key.Key.{Key}
-use Rattle.log.specs.View.{View}
+use Rattle.energy_log.specs.View.{View}
 use Rattle.log_header.specs.Interval.{interval_of}
 use Rattle.log_header.proofs.HeaderLaws.{by-sound}
 use Rattle.log_header.proofs.IntervalLaws.{by-at}
 use Rattle.log_cell.proofs.CellLaws.{by-good}
-use Rattle.log.specs.Fresh.{fresh_number}
-use Rattle.log.specs.declared.fresh.FreshAnswer.{FreshAnswer}
-use Rattle.log.specs.declared.fresh.FreshAnswer.TheVariants as made
+use Rattle.energy_log.specs.Fresh.{fresh_number}
+use Rattle.energy_log.specs.declared.fresh.FreshAnswer.{FreshAnswer}
+use Rattle.energy_log.specs.declared.fresh.FreshAnswer.TheVariants as made
 use Rattle.log_header.specs.declared.header.LogHeader.{LogHeader}
 use Rattle.day_rows.specs.LogAndRows.{LogAndRows, log_and_rows}
 use Rattle.day_rows.specs.Fresh.{fresh_with}
@@ -49,7 +49,7 @@ use Rattle.log_file.specs.declared.read.ReadAnswer.{ReadAnswer}
 use Rattle.log_file.specs.declared.read.ReadAnswer.TheVariants as file
 use Rattle.log_file.specs.declared.write.WriteAnswer.{WriteAnswer}
 use Rattle.log_file.specs.declared.write.WriteAnswer.TheVariants as wrote
-use Rattle.log.specs.Image.{applied}
+use Rattle.energy_log.specs.Image.{applied}
 use Rattle.logger.specs.Lapse as lapse-of
 use Rattle.logger.specs.Run.{State, step}
 use Rattle.logger.specs.declared.held.OpenAsk.{OpenAsk}

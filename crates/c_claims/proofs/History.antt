@@ -6,8 +6,8 @@ use Prim.Native.Nat.{ℕ, ◌<◌}
 use lib.ListN.{length}
 use Rattle.refusal.specs.Outcome.{Outcome, outcome}
 use Rattle.byte_numbers.specs.Place.{byte_at}
-use Rattle.log.specs.Pair.{pair_of}
-use Rattle.log.specs.View.{view_of}
+use Rattle.energy_log.specs.Pair.{pair_of}
+use Rattle.energy_log.specs.View.{view_of}
 use Rattle.day_rows.specs.LogAndRows.{LogAndRows, log_and_rows}
 use Rattle.day_rows.specs.Rows.{row_at, Right}
 use Rattle.logger.specs.Ask as ask-of

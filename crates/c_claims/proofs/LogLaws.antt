@@ -20,7 +20,7 @@ use Rattle.logger.specs.declared.take.Taken.{Taken}
 use Rattle.test_laws.proofs.Test.{either}
 use Rattle.frame.specs.Layout.{read_size}
 use Rattle.log_header.proofs.HeaderLaws.{by-sound}
-use Rattle.log.specs.View.{View, view_of}
+use Rattle.energy_log.specs.View.{View, view_of}
 use Rattle.day_rows.specs.LogAndRows.{LogAndRows}
 use Rattle.log_header.specs.Interval.{interval_of, comes_twice}
 use Rattle.log_header.specs.declared.header.Header.{Header}

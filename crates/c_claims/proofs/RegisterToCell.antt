@@ -23,7 +23,7 @@ use Rattle.parameters.specs.declared.code.Reading.TheVariants.{Stored}
 use Rattle.meter_record.specs.declared.record.Record.{Record}
 use Rattle.meter_command.specs.Command.{function_in}
 use Rattle.meter.specs.Reply as reply
-use Rattle.log.specs.View.{View, view_of}
+use Rattle.energy_log.specs.View.{View, view_of}
 use Rattle.log_header.specs.Interval.{interval_of}
 use Rattle.log_cell.specs.declared.cell.Cell.{Cell}
 use Rattle.log_cell.specs.declared.cell.Cell.TheVariants.{Gap, Empty, Measured}

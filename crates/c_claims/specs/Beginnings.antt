@@ -4,7 +4,7 @@ use Rattle.std.specs.Prelude.{◌≡◌, true, List, [], ◌∷◌, ℕ, ◌≤�
 use Rattle.refusal.specs.Outcome.{Outcome}
 use Rattle.byte_numbers.specs.Number.{Bytes}
 use Rattle.log_header.specs.Header.{is_header, cells_of, length_of}
-use Rattle.log.specs.Fresh.{gaps, no_lapses, fresh_number}
+use Rattle.energy_log.specs.Fresh.{gaps, no_lapses, fresh_number}
 use Rattle.log_cell.specs.declared.cell.Cell.{Cell}
 use Rattle.log_header.specs.declared.header.Header.{Header}
 use Rattle.day_rows.specs.LogAndRows.{LogAndRows}

@@ -18,8 +18,8 @@ use Rattle.meter_record_bytes.specs.declared.record.RecordRead.TheVariants as re
 use Rattle.meter_command.specs.Verdict.{number_of}
 use Rattle.meter_command.specs.declared.verdict.Verdict.{Verdict}
 use Rattle.meter.specs.Reply.{head_of, answer_of}
-use Rattle.log.specs.View.{View}
-use Rattle.log.specs.Fresh.{fresh_number}
+use Rattle.energy_log.specs.View.{View}
+use Rattle.energy_log.specs.Fresh.{fresh_number}
 use Rattle.log_header.specs.declared.header.LogHeader.{LogHeader}
 use Rattle.day_rows.specs.LogAndRows.{LogAndRows, log_and_rows}
 use Rattle.day_rows.specs.Fresh.{fresh_with}

@@ -7,8 +7,8 @@
 use Rattle.std.specs.Prelude.{◌≡◌, cond, List, ℕ, ◌<◌, eqb, length}
 use Rattle.refusal.specs.Outcome.{Outcome, outcome}
 use Rattle.byte_numbers.specs.Place.{byte_at}
-use Rattle.log.specs.Pair.{pair_of}
-use Rattle.log.specs.View.{view_of}
+use Rattle.energy_log.specs.Pair.{pair_of}
+use Rattle.energy_log.specs.View.{view_of}
 use Rattle.day_rows.specs.LogAndRows.{log_and_rows}
 use Rattle.day_rows.specs.Rows.{row_at, Right}
 use Rattle.logger.specs.Book.{Call, ask, lapse, reply, Answer, run_of, CallBytes, AllBytes}

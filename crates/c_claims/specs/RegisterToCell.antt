@@ -12,7 +12,7 @@ use Rattle.meter_record.specs.declared.record.Record.{Record}
 use Rattle.meter_record_bytes.specs.Record.{record_of}
 use Rattle.meter_record_bytes.specs.declared.record.RecordRead.TheVariants as meter
 use Rattle.meter.specs.Reply.{is_sound}
-use Rattle.log.specs.View.{view_of}
+use Rattle.energy_log.specs.View.{view_of}
 use Rattle.log_cell.specs.declared.cell.Cell.{Cell}
 use Rattle.log_cell.specs.declared.cell.Cell.TheVariants.{Gap, Empty, Measured}
 use Rattle.log_header.specs.declared.header.Header.{Header}

@@ -28,11 +28,11 @@ use Rattle.meter_record.specs.declared.record.RecordAnswer.{RecordAnswer}
 use Rattle.meter_record.specs.declared.record.RecordAnswer.TheVariants as given
 use Rattle.meter.specs.Bench as bench
 use Rattle.meter.specs.Reply.{is_sound}
-use Rattle.log.specs.Fresh.{fresh_number, fresh_of}
+use Rattle.energy_log.specs.Fresh.{fresh_number, fresh_of}
 use Rattle.log_header.specs.Header.{header_size, is_header, length_of, mark_right, version_at, if_right}
-use Rattle.log.specs.Image.{applied, all_good}
-use Rattle.log.specs.View.{View, view_of}
-use Rattle.log.specs.declared.image.Change.TheVariants as change
+use Rattle.energy_log.specs.Image.{applied, all_good}
+use Rattle.energy_log.specs.View.{View, view_of}
+use Rattle.energy_log.specs.declared.image.Change.TheVariants as change
 use Rattle.logger.specs.Lapse as silence
 use Rattle.logger.proofs.LapseLaws.{is_refused, lapsing-ways}
 use Rattle.logger.specs.declared.no_reply.LapseDecision.{LapseDecision}

@@ -20,17 +20,17 @@ use Rattle.slots.specs.Day.{slots_of}
 use Rattle.byte_numbers.proofs.ByteLaws.{two}
 use Rattle.log_cell.proofs.CellLaws.{bad≢good, Kind, kind-of}
 use Rattle.log_header.proofs.HeaderLaws.{header-ranges, sound-front, sound-log}
-use Rattle.log.proofs.ImageLaws.{cells_at}
+use Rattle.energy_log.proofs.ImageLaws.{cells_at}
 use Rattle.log_header.proofs.IntervalLaws.{exists-index, twice-index}
-use Rattle.log.proofs.ViewLaws.{view_by, cell_in}
+use Rattle.energy_log.proofs.ViewLaws.{view_by, cell_in}
 use Rattle.log_cell.specs.Cell.{kind_of, e_plus_of, e_minus_of, r_plus_of, r_minus_of, kind_bytes, counts_bytes, kind_cell}
 use Rattle.log_header.specs.Header.{cells_of, date_bytes, header_bytes_as, header_bytes, sound_of}
-use Rattle.log.specs.Image as image
-use Rattle.log.specs.Image.{cells_at, read_among, cell_among, lapses_among, cell_at, lapses_at, image_of, goods}
+use Rattle.energy_log.specs.Image as image
+use Rattle.energy_log.specs.Image.{cells_at, read_among, cell_among, lapses_among, cell_at, lapses_at, image_of, goods}
 use Rattle.log_header.specs.Interval.{exists_at, comes_twice_at}
-use Rattle.log.specs.Pair.{pair_of}
-use Rattle.log.specs.Walk.{Place, place_at, seen_from, day_walk, keep, existing, cells_seen}
-use Rattle.log.specs.View.{View, view_of}
+use Rattle.energy_log.specs.Pair.{pair_of}
+use Rattle.energy_log.specs.Walk.{Place, place_at, seen_from, day_walk, keep, existing, cells_seen}
+use Rattle.energy_log.specs.View.{View, view_of}
 use Rattle.log_cell.specs.declared.cell.Cell.{Cell}
 use Rattle.log_cell.specs.declared.cell.Cell.TheVariants.{Gap, Empty, Measured}
 use Rattle.log_cell.specs.declared.cell.CellAnswer.{CellAnswer}

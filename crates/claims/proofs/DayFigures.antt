@@ -14,7 +14,7 @@ use Rattle.frame.specs.Layout.{read_size}
 use Rattle.log_header.specs.Header.{sound_of}
 use Rattle.calendar.specs.declared.date.Date.{Date}
 use Rattle.log_header.specs.Interval.{interval_of, day_date}
-use Rattle.log.specs.View.{view_of}
+use Rattle.energy_log.specs.View.{view_of}
 use Rattle.log_header.proofs.IntervalLaws.{by-at}
 use Rattle.log_header.specs.declared.header.Header.{Header}
 use Rattle.log_header.specs.declared.interval.DayAnswer.{DayAnswer}

@@ -8,12 +8,12 @@ use Rattle.frame.specs.Sealing.{framed, crc_fits}
 use Rattle.reader.specs.Form.{reply_of, form_of, length_for, function_for, head_of}
 use Rattle.request.specs.Request.{request_frame}
 use Rattle.log_cell.specs.Cell.{no_counts, kind_fits, cell_by, kind_cell}
-use Rattle.log.specs.Fresh.{gaps, fresh_image}
+use Rattle.energy_log.specs.Fresh.{gaps, fresh_image}
 use Rattle.log_header.specs.Header as log
 use Rattle.slots.specs.Day.{is_minutes, slots_of}
 use Rattle.log_header.specs.Header.{cells_of, days_right, is_header, date_bytes, header_bytes_as, header_at, mark_right, version_right, fields_right, header_of, fitted_to, sound_of}
-use Rattle.log.specs.Pair.{pair_of, packed, put_pair}
-use Rattle.log.specs.Image.{cells_at, read_among, cell_at, put_kind, put_counts, put_cell_among, put_cell, applied, kinds_bytes, column_bytes, lapses_bytes, cells_bytes, image_of}
+use Rattle.energy_log.specs.Pair.{pair_of, packed, put_pair}
+use Rattle.energy_log.specs.Image.{cells_at, read_among, cell_at, put_kind, put_counts, put_cell_among, put_cell, applied, kinds_bytes, column_bytes, lapses_bytes, cells_bytes, image_of}
 use Rattle.season_nights.specs.Night.{missing, doubled}
 use Rattle.log_header.specs.Interval.{night_on, exists, comes_twice, interval_of}
 use Rattle.day_rows.specs.Tallies as figure-row

@@ -33,7 +33,7 @@ use Rattle.reader.specs.declared.reply.Decoded.{Decoded}
 use Rattle.reader.specs.declared.reply.Decoded.TheVariants as decoded
 use Rattle.reader.proofs.FormLaws.{length-told, by-reply}
 use Rattle.log_header.specs.Interval.{comes_twice}
-use Rattle.log.specs.View.{view_of}
+use Rattle.energy_log.specs.View.{view_of}
 use Rattle.day_rows.specs.LogAndRows.{LogAndRows}
 use Rattle.logger.specs.Reply.{slice_form, row_of}
 use Rattle.logger.specs.Take as Take

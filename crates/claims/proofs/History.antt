@@ -14,19 +14,19 @@ use Rattle.byte_numbers.specs.Number.{Bytes}
 use Rattle.byte_numbers.specs.Place.{byte_at}
 use Rattle.log_cell.specs.Cell.{is_cell, no_counts, IsCell}
 use Rattle.log_cell.proofs.CellLaws.{gap-is-cell}
-use Rattle.log.specs.Fresh.{fresh_image, gaps, no_lapses}
-use Rattle.log.specs.declared.fresh.FreshAnswer.{FreshAnswer}
-use Rattle.log.specs.declared.fresh.FreshAnswer.TheVariants as made
-use Rattle.log.proofs.FreshLaws.{length-gaps, gap_at}
+use Rattle.energy_log.specs.Fresh.{fresh_image, gaps, no_lapses}
+use Rattle.energy_log.specs.declared.fresh.FreshAnswer.{FreshAnswer}
+use Rattle.energy_log.specs.declared.fresh.FreshAnswer.TheVariants as made
+use Rattle.energy_log.proofs.FreshLaws.{length-gaps, gap_at}
 use Rattle.log_header.specs.Header.{version, is_header, cells_of, length_of, sound_of}
-use Rattle.log.specs.Image.{applied, image_of, cell_at, AllCells, LapsesFit}
-use Rattle.log.proofs.ImageLaws.{image-alike, sound-image, bytes-image}
-use Rattle.log.specs.declared.image.Change.{Change}
-use Rattle.log.specs.declared.image.Change.TheVariants as change
-use Rattle.log.specs.View.{View, view_of}
-use Rattle.log.proofs.ViewLaws as layout
-use Rattle.log.proofs.ViewLaws.{Holds, At, view_by, view-image, others_stay, length-applied}
-use Rattle.log.specs.Pair.{pair_of}
+use Rattle.energy_log.specs.Image.{applied, image_of, cell_at, AllCells, LapsesFit}
+use Rattle.energy_log.proofs.ImageLaws.{image-alike, sound-image, bytes-image}
+use Rattle.energy_log.specs.declared.image.Change.{Change}
+use Rattle.energy_log.specs.declared.image.Change.TheVariants as change
+use Rattle.energy_log.specs.View.{View, view_of}
+use Rattle.energy_log.proofs.ViewLaws as layout
+use Rattle.energy_log.proofs.ViewLaws.{Holds, At, view_by, view-image, others_stay, length-applied}
+use Rattle.energy_log.specs.Pair.{pair_of}
 use Rattle.log_cell.specs.declared.cell.Cell.{Cell}
 use Rattle.log_cell.specs.declared.cell.Cell.TheVariants.{Gap, Empty, Measured}
 use Rattle.log_cell.specs.declared.cell.CellAnswer.{CellAnswer}

@@ -9,8 +9,8 @@ use borrow.Author.Tests.{eq-eqb, lt-ltb, lt-leb, le-leb, ltb-true, ltb-false}
 use Rattle.refusal.specs.Outcome.{outcome}
 use Rattle.byte_numbers.specs.Number.{Bytes}
 use Rattle.log_header.specs.Header.{cells_of, version_at, sound_of}
-use Rattle.log.specs.View.{View, view_of}
-use Rattle.log.proofs.ViewLaws.{changed, view-image}
+use Rattle.energy_log.specs.View.{View, view_of}
+use Rattle.energy_log.proofs.ViewLaws.{changed, view-image}
 use Rattle.log_cell.specs.declared.cell.Cell.{Cell}
 use Rattle.log_cell.specs.declared.cell.CellAnswer.TheVariants.{Good}
 use Rattle.log_header.specs.declared.header.Header.{Header}
@@ -30,7 +30,7 @@ use Rattle.logger.specs.Take as Take
 use Rattle.logger.proofs.TakeLaws.{Step, decided-ways, taken-seen}
 use Rattle.logger.specs.declared.no_reply.LapseAnswer.TheVariants.{Done}
 use Rattle.logger.specs.declared.no_reply.LapseDecision.{LapseDecision}
-use Rattle.log.specs.declared.image.Change.TheVariants as change
+use Rattle.energy_log.specs.declared.image.Change.TheVariants as change
 use Rattle.logger.specs.declared.held.OpenAsk.{OpenAsk}
 use Rattle.logger.specs.declared.held.OpenAsk.TheVariants.{Closed}
 use Rattle.claims.specs.Seasons.{Begun}

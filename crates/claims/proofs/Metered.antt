@@ -30,15 +30,15 @@ use Rattle.log_header.proofs.HeaderLaws.{by-sound, sound-log, header-ranges}
 use Rattle.log_header.specs.Header.{is_header, cells_of, sound_of}
 use Rattle.log_header.specs.Interval.{interval_of}
 use Rattle.log_header.proofs.IntervalLaws.{in-log, interval-below, by-at}
-use Rattle.log.specs.View.{View, view_of}
-use Rattle.log.proofs.ViewLaws.{changed, seen-are-cells, cell_in, view_by, Whole}
+use Rattle.energy_log.specs.View.{View, view_of}
+use Rattle.energy_log.proofs.ViewLaws.{changed, seen-are-cells, cell_in, view_by, Whole}
 use Rattle.log_cell.specs.declared.cell.Cell.{Cell}
 use Rattle.log_cell.specs.declared.cell.Cell.TheVariants.{Gap, Empty, Measured}
 use Rattle.log_cell.specs.declared.cell.CellAnswer.TheVariants.{Good}
 use Rattle.log_header.specs.declared.header.Header.{Header}
 use Rattle.log_header.specs.declared.header.LogHeader.TheVariants.{Sound}
-use Rattle.log.specs.declared.image.Change.{Change}
-use Rattle.log.specs.declared.image.Change.TheVariants as change
+use Rattle.energy_log.specs.declared.image.Change.{Change}
+use Rattle.energy_log.specs.declared.image.Change.TheVariants as change
 use Rattle.log_header.specs.declared.interval.Interval.TheVariants.{At}
 use Rattle.day_rows.specs.LogAndRows.{LogAndRows, log_and_rows}
 use Rattle.logger.specs.Ask as Ask

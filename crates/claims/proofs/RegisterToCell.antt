@@ -45,7 +45,7 @@ use Rattle.log_header.proofs.HeaderLaws.{header-ranges, sound-log}
 use Rattle.log_header.specs.Interval as log
 use Rattle.log_header.specs.Interval.{night_on, exists, interval_of}
 use Rattle.log_header.proofs.IntervalLaws.{interval-at}
-use Rattle.log.specs.View.{view_of}
+use Rattle.energy_log.specs.View.{view_of}
 use Rattle.log_cell.specs.declared.cell.Cell.{Cell}
 use Rattle.log_cell.specs.declared.cell.Cell.TheVariants.{Gap, Empty, Measured}
 use Rattle.log_cell.specs.declared.cell.CellAnswer.TheVariants.{Good}

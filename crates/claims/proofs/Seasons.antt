@@ -17,9 +17,9 @@ use Rattle.season_nights.specs.Night.{is_spring, is_autumn}
 use Rattle.season_nights.specs.Run.{hour_of}
 use Rattle.log_header.specs.Header.{cells_of, version_at, days_right, is_header, header_at, fields_right, header_of, sound_of}
 use Rattle.log_header.specs.Interval.{night_on, exists_at}
-use Rattle.log.specs.View.{View, view_of}
-use Rattle.log.proofs.ImageLaws.{sound-image}
-use Rattle.log.proofs.ViewLaws.{cell_in}
+use Rattle.energy_log.specs.View.{View, view_of}
+use Rattle.energy_log.proofs.ImageLaws.{sound-image}
+use Rattle.energy_log.proofs.ViewLaws.{cell_in}
 use Rattle.log_cell.specs.declared.cell.Cell.{Cell}
 use Rattle.log_cell.specs.declared.cell.Cell.TheVariants.{Gap}
 use Rattle.log_cell.specs.declared.cell.CellAnswer.{CellAnswer}

@@ -9,7 +9,7 @@ use Rattle.frame.specs.Sealing.{framed}
 use Rattle.calendar.specs.declared.date.Date.{Date}
 use Rattle.slots.specs.Day.{slots_of}
 use Rattle.log_header.specs.Header.{sound_of}
-use Rattle.log.specs.View.{view_of}
+use Rattle.energy_log.specs.View.{view_of}
 use Rattle.log_cell.specs.declared.cell.Cell.{Cell}
 use Rattle.log_cell.specs.declared.cell.Cell.TheVariants.{Gap, Empty, Measured}
 use Rattle.log_cell.specs.declared.cell.CellAnswer.{CellAnswer}

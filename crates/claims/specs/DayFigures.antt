@@ -7,7 +7,7 @@ use Rattle.byte_numbers.specs.Place.{written}
 use Rattle.calendar.specs.declared.date.Date.{Date}
 use Rattle.log_header.specs.Header.{sound_of}
 use Rattle.log_header.specs.Interval.{day_date}
-use Rattle.log.specs.View.{view_of}
+use Rattle.energy_log.specs.View.{view_of}
 use Rattle.log_cell.specs.declared.cell.Cell.{Cell}
 use Rattle.log_header.specs.declared.header.Header.{Header}
 use Rattle.log_header.specs.declared.interval.DayAnswer.TheVariants.{On}

@@ -22,8 +22,8 @@ use Rattle.meter_command.specs.declared.verdict.Verdict.{Verdict}
 use Rattle.meter.specs.Bench as bench
 use Rattle.meter.specs.Reply as meter
 use Rattle.meter_round_trip.specs.Inquiry as inquiry
-use Rattle.log.specs.Fresh.{fresh_number, fresh_of}
-use Rattle.log.specs.View.{View}
+use Rattle.energy_log.specs.Fresh.{fresh_number, fresh_of}
+use Rattle.energy_log.specs.View.{View}
 use Rattle.log_header.specs.declared.header.LogHeader.{LogHeader}
 use Rattle.day_rows.specs.LogAndRows.{LogAndRows, log_and_rows}
 use Rattle.day_rows.specs.Fresh.{fresh_with}

@@ -10,17 +10,17 @@ use Rattle.std.specs.Prelude.{◌≡◌, true, false, List, ◌++◌, ℕ, ◌�
 use Rattle.refusal.specs.Outcome.{Outcome, outcome}
 use Rattle.byte_numbers.specs.Number.{Bytes}
 use Rattle.byte_numbers.specs.Place.{byte_at}
-use Rattle.log.specs.Fresh.{fresh_image}
-use Rattle.log.specs.declared.fresh.FreshAnswer.TheVariants as made
+use Rattle.energy_log.specs.Fresh.{fresh_image}
+use Rattle.energy_log.specs.declared.fresh.FreshAnswer.TheVariants as made
 use Rattle.log_header.specs.Header.{is_header, cells_of, length_of, sound_of}
-use Rattle.log.specs.Pair.{pair_of}
-use Rattle.log.specs.Image.{OutsideCell, image_of, AllCells, LapsesFit}
+use Rattle.energy_log.specs.Pair.{pair_of}
+use Rattle.energy_log.specs.Image.{OutsideCell, image_of, AllCells, LapsesFit}
 use Rattle.log_header.specs.Interval.{exists_at}
 use Rattle.log_cell.specs.declared.cell.Cell.{Cell}
 use Rattle.log_cell.specs.declared.cell.Cell.TheVariants.{Gap}
 use Rattle.log_header.specs.declared.header.Header.{Header}
 use Rattle.log_header.specs.declared.header.LogHeader.TheVariants.{Sound}
-use Rattle.log.specs.View.{view_of}
+use Rattle.energy_log.specs.View.{view_of}
 use Rattle.day_rows.specs.LogAndRows.{LogAndRows, log_and_rows}
 use Rattle.day_rows.specs.Fresh.{fresh_with}
 use Rattle.day_rows.specs.Rows.{figures_of, Right, all_figures, all_gaps}

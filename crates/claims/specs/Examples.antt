@@ -3,8 +3,8 @@ use Rattle.std.specs.Prelude.{◌≡◌, Bool, true, false, not, ◌&&◌, List,
 use Rattle.refusal.specs.Outcome.{Outcome}
 use Rattle.byte_numbers.specs.Number.{bytes_of}
 use Rattle.frame.specs.Sealing.{framed}
-use Rattle.log.specs.Fresh.{fresh_image}
-use Rattle.log.specs.View.{view_of}
+use Rattle.energy_log.specs.Fresh.{fresh_image}
+use Rattle.energy_log.specs.View.{view_of}
 use Rattle.log_cell.specs.declared.cell.Cell.TheVariants.{Gap, Empty, Measured}
 use Rattle.log_cell.specs.declared.cell.CellAnswer.{CellAnswer}
 use Rattle.log_cell.specs.declared.cell.CellAnswer.TheVariants.{Good, Bad}

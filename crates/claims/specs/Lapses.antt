@@ -5,7 +5,7 @@ use Rattle.std.specs.Prelude.{◌≡◌, cond, List, ℕ, ◌+◌, ◌*◌, ◌<
 use Rattle.refusal.specs.Outcome.{outcome}
 use Rattle.byte_numbers.specs.Number.{Bytes}
 use Rattle.log_header.specs.Header.{cells_of, version_at, sound_of}
-use Rattle.log.specs.View.{view_of}
+use Rattle.energy_log.specs.View.{view_of}
 use Rattle.log_cell.specs.declared.cell.Cell.{Cell}
 use Rattle.log_cell.specs.declared.cell.CellAnswer.TheVariants.{Good}
 use Rattle.log_header.specs.declared.header.Header.{Header}

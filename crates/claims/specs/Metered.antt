@@ -8,7 +8,7 @@ use Rattle.slots.specs.Day.{slots_of}
 use Rattle.meter_store.specs.Store.{count_at}
 use Rattle.meter_record.specs.declared.record.Record.{Record}
 use Rattle.meter.specs.Reply.{answer_of}
-use Rattle.log.specs.View.{view_of}
+use Rattle.energy_log.specs.View.{view_of}
 use Rattle.log_cell.specs.declared.cell.Cell.{Cell}
 use Rattle.log_cell.specs.declared.cell.Cell.TheVariants.{Gap, Measured}
 use Rattle.log_cell.specs.declared.cell.CellAnswer.TheVariants.{Good}

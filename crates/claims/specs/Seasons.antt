@@ -12,7 +12,7 @@ use Rattle.season_nights.specs.Night.{is_spring, is_autumn}
 use Rattle.season_nights.specs.Run.{hour_of}
 use Rattle.log_header.specs.Header.{header_size, cells_of, mark_right, version_at, sound_of}
 use Rattle.log_header.specs.Interval.{night_on, exists, exists_at}
-use Rattle.log.specs.View.{View, view_of}
+use Rattle.energy_log.specs.View.{View, view_of}
 use Rattle.log_cell.specs.declared.cell.Cell.{Cell}
 use Rattle.log_cell.specs.declared.cell.Cell.TheVariants.{Gap}
 use Rattle.log_cell.specs.declared.cell.CellAnswer.{CellAnswer}

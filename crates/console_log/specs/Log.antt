@@ -4,13 +4,13 @@ use Rattle.std.specs.Prelude.{ℕ, cond, List, [], ◌∷◌, ◌++◌, eqb, ltb
 use Rattle.refusal.specs.Outcome.{Outcome, outcome}
 use Rattle.frame.specs.Layout.{read_size}
 use Rattle.log_header.specs.declared.header.Header.{Header}
-use Rattle.log.specs.declared.fresh.FreshAnswer.{FreshAnswer}
-use Rattle.log.specs.declared.fresh.FreshAnswer.TheVariants as fresh
+use Rattle.energy_log.specs.declared.fresh.FreshAnswer.{FreshAnswer}
+use Rattle.energy_log.specs.declared.fresh.FreshAnswer.TheVariants as fresh
 use Rattle.day_rows.specs.LogAndRows.{LogAndRows, log_and_rows}
 use Rattle.day_rows.specs.Fresh.{fresh_with}
 use Rattle.log_file.specs.declared.read.ReadAnswer.{ReadAnswer}
 use Rattle.log_file.specs.Read.{if_read}
-use Rattle.log.specs.View.{view_of}
+use Rattle.energy_log.specs.View.{view_of}
 use Rattle.logger.specs.Ask.{asked}
 use Rattle.logger.specs.Lapse.{lapsed}
 use Rattle.logger.specs.Take.{taken}

@@ -12,7 +12,7 @@ use calendar::Date;
 use console::{BYTE, BytesAnswer, SHORT, YearAnswer, byte};
 use console_io::say;
 use day_report::ReportAnswer;
-use log::FreshAnswer;
+use energy_log::FreshAnswer;
 use log_cell::{Cell, CellAnswer};
 use log_file::ReadAnswer;
 use log_header::{Header, Interval, LogHeader};
@@ -265,7 +265,7 @@ pub fn cell(line: &[u8], image: &[u8]) {
 fn cell_of(image: &[u8], day: u8, slot: u8) {
     match log_header::sound(image) {
         LogHeader::Sound(h) => match log_header::interval_of(h, day, slot) {
-            Interval::At(i) => say_cell(log::cell_at(image, i), log::lapses_at(image, i)),
+            Interval::At(i) => say_cell(energy_log::cell_at(image, i), energy_log::lapses_at(image, i)),
             Interval::Outside => say::number_line(refusal::NOT_IN_LOG),
         },
         LogHeader::Unsound => say::number_line(refusal::UNSOUND),

@@ -9,9 +9,9 @@ use Rattle.refusal.specs.Outcome.{outcome}
 use Rattle.byte_numbers.specs.Place.{written}
 use Rattle.log_header.specs.declared.header.Header.{Header}
 use Rattle.log_header.specs.declared.header.LogHeader.TheVariants.{Sound}
-use Rattle.log.specs.Fresh.{gaps}
-use Rattle.log.specs.Walk.{Place, seen_from}
-use Rattle.log.proofs.ViewLaws.{cell_in}
+use Rattle.energy_log.specs.Fresh.{gaps}
+use Rattle.energy_log.specs.Walk.{Place, seen_from}
+use Rattle.energy_log.proofs.ViewLaws.{cell_in}
 use Rattle.log_cell.specs.declared.cell.Cell.{Cell}
 use Rattle.log_cell.specs.declared.cell.Cell.TheVariants.{Gap, Empty, Measured}
 use Rattle.season_nights.specs.Night.{in_hour, missing}

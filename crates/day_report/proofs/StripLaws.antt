@@ -15,10 +15,10 @@ use Rattle.text.proofs.DateTextLaws.{length-date_text}
 use Rattle.slots.specs.Day.{slots_of}
 use Rattle.slots.proofs.DayLaws.{slots_most, slots-at-most}
 use Rattle.log_header.specs.Header.{days_most, sound_of}
-use Rattle.log.specs.Image.{all_good}
-use Rattle.log.specs.Walk.{place_at, walk_from, day_walk}
-use Rattle.log.proofs.WalkLaws.{length_seen, seen_next, seen_end}
-use Rattle.log.specs.View.{View, view_of}
+use Rattle.energy_log.specs.Image.{all_good}
+use Rattle.energy_log.specs.Walk.{place_at, walk_from, day_walk}
+use Rattle.energy_log.proofs.WalkLaws.{length_seen, seen_next, seen_end}
+use Rattle.energy_log.specs.View.{View, view_of}
 use Rattle.log_header.specs.Interval.{day_date, exists_at}
 use Rattle.log_header.proofs.HeaderLaws.{by-sound}
 use Rattle.log_header.specs.declared.interval.DayAnswer.{DayAnswer}

@@ -6,10 +6,10 @@ use Rattle.refusal.specs.Outcome.{Outcome, outcome, check}
 use Rattle.calendar.specs.declared.date.Date.{Date}
 use Rattle.text.specs.DateText.{date_text}
 use Rattle.log_header.specs.Header.{if_sound}
-use Rattle.log.specs.Image.{all_good}
+use Rattle.energy_log.specs.Image.{all_good}
 use Rattle.log_header.specs.Interval.{day_date}
-use Rattle.log.specs.Walk.{Place, day_walk}
-use Rattle.log.specs.View.{View}
+use Rattle.energy_log.specs.Walk.{Place, day_walk}
+use Rattle.energy_log.specs.View.{View}
 use Rattle.log_header.specs.declared.header.Header.{Header}
 use Rattle.log_cell.specs.declared.cell.Cell.TheVariants.{Gap, Empty, Measured}
 use Rattle.log_cell.specs.declared.cell.CellAnswer.{CellAnswer}

@@ -2,8 +2,8 @@
 ghost use Rattle.std.specs.Prelude.{◌≡◌, not};
 ghost use Rattle.refusal.specs.Outcome.{outcome};
 ghost use Rattle.byte_numbers.specs.Place.{written};
-ghost use Rattle.log.specs.Image.{cell_at};
-ghost use Rattle.log.specs.View.{view_of};
+ghost use Rattle.energy_log.specs.Image.{cell_at};
+ghost use Rattle.energy_log.specs.View.{view_of};
 ghost use Rattle.day_rows.specs.Figures.{day_cells};
 ghost use Rattle.day_report.specs.Text.{put_text};
 ghost use Rattle.day_report.specs.Strip.{mark, marks_at, day_marks, strip_of, strip_dated, strip_on, strip_text};
@@ -69,13 +69,13 @@ fn put_marked(log: &[u8], h: Header, date: Date, day: u8, out: &mut [u8]) -> Tex
 fn put_marks(out: &mut [u8], log: &[u8], h: Header, day: u8)
     ensures { out.new ≡ written out.old marks_at (day_marks (cell_at log.now) h day) }
 {
-    let mut at = log::walk_day(h, day);
+    let mut at = energy_log::walk_day(h, day);
     while at.slot < at.slots {
         let night = at.night;
         let missing = season_nights::is_missing(night, h.minutes, at.slot);
-        let mark = mark_at(log, missing, log::index_of(at));
+        let mark = mark_at(log, missing, energy_log::index_of(at));
         byte_numbers::put_byte(out, MARKS + at.slot as usize, mark);
-        at = log::next(at);
+        at = energy_log::next(at);
     }
 }
 
@@ -86,7 +86,7 @@ fn mark_at(log: &[u8], missing: bool, i: usize) -> u8
     if missing {
         return b'-';
     }
-    let CellAnswer::Good(c) = log::cell_at(log, i) else {
+    let CellAnswer::Good(c) = energy_log::cell_at(log, i) else {
         return b'?';
     };
     match c {

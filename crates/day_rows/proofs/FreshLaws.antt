@@ -14,12 +14,12 @@ use Rattle.test_laws.proofs.Test.{chosen}
 use Rattle.byte_numbers.specs.Place.{written}
 use Rattle.byte_numbers.proofs.PlaceLaws.{length-written, written-fits}
 use Rattle.log_header.specs.Header.{is_header, length_of}
-use Rattle.log.specs.Image.{cell_at}
-use Rattle.log.specs.Fresh.{fresh_number, fresh_image, fresh_of}
-use Rattle.log.proofs.FreshLaws.{fresh-gaps, length-fresh_image}
+use Rattle.energy_log.specs.Image.{cell_at}
+use Rattle.energy_log.specs.Fresh.{fresh_number, fresh_image, fresh_of}
+use Rattle.energy_log.proofs.FreshLaws.{fresh-gaps, length-fresh_image}
 use Rattle.log_header.specs.declared.header.Header.{Header}
-use Rattle.log.specs.declared.fresh.FreshAnswer.{FreshAnswer}
-use Rattle.log.specs.declared.fresh.FreshAnswer.TheVariants.{Done, OutOfRange, TooShort}
+use Rattle.energy_log.specs.declared.fresh.FreshAnswer.{FreshAnswer}
+use Rattle.energy_log.specs.declared.fresh.FreshAnswer.TheVariants.{Done, OutOfRange, TooShort}
 use Rattle.day_rows.specs.Rows.{figures_of, all_figures, all_gaps, Right}
 use Rattle.day_rows.proofs.RowsLaws.{filled-front, fresh-right}
 use Rattle.day_rows.specs.LogAndRows.{LogAndRows, log_and_rows, enough}

@@ -3,11 +3,11 @@
 use Rattle.std.specs.Prelude.{ℕ, List, leb, length}
 use Rattle.refusal.specs.Outcome.{Outcome, outcome, check}
 use Rattle.byte_numbers.specs.Place.{written}
-use Rattle.log.specs.Fresh.{fresh_image}
+use Rattle.energy_log.specs.Fresh.{fresh_image}
 use Rattle.log_header.specs.Header.{is_header, length_of}
 use Rattle.log_header.specs.declared.header.Header.{Header}
-use Rattle.log.specs.declared.fresh.FreshAnswer.{FreshAnswer}
-use Rattle.log.specs.declared.fresh.FreshAnswer.TheVariants.{Done, OutOfRange, TooShort}
+use Rattle.energy_log.specs.declared.fresh.FreshAnswer.{FreshAnswer}
+use Rattle.energy_log.specs.declared.fresh.FreshAnswer.TheVariants.{Done, OutOfRange, TooShort}
 use Rattle.day_rows.specs.Rows.{all_figures, all_gaps}
 use Rattle.day_rows.specs.LogAndRows.{LogAndRows, log_and_rows, enough}
 

@@ -2,11 +2,11 @@
 ghost use Rattle.std.specs.Prelude.{◌≡◌, cond};
 ghost use Rattle.refusal.specs.Outcome.{outcome};
 ghost use Rattle.log_header.specs.Header.{is_header};
-ghost use Rattle.log.specs.declared.fresh.FreshAnswer.TheVariants.{TooShort, OutOfRange};
+ghost use Rattle.energy_log.specs.declared.fresh.FreshAnswer.TheVariants.{TooShort, OutOfRange};
 ghost use Rattle.day_rows.specs.LogAndRows.{log_and_rows};
 ghost use Rattle.day_rows.specs.Fresh.{fresh_with};
 
-use log::FreshAnswer;
+use energy_log::FreshAnswer;
 use log_header::Header;
 
 // Both go to the front of what is lent, whose rest stays as it was; a refusal leaves all of it so.
@@ -16,7 +16,7 @@ pub fn fresh_log(h: Header, out: &mut [u8], figures: &mut [u32]) -> FreshAnswer
     if figures.len() < crate::rows::figures_of(h) {
         return few_for(h);
     }
-    match log::fresh_log(h, out) {
+    match energy_log::fresh_log(h, out) {
         FreshAnswer::Done(length) => {
             crate::rows::fill_fresh(h, figures);
             FreshAnswer::Done(length)

@@ -4,9 +4,9 @@ use Rattle.std.specs.Prelude.{ℕ, List, leb, length}
 use Rattle.refusal.specs.Outcome.{Outcome, outcome, check}
 use Rattle.byte_numbers.specs.Place.{written}
 use Rattle.log_header.specs.Header.{cells_of, if_sound}
-use Rattle.log.specs.Image.{goods}
-use Rattle.log.specs.Walk.{seen_from}
-use Rattle.log.specs.View.{View}
+use Rattle.energy_log.specs.Image.{goods}
+use Rattle.energy_log.specs.Walk.{seen_from}
+use Rattle.energy_log.specs.View.{View}
 use Rattle.log_file.specs.File.{file_bytes, file_length, cells_right}
 use Rattle.log_file.specs.declared.write.WriteAnswer.{WriteAnswer}
 use Rattle.log_file.specs.declared.write.WriteAnswer.TheVariants.{Done, Unsound, TooShort}

@@ -3,9 +3,9 @@ ghost use Rattle.std.specs.Prelude.{◌≡◌, true, ◌+◌, ◌≤◌, length}
 ghost use Rattle.refusal.specs.Outcome.{outcome};
 ghost use Rattle.byte_numbers.specs.Place.{written};
 ghost use Rattle.log_header.specs.Header.{header_size, version, is_header, cells_of};
-ghost use Rattle.log.specs.Image.{cell_at, lapses_at, all_good, goods};
-ghost use Rattle.log.specs.Walk.{seen_from};
-ghost use Rattle.log.specs.View.{view_of};
+ghost use Rattle.energy_log.specs.Image.{cell_at, lapses_at, all_good, goods};
+ghost use Rattle.energy_log.specs.Walk.{seen_from};
+ghost use Rattle.energy_log.specs.View.{view_of};
 ghost use Rattle.log_file.specs.Row.{row_size_of, row_start, rows_bytes, put_looked};
 ghost use Rattle.log_file.specs.File.{file_bytes, file_length, cells_right};
 ghost use Rattle.log_file.specs.Write.{write_number, written_file};
@@ -83,7 +83,7 @@ fn put_rows(log: &[u8], cells: usize, out: &mut [u8])
         ≡ written out.old header_size (rows_bytes version 0 (goods (seen_from (cell_at log.now) 0 cells)) (lapses_at log.now)) }
 {
     // Asked for once: what is stored to out might be the header's bytes, as far as the compiler can tell.
-    let n = log::cells_at(log);
+    let n = energy_log::cells_at(log);
     let mut i = 0;
     while i < cells {
         put_known(log, n, i, out);
@@ -99,11 +99,11 @@ fn put_known(log: &[u8], n: u16, i: usize, out: &mut [u8])
     crate::row::put_row(
         out,
         i,
-        log::kind_among(log, n, i),
-        log::e_plus_among(log, n, i),
-        log::e_minus_among(log, n, i),
-        log::r_plus_among(log, n, i),
-        log::r_minus_among(log, n, i),
-        log::lapses_among(log, n, i),
+        energy_log::kind_among(log, n, i),
+        energy_log::e_plus_among(log, n, i),
+        energy_log::e_minus_among(log, n, i),
+        energy_log::r_plus_among(log, n, i),
+        energy_log::r_minus_among(log, n, i),
+        energy_log::lapses_among(log, n, i),
     );
 }

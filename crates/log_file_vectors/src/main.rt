@@ -393,10 +393,10 @@ fn write_lapses() {
     let mut figures = [0u32; day_rows::FIGURES_MOST];
     log_file::read_file(&late_spring(SLOT_0, b"\x00"), &mut image, &mut figures);
     write(b"spring, all gaps", &image);
-    log::put_lapses(&mut image, 4, 1);
+    energy_log::put_lapses(&mut image, 4, 1);
     write(b"spring, slot 4 one lapse", &image);
-    log::put_lapses(&mut image, 4, 0);
-    log::put_lapses(&mut image, 6, 255);
+    energy_log::put_lapses(&mut image, 4, 0);
+    energy_log::put_lapses(&mut image, 6, 255);
     write(b"spring, slot 6 255 lapses", &image);
 }
 
@@ -591,7 +591,7 @@ fn show_lapses(image: &[u8]) {
 }
 
 fn lapses_of(image: &[u8], i: usize) {
-    number(log::lapses_at(image, i) as u64);
+    number(energy_log::lapses_at(image, i) as u64);
 }
 
 // A header, and the rows of two cells, where all others are gaps.

@@ -7,8 +7,8 @@ use Rattle.byte_numbers.specs.Number.{Bytes}
 use Rattle.log_header.specs.Header.{sound_of}
 use Rattle.log_header.specs.Interval.{interval_of, comes_twice}
 use Rattle.log_header.specs.declared.interval.Interval.TheVariants.{At}
-use Rattle.log.specs.View.{View, view_of}
-use Rattle.log.proofs.ViewLaws.{AreCells, seen-are-cells, changed, bytes-applied}
+use Rattle.energy_log.specs.View.{View, view_of}
+use Rattle.energy_log.proofs.ViewLaws.{AreCells, seen-are-cells, changed, bytes-applied}
 use Rattle.log_header.specs.declared.header.Header.{Header}
 use Rattle.log_header.specs.declared.header.LogHeader.TheVariants.{Sound}
 use Rattle.day_rows.specs.Rows.{row_at, Right}

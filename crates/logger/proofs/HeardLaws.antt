@@ -10,15 +10,15 @@ use Rattle.frame.specs.Layout.{slice_reply}
 use Rattle.reader.proofs.FormLaws.{formed-answers}
 use Rattle.reader.specs.declared.form.Form.TheVariants.{WellFormed}
 use Rattle.log_header.specs.Header.{sound_of}
-use Rattle.log.specs.View.{View, view_of}
-use Rattle.log.proofs.ViewLaws.{changed, seen-are-cells}
+use Rattle.energy_log.specs.View.{View, view_of}
+use Rattle.energy_log.proofs.ViewLaws.{changed, seen-are-cells}
 use Rattle.log_header.specs.Interval.{interval_of, comes_twice}
 use Rattle.log_cell.specs.declared.cell.Cell.{Cell}
 use Rattle.log_cell.specs.declared.cell.CellAnswer.TheVariants.{Good}
 use Rattle.log_header.specs.declared.header.Header.{Header}
 use Rattle.log_header.specs.declared.header.LogHeader.TheVariants.{Sound}
-use Rattle.log.specs.declared.image.Change.{Change}
-use Rattle.log.specs.declared.image.Change.TheVariants as change
+use Rattle.energy_log.specs.declared.image.Change.{Change}
+use Rattle.energy_log.specs.declared.image.Change.TheVariants as change
 use Rattle.log_header.specs.declared.interval.Interval.TheVariants.{At}
 use Rattle.day_rows.specs.LogAndRows.{LogAndRows, enough}
 use Rattle.day_rows.specs.Put.{change_of}

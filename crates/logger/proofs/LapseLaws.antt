@@ -8,14 +8,14 @@ use lib.Dec.{ltb}
 use borrow.Author.Tests.{ltb-true}
 use Rattle.log_header.proofs.HeaderLaws.{by-sound}
 use Rattle.log_cell.proofs.CellLaws.{by-good}
-use Rattle.log.specs.View.{View, view_of}
-use Rattle.log.proofs.ViewLaws.{changed, Within, Holds, view-applied}
+use Rattle.energy_log.specs.View.{View, view_of}
+use Rattle.energy_log.proofs.ViewLaws.{changed, Within, Holds, view-applied}
 use Rattle.log_header.specs.Interval.{interval_of}
 use Rattle.log_header.proofs.IntervalLaws.{interval-below, by-at}
 use Rattle.log_header.specs.declared.header.Header.{Header}
 use Rattle.log_header.specs.declared.header.LogHeader.{LogHeader}
 use Rattle.log_header.specs.declared.header.LogHeader.TheVariants as lent
-use Rattle.log.specs.declared.image.Change.TheVariants as change
+use Rattle.energy_log.specs.declared.image.Change.TheVariants as change
 use Rattle.logger.specs.Held.{OpenFor}
 use Rattle.logger.specs.Lapse.{lapses_most, one_more, stays, lapse_closes, lapsing, lapsed}
 use Rattle.logger.proofs.TakeLaws.{by-open}

@@ -8,11 +8,11 @@ use borrow.Author.Tests.{ne_eqb, le-ltb, le-leb}
 use Rattle.refusal.specs.Outcome.{outcome}
 use Rattle.frame.specs.Layout.{read_size}
 use Rattle.log_header.specs.Header.{sound_of}
-use Rattle.log.specs.Image.{applied}
+use Rattle.energy_log.specs.Image.{applied}
 use Rattle.log_header.specs.Interval.{interval_of, exists, exists_at}
 use Rattle.log_header.proofs.IntervalLaws.{interval-exists}
-use Rattle.log.specs.View.{View, view_of}
-use Rattle.log.proofs.ViewLaws.{changed}
+use Rattle.energy_log.specs.View.{View, view_of}
+use Rattle.energy_log.proofs.ViewLaws.{changed}
 use Rattle.log_header.specs.declared.header.Header.{Header}
 use Rattle.log_header.specs.declared.header.LogHeader.TheVariants.{Sound}
 use Rattle.log_header.specs.declared.interval.Interval.TheVariants.{Outside}

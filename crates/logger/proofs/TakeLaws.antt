@@ -19,8 +19,8 @@ use Rattle.log_header.proofs.HeaderLaws.{by-sound}
 use Rattle.log_cell.specs.Cell.{no_counts, is_cell, CountsFit, IsCell}
 use Rattle.wire_values.specs.Row.{row, row_at, is_zero, alike}
 use Rattle.log_cell.proofs.CellLaws.{empty-is-cell, by-good}
-use Rattle.log.specs.View.{View, view_of}
-use Rattle.log.proofs.ViewLaws.{changed, Within, Holds, view-applied}
+use Rattle.energy_log.specs.View.{View, view_of}
+use Rattle.energy_log.proofs.ViewLaws.{changed, Within, Holds, view-applied}
 use Rattle.log_header.specs.Interval.{interval_of, comes_twice}
 use Rattle.log_header.proofs.IntervalLaws.{interval-below, by-at}
 use Rattle.log_cell.specs.declared.cell.Cell.{Cell}
@@ -30,7 +30,7 @@ use Rattle.log_header.specs.declared.header.Header.{Header}
 use Rattle.log_header.specs.declared.interval.Interval.TheVariants.{Outside}
 use Rattle.log_header.specs.declared.header.LogHeader.{LogHeader}
 use Rattle.log_header.specs.declared.header.LogHeader.TheVariants as lent
-use Rattle.log.specs.declared.image.Change.TheVariants as change
+use Rattle.energy_log.specs.declared.image.Change.TheVariants as change
 use Rattle.refusal.specs.Outcome.{Outcome, outcome, check}
 use Rattle.day_rows.specs.LogAndRows.{log_and_rows, enough}
 use Rattle.day_rows.specs.Put.{change_of}

@@ -12,7 +12,7 @@ use Rattle.calendar.specs.Date.{date_of, day_number}
 use Rattle.calendar.specs.declared.date.Date.{Date}
 use Rattle.request.specs.declared.request.Request.{Request}
 use Rattle.log_header.specs.Header.{if_sound}
-use Rattle.log.specs.View.{View}
+use Rattle.energy_log.specs.View.{View}
 use Rattle.log_header.specs.Interval.{interval_of, if_at}
 use Rattle.log_header.specs.declared.header.Header.{Header}
 use Rattle.logger.specs.Held.{if_none}

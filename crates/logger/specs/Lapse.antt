@@ -4,11 +4,11 @@ use Rattle.std.specs.Prelude.{cond, List, ℕ, ◌+◌, ltb}
 use Rattle.refusal.specs.Outcome.{Outcome, outcome}
 use Rattle.log_header.specs.Header.{if_sound}
 use Rattle.log_cell.specs.Cell.{if_good}
-use Rattle.log.specs.Image.{applied}
-use Rattle.log.specs.View.{View, view_of}
+use Rattle.energy_log.specs.Image.{applied}
+use Rattle.energy_log.specs.View.{View, view_of}
 use Rattle.log_header.specs.Interval.{interval_of, if_at}
-use Rattle.log.specs.declared.image.Change.{Change}
-use Rattle.log.specs.declared.image.Change.TheVariants as change
+use Rattle.energy_log.specs.declared.image.Change.{Change}
+use Rattle.energy_log.specs.declared.image.Change.TheVariants as change
 use Rattle.logger.specs.Held.{if_open}
 use Rattle.logger.specs.declared.no_reply.LapseAnswer.{LapseAnswer}
 use Rattle.logger.specs.declared.no_reply.LapseAnswer.TheVariants.{Done, NotInLog, Unsound}

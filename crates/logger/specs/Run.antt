@@ -2,7 +2,7 @@
 -- the contracts of `put_ask`, `lapse` and `take_reply` cite.
 use Rattle.std.specs.Prelude.{List, ℕ}
 use Rattle.refusal.specs.Outcome.{Outcome, outcome}
-use Rattle.log.specs.View.{view_of}
+use Rattle.energy_log.specs.View.{view_of}
 use Rattle.day_rows.specs.LogAndRows.{LogAndRows, log_and_rows}
 use Rattle.logger.specs.Ask as Ask
 use Rattle.logger.specs.Lapse as Lapse

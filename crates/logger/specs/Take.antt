@@ -11,13 +11,13 @@ use Rattle.reader.specs.Form as form
 use Rattle.reader.specs.Form.{if_reply, fault_number}
 use Rattle.log_header.specs.Header.{if_sound}
 use Rattle.log_cell.specs.Cell.{if_good}
-use Rattle.log.specs.Image.{applied}
-use Rattle.log.specs.View.{View, view_of}
+use Rattle.energy_log.specs.Image.{applied}
+use Rattle.energy_log.specs.View.{View, view_of}
 use Rattle.log_header.specs.Interval.{interval_of, comes_twice, if_at}
 use Rattle.log_cell.specs.declared.cell.Cell.{Cell}
 use Rattle.log_cell.specs.declared.cell.Cell.TheVariants as cell
-use Rattle.log.specs.declared.image.Change.{Change}
-use Rattle.log.specs.declared.image.Change.TheVariants as change
+use Rattle.energy_log.specs.declared.image.Change.{Change}
+use Rattle.energy_log.specs.declared.image.Change.TheVariants as change
 use Rattle.day_rows.specs.LogAndRows.{LogAndRows, log_and_rows, enough}
 use Rattle.day_rows.specs.Put.{change_of}
 use Rattle.day_rows.specs.declared.put.FigureAnswer.{FigureAnswer}

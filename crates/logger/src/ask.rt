@@ -4,7 +4,7 @@ ghost use Rattle.refusal.specs.Outcome.{outcome};
 ghost use Rattle.frame.specs.Layout.{read_size};
 ghost use Rattle.slots.specs.Day.{slots_of};
 ghost use Rattle.log_header.specs.Header.{is_header};
-ghost use Rattle.log.specs.View.{view_of};
+ghost use Rattle.energy_log.specs.View.{view_of};
 ghost use Rattle.byte_numbers.specs.Place.{written};
 ghost use Rattle.logger.specs.Ask.{asked, ask_frame, number_of};
 

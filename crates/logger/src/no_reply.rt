@@ -1,11 +1,11 @@
 // A lapse: no reply came to the open ask.
 ghost use Rattle.std.specs.Prelude.{◌≡◌};
 ghost use Rattle.refusal.specs.Outcome.{outcome};
-ghost use Rattle.log.specs.View.{view_of};
+ghost use Rattle.energy_log.specs.View.{view_of};
 ghost use Rattle.logger.specs.Lapse.{one_more, stays, lapse_closes, lapsing, lapsed, number_of};
 
 use crate::held::OpenAsk;
-use log::Change;
+use energy_log::Change;
 use log_cell::CellAnswer;
 use log_header::{Interval, LogHeader};
 
@@ -52,7 +52,7 @@ pub fn lapse(log: &mut [u8], held: OpenAsk) -> Lapsed
 {
     let lapsing = lapsing(log, held);
     let change = lapsing.change;
-    log::apply(log, change);
+    energy_log::apply(log, change);
     lapsing.lapsed
 }
 
@@ -69,10 +69,10 @@ fn lapsing(log: &[u8], held: OpenAsk) -> LapseDecision
     let Interval::At(i) = log_header::interval_of(h, day, slot) else {
         return stays(LapseAnswer::NotInLog, held);
     };
-    let CellAnswer::Good(_) = log::cell_at(log, i) else {
+    let CellAnswer::Good(_) = energy_log::cell_at(log, i) else {
         return stays(LapseAnswer::Unsound, held);
     };
-    closes(Change::Lapses(i, one_more(log::lapses_at(log, i))))
+    closes(Change::Lapses(i, one_more(energy_log::lapses_at(log, i))))
 }
 
 fn one_more(lapses: u8) -> u8

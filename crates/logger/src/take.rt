@@ -1,9 +1,9 @@
 // Taking a reply for the open ask.
 ghost use Rattle.std.specs.Prelude.{◌≡◌};
 ghost use Rattle.refusal.specs.Outcome.{outcome};
-ghost use Rattle.log.specs.View.{view_of};
+ghost use Rattle.energy_log.specs.View.{view_of};
 ghost use Rattle.log_cell.specs.Cell.{if_good};
-ghost use Rattle.log.specs.Image.{cell_at};
+ghost use Rattle.energy_log.specs.Image.{cell_at};
 ghost use Rattle.day_rows.specs.LogAndRows.{log_and_rows};
 ghost use Rattle.logger.specs.declared.take.TakeAnswer.TheVariants.{Unsound};
 ghost use Rattle.logger.specs.Take.{taken, decided, stays, take_closes, put_with, updated, update_of, filled, compared, number_of, result_or, length_or};
@@ -11,7 +11,7 @@ ghost use Rattle.logger.specs.Take.{taken, decided, stays, take_closes, put_with
 use crate::held::OpenAsk;
 use day_rows::FigureAnswer;
 use frame::layout;
-use log::Change;
+use energy_log::Change;
 use log_cell::{Cell, CellAnswer};
 use log_header::{Interval, LogHeader};
 use parameters::code;
@@ -113,7 +113,7 @@ pub fn take_reply(log: &mut [u8], figures: &mut [u32], held: OpenAsk, reply: &[u
 {
     let decided = decided(log, figures, held, reply);
     let change = decided.change;
-    log::apply(log, change);
+    energy_log::apply(log, change);
     decided.taken
 }
 
@@ -159,7 +159,7 @@ fn into_cell(
     ensures { outcome result figures.new ≡ if_good (cell_at log.now i) (outcome (stays Unsound held) figures.old)
         (λ c. updated (update_of c row) twice held day i c figures.old) }
 {
-    let CellAnswer::Good(cell) = log::cell_at(log, i) else {
+    let CellAnswer::Good(cell) = energy_log::cell_at(log, i) else {
         return stays(TakeAnswer::Unsound, held);
     };
     let update = update_of(cell, row);

@@ -71,8 +71,7 @@ pub fn quiet_second(p: Protection) -> Protection
     }
 }
 
-// The same in place: "one small record that each second changes in place". No function behind a reference to a struct is covered, so this
-// one is thin, and proved by hand.
+// The same in place: "one small record that each second changes in place".
 pub fn tick(p: &mut Protection)
     ensures { p.new ≡ quiet_second p.old }
 {

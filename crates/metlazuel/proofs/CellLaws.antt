@@ -2,7 +2,7 @@
 use mathlib.Core.Path.{◌≡◌, refl}
 use Prim.Native.Nat.{ℕ}
 use native.Mathlib.Omega.{arith}
-use Rattle.log.specs.View.{View}
+use Rattle.energy_log.specs.View.{View}
 use Rattle.polling.specs.Next.{next_gap}
 use Rattle.polling.specs.declared.next.Next.{Next}
 use Rattle.polling.specs.declared.next.Next.TheVariants.{Slot, Nothing}

@@ -4,7 +4,7 @@ use Rattle.refusal.specs.Outcome.{Outcome, outcome, check}
 use Rattle.log_header.specs.Header.{if_sound}
 use Rattle.log_header.specs.Interval.{interval_of, if_at}
 use Rattle.log_cell.specs.Cell.{if_good}
-use Rattle.log.specs.View.{View}
+use Rattle.energy_log.specs.View.{View}
 use Rattle.log_cell.specs.declared.cell.Cell.{Cell}
 use Rattle.log_cell.specs.declared.cell.Cell.TheVariants.{Gap, Empty, Measured}
 use Rattle.polling.specs.Next.{next_gap}

@@ -3,10 +3,10 @@ use Rattle.std.specs.Prelude.{List, ℕ, length}
 use Rattle.refusal.specs.Outcome.{Outcome, outcome}
 use Rattle.byte_numbers.specs.Place.{written}
 use Rattle.frame.specs.Layout.{read_size}
-use Rattle.log.specs.View.{View}
+use Rattle.energy_log.specs.View.{View}
 use Rattle.log_header.specs.declared.header.Header.{Header}
-use Rattle.log.specs.declared.fresh.FreshAnswer.{FreshAnswer}
-use Rattle.log.specs.declared.fresh.FreshAnswer.TheVariants as made
+use Rattle.energy_log.specs.declared.fresh.FreshAnswer.{FreshAnswer}
+use Rattle.energy_log.specs.declared.fresh.FreshAnswer.TheVariants as made
 use Rattle.day_rows.specs.LogAndRows.{LogAndRows}
 use Rattle.log_file.specs.declared.read.ReadAnswer.{ReadAnswer}
 use Rattle.log_file.specs.Read.{if_read}

@@ -1,7 +1,7 @@
 // Single cells of a log for C: what one holds, and which one is asked for next. A refusal leaves what is lent.
 ghost use Rattle.std.specs.Prelude.{◌≡◌};
 ghost use Rattle.refusal.specs.Outcome.{outcome};
-ghost use Rattle.log.specs.View.{view_of};
+ghost use Rattle.energy_log.specs.View.{view_of};
 ghost use Rattle.metlazuel.specs.CellCalls.{kind_of, counts_of, cell_for_c, slot_of, next_gap_for_c};
 
 use log_cell::{Cell, CellAnswer};
@@ -40,12 +40,12 @@ pub extern "C" fn metlazuel_cell(
     let Interval::At(i) = log_header::interval_of(h, day, slot) else {
         return refusal::NOT_IN_LOG;
     };
-    let CellAnswer::Good(c) = log::cell_at(log, i) else {
+    let CellAnswer::Good(c) = energy_log::cell_at(log, i) else {
         return refusal::UNSOUND;
     };
     *kind = kind_of(c);
     *counts = counts_of(c);
-    *lapses = log::lapses_at(log, i);
+    *lapses = energy_log::lapses_at(log, i);
     refusal::DONE
 }
 

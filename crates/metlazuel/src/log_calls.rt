@@ -3,8 +3,8 @@
 // open ask where document 01's table closes it.
 ghost use Rattle.std.specs.Prelude.{◌≡◌};
 ghost use Rattle.refusal.specs.Outcome.{outcome};
-ghost use Rattle.log.specs.Fresh.{fresh_number};
-ghost use Rattle.log.specs.View.{view_of};
+ghost use Rattle.energy_log.specs.Fresh.{fresh_number};
+ghost use Rattle.energy_log.specs.View.{view_of};
 ghost use Rattle.day_rows.specs.LogAndRows.{log_and_rows};
 ghost use Rattle.day_rows.specs.Fresh.{fresh_with};
 ghost use Rattle.log_file.specs.Write.{written_file, write_number};
@@ -16,7 +16,7 @@ use crate::given;
 use c_values::AskRead;
 use calendar::Date;
 use frame::layout::READ_BYTES;
-use log::FreshAnswer;
+use energy_log::FreshAnswer;
 use log_file::WriteAnswer;
 use log_header::Header;
 use logger::OpenAsk;

@@ -2,8 +2,8 @@
 use mathlib.Core.Path.{◌≡◌, refl, ap}
 use mathlib.Core.List.{List, [], ◌∷◌}
 use Prim.Native.Nat.{ℕ}
-use Rattle.log.specs.Fresh.{fresh_image}
-use Rattle.log.specs.View.{View}
+use Rattle.energy_log.specs.Fresh.{fresh_image}
+use Rattle.energy_log.specs.View.{View}
 use Rattle.day_rows.specs.LogAndRows.{LogAndRows}
 use Rattle.day_rows.specs.Fresh.{fresh_with}
 use Rattle.log_file.specs.Read.{read_cells, read_fields, read_file}

@@ -6,10 +6,10 @@ use Prim.Native.Nat.{ℕ}
 use lib.ListN.{take}
 use Rattle.refusal.specs.Outcome.{Outcome}
 use Rattle.byte_numbers.specs.Number.{Bytes}
-use Rattle.log.specs.Fresh.{fresh_number}
+use Rattle.energy_log.specs.Fresh.{fresh_number}
 use Rattle.log_header.specs.declared.header.Header.{Header}
 use Rattle.log_header.specs.declared.header.LogHeader.TheVariants.{Sound}
-use Rattle.log.specs.declared.fresh.FreshAnswer.TheVariants as fresh
+use Rattle.energy_log.specs.declared.fresh.FreshAnswer.TheVariants as fresh
 use Rattle.day_rows.specs.LogAndRows.{LogAndRows, log_and_rows}
 use Rattle.log_file.specs.Read.{read_number}
 use Rattle.log_file.specs.declared.read.ReadAnswer.TheVariants as read

@@ -13,14 +13,14 @@ use Rattle.byte_numbers.specs.Number.{Bytes}
 use Rattle.byte_numbers.specs.Place.{written}
 use Rattle.test_laws.proofs.Test.{either}
 use Rattle.frame.specs.Layout.{read_size}
-use Rattle.log.specs.Fresh.{fresh_number}
-use Rattle.log.specs.View.{View}
+use Rattle.energy_log.specs.Fresh.{fresh_number}
+use Rattle.energy_log.specs.View.{View}
 use Rattle.log_header.specs.declared.header.LogHeader.TheVariants.{Sound}
-use Rattle.log.specs.declared.fresh.FreshAnswer.{FreshAnswer}
-use Rattle.log.specs.declared.fresh.FreshAnswer.TheVariants as fresh
+use Rattle.energy_log.specs.declared.fresh.FreshAnswer.{FreshAnswer}
+use Rattle.energy_log.specs.declared.fresh.FreshAnswer.TheVariants as fresh
 use Rattle.log_header.proofs.HeaderLaws.{sound-log}
-use Rattle.log.proofs.ImageLaws.{bytes-written}
-use Rattle.log.proofs.ViewLaws as new
+use Rattle.energy_log.proofs.ImageLaws.{bytes-written}
+use Rattle.energy_log.proofs.ViewLaws as new
 use Rattle.day_rows.specs.LogAndRows.{LogAndRows, log_and_rows}
 use Rattle.log_file.specs.Read.{read_number}
 use Rattle.log_file.specs.declared.read.ReadAnswer.{ReadAnswer}

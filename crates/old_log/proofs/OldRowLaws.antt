@@ -17,9 +17,9 @@ use Rattle.log_header.specs.Header.{header_size, version, cells_of, is_header, h
 use Rattle.log_header.proofs.HeaderLaws.{length-header_bytes, mark-right, version-right, header-right}
 use Rattle.log_cell.specs.Cell.{counts_size, cell_size, cell_of, counts_bytes, cell_bytes, IsCell}
 use Rattle.log_cell.proofs.CellLaws.{length-counts_bytes, length-cell_bytes, cell_of-bytes}
-use Rattle.log.specs.Image.{AllCells}
-use Rattle.log.specs.View.{View}
-use Rattle.log.proofs.ViewLaws.{changed, Within, Holds, cell_in, cell_in, none_in, view_by, same_view, within}
+use Rattle.energy_log.specs.Image.{AllCells}
+use Rattle.energy_log.specs.View.{View}
+use Rattle.energy_log.proofs.ViewLaws.{changed, Within, Holds, cell_in, cell_in, none_in, view_by, same_view, within}
 use Rattle.old_log.specs.OldRows.{length_of, fitted_to, sound_of, cell_start, lapses_place, cell_at, lapses_at, view_of, put_cell, put_lapses, applied, cells_bytes, image_of}
 use Rattle.log_header.specs.declared.header.Header.{Header}
 use Rattle.log_header.specs.declared.header.HeaderAnswer.TheVariants.{Right, Wrong}
@@ -29,8 +29,8 @@ use Rattle.log_cell.specs.declared.cell.Cell.{Cell}
 use Rattle.log_cell.specs.declared.cell.Cell.TheVariants.{Gap}
 use Rattle.log_cell.specs.declared.cell.CellAnswer.{CellAnswer}
 use Rattle.log_cell.specs.declared.cell.CellAnswer.TheVariants.{Good, Bad}
-use Rattle.log.specs.declared.image.Change.{Change}
-use Rattle.log.specs.declared.image.Change.TheVariants.{None, Put, Lapses}
+use Rattle.energy_log.specs.declared.image.Change.{Change}
+use Rattle.energy_log.specs.declared.image.Change.TheVariants.{None, Put, Lapses}
 
 -- ---- an old log is as long as its header says
 

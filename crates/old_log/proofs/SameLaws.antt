@@ -13,21 +13,21 @@ use Rattle.byte_numbers.specs.Number.{Bytes}
 use Rattle.byte_numbers.specs.Place.{written}
 use Rattle.frame.specs.Sealing.{crc_fits}
 use Rattle.log_header.specs.Header.{header_size, is_header, cells_of, length_of, mark_right, version_at, if_right}
-use Rattle.log.specs.Image.{applied, image_of, AllCells}
-use Rattle.log.specs.View.{View, view_of}
-use Rattle.log.specs.Fresh.{gaps, no_lapses, fresh_number}
+use Rattle.energy_log.specs.Image.{applied, image_of, AllCells}
+use Rattle.energy_log.specs.View.{View, view_of}
+use Rattle.energy_log.specs.Fresh.{gaps, no_lapses, fresh_number}
 use Rattle.log_cell.proofs.CellLaws.{gap-is-cell}
-use Rattle.log.proofs.FreshLaws.{length-gaps, gap_at}
-use Rattle.log.proofs.ImageLaws.{length-image_of, sound-image}
-use Rattle.log.proofs.ViewLaws as new
-use Rattle.log.proofs.ViewLaws.{changed, Holds}
+use Rattle.energy_log.proofs.FreshLaws.{length-gaps, gap_at}
+use Rattle.energy_log.proofs.ImageLaws.{length-image_of, sound-image}
+use Rattle.energy_log.proofs.ViewLaws as new
+use Rattle.energy_log.proofs.ViewLaws.{changed, Holds}
 use Rattle.log_header.specs.declared.header.Header.{Header}
 use Rattle.log_header.specs.declared.header.HeaderAnswer.{HeaderAnswer}
 use Rattle.log_header.specs.declared.header.HeaderAnswer.TheVariants.{Right, Wrong}
 use Rattle.log_cell.specs.declared.cell.Cell.{Cell}
 use Rattle.log_cell.specs.declared.cell.Cell.TheVariants.{Gap}
-use Rattle.log.specs.declared.image.Change.{Change}
-use Rattle.log.specs.declared.fresh.FreshAnswer.TheVariants as fresh
+use Rattle.energy_log.specs.declared.image.Change.{Change}
+use Rattle.energy_log.specs.declared.fresh.FreshAnswer.TheVariants as fresh
 use Rattle.day_rows.specs.LogAndRows.{LogAndRows, log_and_rows, enough}
 use Rattle.log_file.specs.Row.{row_at, lapses_in}
 use Rattle.log_file.specs.File.{is_version, file_header, file_length_as, cells_in, cells_right}

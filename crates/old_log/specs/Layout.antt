@@ -5,14 +5,14 @@ use Rattle.refusal.specs.Outcome.{Outcome, outcome, check}
 use Rattle.byte_numbers.specs.Place.{written}
 use Rattle.frame.specs.Sealing.{crc_fits}
 use Rattle.log_header.specs.Header.{header_size, is_header, cells_of, length_of, mark_right, version_at, if_right}
-use Rattle.log.specs.Image.{applied, image_of}
-use Rattle.log.specs.View.{View, view_of}
-use Rattle.log.specs.Fresh.{gaps, no_lapses}
+use Rattle.energy_log.specs.Image.{applied, image_of}
+use Rattle.energy_log.specs.View.{View, view_of}
+use Rattle.energy_log.specs.Fresh.{gaps, no_lapses}
 use Rattle.log_header.specs.declared.header.Header.{Header}
 use Rattle.log_cell.specs.declared.cell.Cell.{Cell}
-use Rattle.log.specs.declared.image.Change.{Change}
-use Rattle.log.specs.declared.fresh.FreshAnswer.{FreshAnswer}
-use Rattle.log.specs.declared.fresh.FreshAnswer.TheVariants as fresh
+use Rattle.energy_log.specs.declared.image.Change.{Change}
+use Rattle.energy_log.specs.declared.fresh.FreshAnswer.{FreshAnswer}
+use Rattle.energy_log.specs.declared.fresh.FreshAnswer.TheVariants as fresh
 use Rattle.day_rows.specs.Rows.{all_figures, all_gaps}
 use Rattle.day_rows.specs.LogAndRows.{LogAndRows, log_and_rows, enough}
 use Rattle.log_file.specs.Row.{row_at, lapses_in}

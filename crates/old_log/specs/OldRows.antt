@@ -5,7 +5,7 @@ use Rattle.std.specs.Prelude.{ℕ, suc, ◌+◌, ◌*◌, cond, ◌&&◌, List, 
 use Rattle.byte_numbers.specs.Place.{byte_at, written}
 use Rattle.log_header.specs.Header.{header_size, header_bytes, cells_of, header_of, mark_right, version_right, if_sound}
 use Rattle.log_cell.specs.Cell.{counts_size, cell_size, cell_of, counts_bytes, cell_bytes}
-use Rattle.log.specs.View.{View}
+use Rattle.energy_log.specs.View.{View}
 use Rattle.log_header.specs.declared.header.Header.{Header}
 use Rattle.log_header.specs.declared.header.HeaderAnswer.{HeaderAnswer}
 use Rattle.log_header.specs.declared.header.HeaderAnswer.TheVariants.{Right, Wrong}
@@ -14,8 +14,8 @@ use Rattle.log_header.specs.declared.header.LogHeader.TheVariants.{Sound, Unsoun
 use Rattle.log_cell.specs.declared.cell.Cell.{Cell}
 use Rattle.log_cell.specs.declared.cell.CellAnswer.{CellAnswer}
 use Rattle.log_cell.specs.declared.cell.CellAnswer.TheVariants.{Bad}
-use Rattle.log.specs.declared.image.Change.{Change}
-use Rattle.log.specs.declared.image.Change.TheVariants.{None, Put, Lapses}
+use Rattle.energy_log.specs.declared.image.Change.{Change}
+use Rattle.energy_log.specs.declared.image.Change.TheVariants.{None, Put, Lapses}
 
 -- "14 bytes. Then cells in time order", 10 bytes each (CR 7)
 unfoldable pub length_of : Header → ℕ

@@ -4,12 +4,12 @@
 use Rattle.std.specs.Prelude.{◌≡◌, List, ℕ, ◌≤◌, length, take}
 use Rattle.refusal.specs.Outcome.{Outcome}
 use Rattle.byte_numbers.specs.Number.{Bytes}
-use Rattle.log.specs.Fresh.{fresh_number}
-use Rattle.log.specs.View.{View}
+use Rattle.energy_log.specs.Fresh.{fresh_number}
+use Rattle.energy_log.specs.View.{View}
 use Rattle.log_header.specs.declared.header.Header.{Header}
 use Rattle.log_header.specs.declared.header.HeaderAnswer.TheVariants.{Right}
 use Rattle.log_header.specs.declared.header.LogHeader.TheVariants.{Sound}
-use Rattle.log.specs.declared.fresh.FreshAnswer.TheVariants as fresh
+use Rattle.energy_log.specs.declared.fresh.FreshAnswer.TheVariants as fresh
 use Rattle.day_rows.specs.LogAndRows.{LogAndRows, log_and_rows}
 use Rattle.day_rows.specs.Fresh.{fresh_with}
 use Rattle.log_file.specs.File.{file_header}

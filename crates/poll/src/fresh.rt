@@ -2,7 +2,7 @@
 use crate::arguments;
 use crate::arguments::Start;
 use day_rows::FIGURES_MOST;
-use log::FreshAnswer;
+use energy_log::FreshAnswer;
 use log_header::{Header, IMAGE_MOST};
 use paths_and_locks::front;
 use poll_days::{SaveAnswer, Way};

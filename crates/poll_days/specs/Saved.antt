@@ -1,7 +1,7 @@
 -- What a poll hands over to be written: of what the system then writes no contract can speak.
 use Rattle.std.specs.Prelude.{◌≡◌, List, ℕ}
 use Rattle.refusal.specs.Outcome.{outcome}
-use Rattle.log.specs.View.{view_of}
+use Rattle.energy_log.specs.View.{view_of}
 use Rattle.log_file.specs.Write.{written_file}
 use Rattle.log_file.specs.declared.write.WriteAnswer.TheVariants.{Done}
 

@@ -14,9 +14,9 @@ use Rattle.slots.proofs.DayLaws.{slots_most, slots-at-most}
 use Rattle.log_header.specs.Header.{if_sound}
 use Rattle.log_header.specs.Interval.{interval_of, if_at, exists}
 use Rattle.log_header.proofs.IntervalLaws.{InLog, in-log, interval-at, exists-index}
-use Rattle.log.specs.Walk.{Place, place_at, day_walk}
-use Rattle.log.proofs.WalkLaws.{length_seen, seen_at}
-use Rattle.log.specs.View.{View}
+use Rattle.energy_log.specs.Walk.{Place, place_at, day_walk}
+use Rattle.energy_log.proofs.WalkLaws.{length_seen, seen_at}
+use Rattle.energy_log.specs.View.{View}
 use Rattle.log_header.specs.declared.header.Header.{Header}
 use Rattle.log_header.specs.declared.header.LogHeader.{LogHeader}
 use Rattle.log_header.specs.declared.interval.Interval.{Interval}

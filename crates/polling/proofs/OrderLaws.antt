@@ -12,9 +12,9 @@ use borrow.Author.Tests.{ltb-true, ltb-false, le-ltb, lt-leb}
 use Rattle.slots.specs.Day.{slots_of}
 use Rattle.log_header.specs.Header.{if_sound}
 use Rattle.log_header.specs.Interval.{interval_of, if_at, exists}
-use Rattle.log.specs.Walk.{Place, place_at, day_walk}
-use Rattle.log.proofs.WalkLaws.{length_seen, seen_at}
-use Rattle.log.specs.View.{View}
+use Rattle.energy_log.specs.Walk.{Place, place_at, day_walk}
+use Rattle.energy_log.proofs.WalkLaws.{length_seen, seen_at}
+use Rattle.energy_log.specs.View.{View}
 use Rattle.log_header.specs.declared.interval.Interval.TheVariants.{At, Outside}
 use Rattle.log_cell.specs.declared.cell.CellAnswer.{CellAnswer}
 use Rattle.log_header.specs.declared.header.Header.{Header}

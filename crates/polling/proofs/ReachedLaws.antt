@@ -4,7 +4,7 @@ use mathlib.Core.Path.{◌≡◌, refl, sym, ap, ◌∙◌}
 use mathlib.Core.List.{List, [], ◌∷◌, ◌++◌}
 use Rattle.refusal.specs.Outcome.{Outcome, outcome}
 use Rattle.byte_numbers.specs.Number.{Bytes}
-use Rattle.log.specs.View.{view_of}
+use Rattle.energy_log.specs.View.{view_of}
 use Rattle.day_rows.specs.LogAndRows.{LogAndRows}
 use Rattle.logger.specs.Book.{Call, ask, AllBytes, run_of}
 use Rattle.logger.specs.Run.{State, state, step, run}

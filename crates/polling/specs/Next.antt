@@ -3,8 +3,8 @@
 use Rattle.std.specs.Prelude.{ℕ, Bool, true, false, cond, ◌&&◌, List, [], ◌∷◌, ltb, drop}
 use Rattle.log_header.specs.Header.{if_sound}
 use Rattle.log_header.specs.Interval.{interval_of, if_at}
-use Rattle.log.specs.Walk.{Place, day_walk}
-use Rattle.log.specs.View.{View}
+use Rattle.energy_log.specs.Walk.{Place, day_walk}
+use Rattle.energy_log.specs.View.{View}
 use Rattle.log_header.specs.declared.header.Header.{Header}
 use Rattle.log_cell.specs.declared.cell.Cell.TheVariants.{Gap, Empty, Measured}
 use Rattle.log_cell.specs.declared.cell.CellAnswer.{CellAnswer}

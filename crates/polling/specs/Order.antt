@@ -1,8 +1,8 @@
 -- The order in which intervals are asked for. Source: document 02, CR 13: "We want to ask newest first"; document 01, "The reader and the log": "cells in time order".
 use Rattle.std.specs.Prelude.{ℕ, ◌+◌, ◌-◌, cond, reverse, leb, ltb, take}
 use Rattle.log_header.specs.Header.{if_sound}
-use Rattle.log.specs.Walk.{day_walk}
-use Rattle.log.specs.View.{View}
+use Rattle.energy_log.specs.Walk.{day_walk}
+use Rattle.energy_log.specs.View.{View}
 use Rattle.log_header.specs.declared.header.Header.{Header}
 use Rattle.log_cell.specs.declared.cell.CellAnswer.{CellAnswer}
 use Rattle.polling.specs.Next.{first_asked, next_wanted}

@@ -1,8 +1,8 @@
 // The interval that is asked for next.
 ghost use Rattle.std.specs.Prelude.{◌≡◌};
 ghost use Rattle.polling.specs.Next.{next_wanted, next_gap, next_in, asks_for, is_wanted};
-ghost use Rattle.log.specs.Image.{cell_at};
-ghost use Rattle.log.specs.View.{view_of};
+ghost use Rattle.energy_log.specs.Image.{cell_at};
+ghost use Rattle.energy_log.specs.View.{view_of};
 ghost use Rattle.log_cell.specs.declared.cell.Cell.TheVariants.{Empty};
 ghost use Rattle.log_cell.specs.declared.cell.CellAnswer.TheVariants.{Good};
 
@@ -61,7 +61,7 @@ pub fn asks_for(log: &[u8], h: Header, day: u8, slot: u8, wanted: Wanted) -> boo
     ensures { result ≡ asks_for wanted h (cell_at log.now) day slot }
 {
     match log_header::interval_of(h, day, slot) {
-        Interval::At(i) => is_wanted(wanted, log::cell_at(log, i)),
+        Interval::At(i) => is_wanted(wanted, energy_log::cell_at(log, i)),
         Interval::Outside => false,
     }
 }

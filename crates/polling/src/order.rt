@@ -1,8 +1,8 @@
 // The order in which the intervals of a day, and the days, are asked for.
 ghost use Rattle.std.specs.Prelude.{◌≡◌};
 ghost use Rattle.polling.specs.Order.{next_in_order, last_wanted, last_in, slots_left, passed_with, day_in_order};
-ghost use Rattle.log.specs.Image.{cell_at};
-ghost use Rattle.log.specs.View.{view_of};
+ghost use Rattle.energy_log.specs.Image.{cell_at};
+ghost use Rattle.energy_log.specs.View.{view_of};
 
 use crate::next;
 use crate::next::{Next, Wanted};

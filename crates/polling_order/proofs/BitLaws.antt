@@ -12,14 +12,14 @@ use borrow.Author.Tests.{ltb-true, ltb-false}
 use Rattle.byte_numbers.specs.Place.{byte_at}
 use Rattle.log_cell.specs.Cell.{IsCell}
 use Rattle.log_header.specs.Header.{cells_of}
-use Rattle.log.specs.Image.{OutsideCell, image_of}
-use Rattle.log.specs.Pair.{pair_of}
-use Rattle.log.proofs.ImageLaws.{sound-image}
-use Rattle.log.proofs.ViewLaws.{Whole, applied-image, elsewhere}
+use Rattle.energy_log.specs.Image.{OutsideCell, image_of}
+use Rattle.energy_log.specs.Pair.{pair_of}
+use Rattle.energy_log.proofs.ImageLaws.{sound-image}
+use Rattle.energy_log.proofs.ViewLaws.{Whole, applied-image, elsewhere}
 use Rattle.log_cell.specs.declared.cell.Cell.{Cell}
 use Rattle.log_cell.specs.declared.cell.Cell.TheVariants.{Gap}
 use Rattle.log_header.specs.declared.header.Header.{Header}
-use Rattle.log.specs.declared.image.Change.TheVariants.{Put}
+use Rattle.energy_log.specs.declared.image.Change.TheVariants.{Put}
 
 -- the first m cells are those of another list
 up_to : ℕ → List Cell → List Cell → List Cell

@@ -12,11 +12,11 @@ use lib.Seq.{ext_get_or}
 use borrow.Author.Tests.{ltb-true, ltb-false}
 use Rattle.byte_numbers.specs.Place.{byte_at}
 use Rattle.log_header.specs.Header.{cells_of}
-use Rattle.log.specs.Image.{OutsideCell, image_of, AllCells}
-use Rattle.log.specs.Pair.{pair_of}
-use Rattle.log.specs.View.{View, view_of}
+use Rattle.energy_log.specs.Image.{OutsideCell, image_of, AllCells}
+use Rattle.energy_log.specs.Pair.{pair_of}
+use Rattle.energy_log.specs.View.{View, view_of}
 use Rattle.log_header.proofs.IntervalLaws.{in-log}
-use Rattle.log.proofs.ViewLaws.{Whole, cell_in, none_in, view_by, view-image}
+use Rattle.energy_log.proofs.ViewLaws.{Whole, cell_in, none_in, view_by, view-image}
 use Rattle.log_cell.specs.declared.cell.Cell.{Cell}
 use Rattle.log_cell.specs.declared.cell.Cell.TheVariants.{Gap}
 use Rattle.log_cell.specs.declared.cell.CellAnswer.TheVariants.{Good, Bad}

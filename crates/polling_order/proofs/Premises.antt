@@ -18,10 +18,10 @@ use Rattle.frame.specs.Layout.{function_place, slice_reply}
 use Rattle.frame.specs.Sealing.{framed, crc_fits}
 use Rattle.frame.proofs.SealingLaws.{crc_fits-framed}
 use Rattle.log_header.specs.Interval.{interval_of}
-use Rattle.log.specs.View.{View, view_of}
+use Rattle.energy_log.specs.View.{View, view_of}
 use Rattle.byte_numbers.proofs.ByteLaws.{bytes-cons, bytes-append}
 use Rattle.log_header.proofs.IntervalLaws.{in-log, interval-below}
-use Rattle.log.proofs.ViewLaws.{cell_in}
+use Rattle.energy_log.proofs.ViewLaws.{cell_in}
 use Rattle.log_cell.specs.declared.cell.Cell.{Cell}
 use Rattle.log_cell.specs.declared.cell.Cell.TheVariants.{Gap, Empty, Measured}
 use Rattle.log_cell.specs.declared.cell.CellAnswer.TheVariants.{Good}

@@ -8,10 +8,10 @@ use Rattle.std.specs.Prelude.{◌≡◌, false, List, [], ◌∷◌, reverse, �
 use Rattle.byte_numbers.specs.Place.{byte_at}
 use Rattle.slots.specs.Day.{slots_of}
 use Rattle.log_header.specs.Header.{cells_of, sound_of}
-use Rattle.log.specs.Image.{OutsideCell}
+use Rattle.energy_log.specs.Image.{OutsideCell}
 use Rattle.log_header.specs.Interval.{interval_of}
-use Rattle.log.specs.Pair.{pair_of}
-use Rattle.log.specs.View.{view_of}
+use Rattle.energy_log.specs.Pair.{pair_of}
+use Rattle.energy_log.specs.View.{view_of}
 use Rattle.log_cell.specs.declared.cell.Cell.TheVariants.{Gap}
 use Rattle.log_cell.specs.declared.cell.CellAnswer.TheVariants.{Good}
 use Rattle.log_header.specs.declared.header.Header.{Header}

@@ -36,7 +36,7 @@ use Rattle.log_file.specs.declared.read.ReadAnswer.TheVariants.{Done, WrongMark,
 use Rattle.day_report.specs.Text.{line_feed, heading_text, line_most, text_number}
 use Rattle.day_report.specs.declared.answer.TextAnswer.{TextAnswer}
 use Rattle.day_report.proofs.TextLaws.{Never, text-fits}
-use Rattle.log.specs.View.{view_of}
+use Rattle.energy_log.specs.View.{view_of}
 use Rattle.day_report.proofs.DayLaws.{line-past, line-room}
 use Rattle.day_report.proofs.StripLaws.{strip_most, strip-past, strip-room}
 use Rattle.report_page.specs.declared.page.Page.{Page}

@@ -10,7 +10,7 @@ use Rattle.day_report.specs.Text.{line_feed, heading_text, put_text, text_number
 use Rattle.day_report.specs.Day.{day_text}
 use Rattle.day_report.specs.Strip.{strip_text}
 use Rattle.log_header.specs.Header.{image_most, days_most, sound_of}
-use Rattle.log.specs.View.{view_of}
+use Rattle.energy_log.specs.View.{view_of}
 use Rattle.day_rows.specs.Figures.{row_numbers}
 use Rattle.day_rows.specs.LogAndRows.{LogAndRows}
 use Rattle.log_file.specs.Read.{read_number, if_read, read_file}

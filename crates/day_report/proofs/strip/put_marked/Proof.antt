@@ -8,7 +8,7 @@ use borrow.Author.Tests.{le-leb, lt-leb}
 use lib.ListN.{length}
 use Rattle.byte_numbers.specs.Place.{written}
 use Rattle.refusal.specs.Outcome.{outcome}
-use Rattle.log.specs.Image.{cell_at}
+use Rattle.energy_log.specs.Image.{cell_at}
 use Rattle.day_report.proofs.StripLaws.{length-strip, length-day-marks, written-strip}
 use Rattle.day_report.specs.declared.answer.TextAnswer.TheVariants.{Done}
 use Rattle.day_report.specs.Strip.{marks_at, day_marks, strip_of}

@@ -2,10 +2,10 @@
 -- all (`marks-on`).
 use Rattle.day_report.proofs.StripLaws.{marks_from, day-marks, marks-on, marks-end}
 use Rattle.day_report.specs.Strip.{mark, marks_at, day_marks}
-use Rattle.log.specs.Image.{cell_at}
-use Rattle.log.specs.Walk.{stand_at, index_of}
-use Rattle.log.proofs.WalkLaws.{slot-below, steps_on, steps-less, stands-there}
-use Rattle.log.specs.declared.walk.Walk.{Walk}
+use Rattle.energy_log.specs.Image.{cell_at}
+use Rattle.energy_log.specs.Walk.{stand_at, index_of}
+use Rattle.energy_log.proofs.WalkLaws.{slot-below, steps_on, steps-less, stands-there}
+use Rattle.energy_log.specs.declared.walk.Walk.{Walk}
 use Rattle.log_header.specs.declared.header.Header.{Header}
 use Rattle.season_nights.specs.Night.{missing}
 use Rattle.season_nights.specs.declared.night.Night.{Night}

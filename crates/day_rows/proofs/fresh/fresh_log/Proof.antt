@@ -6,8 +6,8 @@ use Prim.Native.Nat.{◌<◌, ◌≤◌}
 use Rattle.day_rows.specs.Rows.{figures_of}
 use Rattle.day_rows.specs.LogAndRows.{log_and_rows}
 use Rattle.refusal.specs.Outcome.{outcome}
-use Rattle.log.specs.declared.fresh.FreshAnswer.TheVariants.{OutOfRange, TooShort}
-use Rattle.log.specs.declared.fresh.FreshAnswer.{FreshAnswer}
+use Rattle.energy_log.specs.declared.fresh.FreshAnswer.TheVariants.{OutOfRange, TooShort}
+use Rattle.energy_log.specs.declared.fresh.FreshAnswer.{FreshAnswer}
 use native.Mathlib.Omega.{arith}
 use mathlib.Core.Path.{sym, ap, ◌∙◌}
 use Rattle.day_rows.proofs.FreshLaws.{with-figures, without-figures, few-figures}

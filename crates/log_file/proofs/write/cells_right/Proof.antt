@@ -1,6 +1,6 @@
 -- `cells_right` meets its contract: all cells are walked, and then those whose slots do not exist; these are one run (`right-by-run`).
 use Rattle.log_file.proofs.WalkLaws.{good_from, right-by-run, wrong-by-walk}
-use Rattle.log.specs.Image.{cell_at, lapses_at}
+use Rattle.energy_log.specs.Image.{cell_at, lapses_at}
 use mathlib.Core.Path.{sym, ap, ◌∙◌}
 use Prim.Native.Nat.{ℕ}
 use borrow.Author.Rules.{rules}

@@ -6,7 +6,7 @@ use Rattle.log_file.specs.File.{file_length_as}
 use Rattle.log_file.proofs.FileLaws.{rows-at-most, file_written}
 use Rattle.log_file.proofs.RowLaws.{today-starts}
 use Rattle.log_file.proofs.WalkLaws.{good_from}
-use Rattle.log.specs.Image.{cell_at}
+use Rattle.energy_log.specs.Image.{cell_at}
 use mathlib.Core.Path.{ap, ◌∙◌}
 use native.Mathlib.Omega.{arith}
 use Prim.Native.Nat.{ℕ, ◌<◌}

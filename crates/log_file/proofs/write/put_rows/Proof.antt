@@ -3,7 +3,7 @@ use Rattle.log_cell.specs.declared.cell.Cell.{Cell}
 use Rattle.log_file.proofs.WalkLaws.{good_from, goods_from, the_cell, seen-good, cell-among, lapses-among, walk-starts, here-good, still-good, next-cell, cells-end}
 use Rattle.log_file.proofs.RowLaws.{put_row, first-row, today-starts, today-size, length-put_row, row-looked, row_put}
 use Rattle.log_file.specs.Row.{row_start, rows_bytes}
-use Rattle.log.specs.Image.{cell_at, lapses_at}
+use Rattle.energy_log.specs.Image.{cell_at, lapses_at}
 use Rattle.log_header.specs.Header.{header_size, version}
 use Rattle.byte_numbers.specs.Place.{written}
 use borrow.Author.Rules.{rules}

@@ -2,7 +2,7 @@
 use Rattle.log_file.proofs.WalkLaws.{right-good}
 use Rattle.log_file.specs.Write.{written_file}
 use Rattle.log_header.proofs.HeaderLaws.{sound-log}
-use Rattle.log.specs.Image.{cell_at, lapses_at}
+use Rattle.energy_log.specs.Image.{cell_at, lapses_at}
 use Rattle.refusal.specs.Outcome.{outcome}
 use borrow.Author.Tests.{le-leb, lt-leb}
 use mathlib.Core.Path.{sym, ap, ◌∙◌}

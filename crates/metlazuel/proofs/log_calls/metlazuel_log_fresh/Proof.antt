@@ -1,11 +1,11 @@
 -- `metlazuel_log_fresh` meets its contract: what is told is what `fresh_log` ensures, with its number and the length that `image_length` ensures.
 use Rattle.metlazuel.specs.Calls.{sized}
 use Rattle.metlazuel.specs.LogCalls.{image_length}
-use Rattle.log.specs.Fresh.{fresh_number}
+use Rattle.energy_log.specs.Fresh.{fresh_number}
 use mathlib.Core.Path.{ap}
 use borrow.Author.Rules.{rules}
 use Rattle.refusal.specs.Outcome.{Outcome}
-use Rattle.log.specs.declared.fresh.FreshAnswer.{FreshAnswer}
+use Rattle.energy_log.specs.declared.fresh.FreshAnswer.{FreshAnswer}
 use Rattle.day_rows.specs.LogAndRows.{LogAndRows}
 use Rattle.metlazuel.proofs.log_calls.metlazuel_log_fresh.Statement.{statement}
 use Rattle.metlazuel.proofs.log_calls.metlazuel_log_fresh.Tie as tie

@@ -4,7 +4,7 @@ use Rattle.polling.specs.Reached.{Reached}
 use Rattle.logger.specs.Run.{state}
 use Rattle.day_rows.specs.LogAndRows.{log_and_rows}
 use Rattle.polling.proofs.OrderLaws.{order-bounds}
-use Rattle.log.specs.View.{view_of}
+use Rattle.energy_log.specs.View.{view_of}
 use Rattle.slots.proofs.DayLaws.{slots_most}
 use native.Mathlib.Omega.{arith}
 use lib.ListN.{length}

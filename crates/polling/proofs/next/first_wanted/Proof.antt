@@ -1,6 +1,6 @@
 -- `first_wanted` meets its contract: in the loop, the first that is asked for from `i` on is the one from `slot` on; one at `i` is it, and at the end there is none.
 use Rattle.polling.proofs.NextLaws.{walk-stops, walk-on, walk_ends}
-use Rattle.log.specs.Image.{cell_at}
+use Rattle.energy_log.specs.Image.{cell_at}
 use Rattle.polling.specs.Next.{next_in}
 use borrow.Author.Rules.{rules}
 use native.Mathlib.Omega.{arith}

@@ -3,7 +3,7 @@ use mathlib.Core.Path.{◌≡◌, refl, sym, ◌∙◌}
 use native.Mathlib.Omega.{arith}
 use borrow.Author.Rules.{rules}
 use Rattle.polling.specs.Order.{last_in}
-use Rattle.log.specs.Image.{cell_at}
+use Rattle.energy_log.specs.Image.{cell_at}
 use Rattle.polling.proofs.OrderLaws.{down-stops, down-on, down_ends}
 use Rattle.polling.proofs.order.last_in.Statement.{statement}
 use Rattle.polling.proofs.order.last_in.Tie as tie

@@ -1,6 +1,6 @@
 -- `put_read_strip` meets its contract: the image that was read stands at the front of the room that it was given.
 use Rattle.day_report.specs.Strip.{strip_text}
-use Rattle.log.specs.View.{view_of}
+use Rattle.energy_log.specs.View.{view_of}
 use Rattle.report_page.specs.Page.{read_strip, image_in}
 use lib.ListN.{take}
 use Prim.Native.Nat.{ℕ}
