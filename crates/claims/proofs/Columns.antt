@@ -20,9 +20,9 @@ use Rattle.slots.specs.Day.{slots_of}
 use Rattle.byte_numbers.proofs.ByteLaws.{two}
 use Rattle.log_cell.proofs.CellLaws.{bad≢good, Kind, kind-of}
 use Rattle.log_header.proofs.HeaderLaws.{header-ranges, sound-front, sound-log}
-use Rattle.energy_log.proofs.ImageLaws.{cells_at}
+use Rattle.energy_log.proofs.ImageLaws.{cells_at_lem}
 use Rattle.log_header.proofs.IntervalLaws.{exists-index, twice-index}
-use Rattle.energy_log.proofs.ViewLaws.{view_by, cell_in}
+use Rattle.energy_log.proofs.ViewLaws.{view_by, cell_in_lem}
 use Rattle.log_cell.specs.Cell.{kind_of, e_plus_of, e_minus_of, r_plus_of, r_minus_of, kind_bytes, counts_bytes, kind_cell}
 use Rattle.log_header.specs.Header.{cells_of, date_bytes, header_bytes_as, header_bytes, sound_of}
 use Rattle.energy_log.specs.Image as image
@@ -108,7 +108,7 @@ pub image-of : (s : List ℕ) (h : Header) (i : ℕ) (c : Cell) → sound_of s �
     → InImage s (h.days * slots_of h.minutes) i (numbers_of c) ((view_of s).lapses i)
 unfolding cell_at lapses_at cells_of
 image-of s h i c p g =
-    let n : cells_at s ≡ h.days * slots_of h.minutes = cells_at s h p in
+    let n : cells_at s ≡ h.days * slots_of h.minutes = cells_at_lem s h p in
     let seen : cell_at s i ≡ Good c = rw p at g in
     let here : InImage s (cells_at s) i (numbers_of c) (lapses_at s i) = among (cells_at s) s i c seen in
     rw p (subst (λ (n : ℕ). InImage s n i (numbers_of c) (lapses_at s i)) n here)
@@ -152,7 +152,7 @@ module _ (b : LogAndRows) (start : Start b) (cs : List Cell) (count : length cs 
       ext_get_or Gap cs start.cells same_count
       (λ i l.
       good-same (get_or cs i Gap) (get_or start.cells i Gap)
-      (sym (are.each i l) ∙ ap (λ (v : View). v.cell i) (start_seen start) ∙ cell_in start.cells i (omega (arith, l, same_count))))
+      (sym (are.each i l) ∙ ap (λ (v : View). v.cell i) (start_seen start) ∙ cell_in_lem start.cells i (omega (arith, l, same_count))))
 
   same-lapses : (j : ℕ) → j < length start.cells → start.lapses j ≡ (view_of b.log).lapses j
   same-lapses j l = sym (ap (λ (v : View). v.lapses j) (start_seen start) ∙ simp (lt-ltb j (length start.cells) l))

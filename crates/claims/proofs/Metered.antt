@@ -31,7 +31,7 @@ use Rattle.log_header.specs.Header.{is_header, cells_of, sound_of}
 use Rattle.log_header.specs.Interval.{interval_of}
 use Rattle.log_header.proofs.IntervalLaws.{in-log, interval-below, by-at}
 use Rattle.energy_log.specs.View.{View, view_of}
-use Rattle.energy_log.proofs.ViewLaws.{changed, seen-are-cells, cell_in, view_by, Whole}
+use Rattle.energy_log.proofs.ViewLaws.{changed, seen-are-cells, cell_in_lem, view_by, Whole}
 use Rattle.log_cell.specs.declared.cell.Cell.{Cell}
 use Rattle.log_cell.specs.declared.cell.Cell.TheVariants.{Gap, Empty, Measured}
 use Rattle.log_cell.specs.declared.cell.CellAnswer.TheVariants.{Good}
@@ -116,7 +116,7 @@ unfolding cells_of
 met b start calls k i l =
     let f = run-faithful start.header calls (begin b) k (start-faithful start) in
     let seen : (view_of b.log).cell i ≡ Good _ =
-    ap (λ (v : View). v.cell i) (start_seen start) ∙ cell_in start.cells i (omega (arith, l, start.count)) in
+    ap (λ (v : View). v.cell i) (start_seen start) ∙ cell_in_lem start.cells i (omega (arith, l, start.count)) in
     let w = good-run calls (begin b) i _ k seen in
     (w.0, record { bytes = f.bytes; lent = f.sound; figures = f.right; cell = w.1 })
 
@@ -159,7 +159,7 @@ module _ (b : LogAndRows) (start : Start b) (calls : List Call) (k : AllBytes ca
       fit = made.fit;
       gaps = λ i l x.
           good-same (get_or cells-now i Gap) Gap
-          (sym (cell_in cells-now i l) ∙ sym (ap (λ (v : View). v.cell i) view-now) ∙ (stay_gaps b start calls k i (omega (arith, l, made.count)) x).0);
+          (sym (cell_in_lem cells-now i l) ∙ sym (ap (λ (v : View). v.cell i) view-now) ∙ (stay_gaps b start calls k i (omega (arith, l, made.count)) x).0);
       quiet = λ i l x.
           sym (simp (lt-ltb i (length cells-now) l)) ∙ sym (ap (λ (v : View). v.lapses i) view-now) ∙ (stay_gaps b start calls k i (omega (arith, l, made.count)) x).1;
       image = log b start calls k;

@@ -19,7 +19,7 @@ use Rattle.log_header.specs.Header.{cells_of, version_at, days_right, is_header,
 use Rattle.log_header.specs.Interval.{night_on, exists_at}
 use Rattle.energy_log.specs.View.{View, view_of}
 use Rattle.energy_log.proofs.ImageLaws.{sound-image}
-use Rattle.energy_log.proofs.ViewLaws.{cell_in}
+use Rattle.energy_log.proofs.ViewLaws.{cell_in_lem}
 use Rattle.log_cell.specs.declared.cell.Cell.{Cell}
 use Rattle.log_cell.specs.declared.cell.Cell.TheVariants.{Gap}
 use Rattle.log_cell.specs.declared.cell.CellAnswer.{CellAnswer}
@@ -55,7 +55,7 @@ stay_gaps b start calls k i l x =
     let within : i < length cs = omega (arith, start.count) in
     let seen = start_seen start in
     let kept = run-kept start.header i x calls (begin b) (ap (λ (v : View). v.lent) seen) k in (
-      kept.0 ∙ ap (λ (v : View). v.cell i) seen ∙ cell_in cs i within ∙ ap Good (start.gaps i within x),
+      kept.0 ∙ ap (λ (v : View). v.cell i) seen ∙ cell_in_lem cs i within ∙ ap Good (start.gaps i within x),
       kept.1 ∙ ap (λ (v : View). v.lapses i) seen ∙ simp (lt-ltb i (length cs) within) (start.quiet i within x),
     )
 

@@ -141,9 +141,9 @@ module _ (s : List ℕ) (n : ℕ) (e : cells_at s ≡ n) where
   put_lapses-among i x = ap (λ (k : ℕ). put_lapses_among k s i x) e
 
 -- a log's header says so
-pub cells_at : (s : List ℕ) (h : Header) → sound_of s ≡ Sound h → cells_at s ≡ cells_of h
+pub cells_at_lem : (s : List ℕ) (h : Header) → sound_of s ≡ Sound h → cells_at s ≡ cells_of h
 unfolding cells_at
-cells_at s h p = ap cells_of (sound-log s h p).header
+cells_at_lem s h p = ap cells_of (sound-log s h p).header
 
 -- and it has their room
 pub room_of : (s : List ℕ) (h : Header) → sound_of s ≡ Sound h → Room s (cells_of h)
@@ -178,7 +178,7 @@ module _ (s : List ℕ) (h : Header) (p : sound_of s ≡ Sound h) (i : ℕ) (l :
 
   same : cells_at s ≡ n
   unfolding n
-  same = cells_at s h p
+  same = cells_at_lem s h p
 
   room : Room s n
   unfolding n
@@ -502,7 +502,7 @@ module _ (lapses : ℕ → ℕ) where
   -- read
   module _ (h : Header) (cs : List Cell) (e : is_header h ≡ true) (count : length cs ≡ cells_of h) where
     says : cells_at (image_of h cs lapses) ≡ length cs
-    says = cells_at (image_of h cs lapses) h (sound-image h cs e count) ∙ sym count
+    says = cells_at_lem (image_of h cs lapses) h (sound-image h cs e count) ∙ sym count
 
     fours : length cs % 4 ≡ 0
     fours = ap (λ (n : ℕ). n % 4) count ∙ cells-fours h
@@ -715,7 +715,7 @@ module _ (s : List ℕ) (bytes : Bytes s) where
       let n = length cs in
       let count : n ≡ cells_of h = w.0 in
       let four : n % 4 ≡ 0 = ap (λ (k : ℕ). k % 4) count ∙ cells-fours h in
-      let says : cells_at s ≡ n = cells_at s h p ∙ sym count in
+      let says : cells_at s ≡ n = cells_at_lem s h p ∙ sym count in
       let seen : (i : ℕ) → i < n → cell_at s i ≡ Good (get_or cs i Gap) = λ i m. rw zero-add at (w.1 i (rw (sym count) m)) in
       let each : AllCells cs = λ i m. read-is-cell i (get_or cs i Gap) (seen i m) in
       let size : length s ≡ size_for n = l.size ∙ ap (λ (k : ℕ). size_for k) (sym count) in

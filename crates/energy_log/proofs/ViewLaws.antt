@@ -21,7 +21,7 @@ use Rattle.energy_log.specs.Walk.{seen_from}
 use Rattle.energy_log.specs.View.{View, view_of}
 use Rattle.log_cell.proofs.CellLaws.{bad≢good}
 use Rattle.energy_log.proofs.ColumnLaws.{outside-stays, byte-lapses}
-use Rattle.energy_log.proofs.ImageLaws.{length-put_cell, length-put_lapses, sound_of-put_cell, sound_of-put_lapses, put_cell-among, put_lapses-among, cells_at, room_of, cell_at-past, lapses_at-past}
+use Rattle.energy_log.proofs.ImageLaws.{length-put_cell, length-put_lapses, sound_of-put_cell, sound_of-put_lapses, put_cell-among, put_lapses-among, cells_at_lem, room_of, cell_at-past, lapses_at-past}
 use Rattle.energy_log.proofs.ImageLaws.{cell_at-put, cell_at-put-other, lapses_at-put, lapses_at-lapses, lapses_at-lapses-other, cell_at-lapses, bytes-put_cell, bytes-put_lapses}
 use Rattle.energy_log.proofs.ImageLaws.{read-is-cell, bytes-image, sound-image, cell_at-image, lapses_at-image, image-alike, image-of-log}
 use Rattle.log_header.specs.declared.header.Header.{Header}
@@ -57,8 +57,8 @@ Holds v (Lapses i n) = Within v.lent i × (n < 256)
 abbrev seen_of : Header → List ℕ → View
 seen_of h s = record { lent = Sound h; cell = cell_at s; lapses = lapses_at s }
 
-seen_of : (s : List ℕ) (h : Header) → sound_of s ≡ Sound h → view_of s ≡ seen_of h s
-seen_of s h p = rw p
+seen_of_lem : (s : List ℕ) (h : Header) → sound_of s ≡ Sound h → view_of s ≡ seen_of h s
+seen_of_lem s h p = rw p
 
 -- two views with the same cells and the same lapses are one
 pub same_view : (h : Header) {a b : ℕ → CellAnswer} {m n : ℕ → ℕ} → ((j : ℕ) → a j ≡ b j) → ((j : ℕ) → m j ≡ n j)
@@ -77,16 +77,16 @@ module _ (s : List ℕ) (h : Header) (i : ℕ) (p : sound_of s ≡ Sound h) (l :
   view-put : (c : Cell) → IsCell c → view_of (put_cell s i c) ≡ changed (Put i c) (view_of s)
   unfolding changed
   view-put c k =
-      seen_of (put_cell s i c) h (sound_of-put_cell s i c ∙ p)
+      seen_of_lem (put_cell s i c) h (sound_of-put_cell s i c ∙ p)
       ∙ same_view h (λ j. cell-put c k j (eqb j i) refl) (λ j. lapses_at-put s h p i l c j)
-      ∙ ap (changed (Put i c)) (sym (seen_of s h p))
+      ∙ ap (changed (Put i c)) (sym (seen_of_lem s h p))
 
   view-lapses : (n : ℕ) → view_of (put_lapses s i n) ≡ changed (Lapses i n) (view_of s)
   unfolding changed
   view-lapses n =
-      seen_of (put_lapses s i n) h (sound_of-put_lapses s i n ∙ p)
+      seen_of_lem (put_lapses s i n) h (sound_of-put_lapses s i n ∙ p)
       ∙ same_view h (λ j. cell_at-lapses s h p i l n j) (λ j. lapses-put n j (eqb j i) refl)
-      ∙ ap (changed (Lapses i n)) (sym (seen_of s h p))
+      ∙ ap (changed (Lapses i n)) (sym (seen_of_lem s h p))
 
 -- a cell of the log is one of a header's
 pub within : (a : LogHeader) (i : ℕ) → Within a i → (h : Header) × ((a ≡ Sound h) × (i < cells_of h))
@@ -124,14 +124,14 @@ pub elsewhere : (s : List ℕ) (h : Header) (ch : Change) (i q j : ℕ) → soun
 unfolding applied
 elsewhere s h None i q j p a jl out = refl
 elsewhere s h (Put m c) i q j p a jl out =
-    ap (λ (t : List ℕ). pair_of (byte_at t q) j) (put_cell-among s (cells_of h) (cells_at s h p) m c) ∙ go (ltb m (cells_of h)) refl
+    ap (λ (t : List ℕ). pair_of (byte_at t q) j) (put_cell-among s (cells_of h) (cells_at_lem s h p) m c) ∙ go (ltb m (cells_of h)) refl
   where
     go : (b : Bool) → ltb m (cells_of h) ≡ b → pair_of (byte_at (put_cell_among (cells_of h) s m c) q) j ≡ pair_of (byte_at s q) j
     go true e =
         outside-stays (cells_of h) s (room_of s h p) m (ltb-true m (cells_of h) e) c q j jl (subst (λ (x : ℕ). OutsideCell (cells_of h) x q j) (sym a) out)
     go false e = ap (λ (t : List ℕ). pair_of (byte_at t q) j) (put-none (cells_of h) s m c e)
 elsewhere s h (Lapses m x) i q j p a jl out =
-    ap (λ (t : List ℕ). pair_of (byte_at t q) j) (put_lapses-among s (cells_of h) (cells_at s h p) m x) ∙ go (ltb m (cells_of h)) refl
+    ap (λ (t : List ℕ). pair_of (byte_at t q) j) (put_lapses-among s (cells_of h) (cells_at_lem s h p) m x) ∙ go (ltb m (cells_of h)) refl
   where
     go : (b : Bool) → ltb m (cells_of h) ≡ b → pair_of (byte_at (put_lapses_among (cells_of h) s m x) q) j ≡ pair_of (byte_at s q) j
     go true e =
@@ -188,11 +188,11 @@ cell_in (c ∷ cs) zero = Good c
 cell_in (c ∷ cs) (suc i) = cell_in cs i
 
 -- each of them is found at its index
-pub cell_in : (cs : List Cell) (i : ℕ) → i < length cs → cell_in cs i ≡ Good (get_or cs i Gap)
+pub cell_in_lem : (cs : List Cell) (i : ℕ) → i < length cs → cell_in cs i ≡ Good (get_or cs i Gap)
 unfolding cell_in
-cell_in [] i l = absurd (not-suc-le-zero l)
-cell_in (c ∷ cs) zero l = refl
-cell_in (c ∷ cs) (suc i) l = cell_in cs i (omega arith)
+cell_in_lem [] i l = absurd (not-suc-le-zero l)
+cell_in_lem (c ∷ cs) zero l = refl
+cell_in_lem (c ∷ cs) (suc i) l = cell_in_lem cs i (omega arith)
 
 -- past the last of them there is none
 pub none_in : (cs : List Cell) (i : ℕ) → length cs ≤ i → cell_in cs i ≡ Bad
@@ -207,7 +207,7 @@ unfolding seen_from
 seen-in cs i zero l = refl
 seen-in cs i (suc n) l =
     let here : i < length cs = omega arith in
-    ap₂ (λ (a : CellAnswer) (x : List CellAnswer). a ∷ x) (cell_in cs i here) (seen-in cs (suc i) n (omega arith))
+    ap₂ (λ (a : CellAnswer) (x : List CellAnswer). a ∷ x) (cell_in_lem cs i here) (seen-in cs (suc i) n (omega arith))
     ∙ sym (ap (λ (x : List Cell). map Good (take (suc n) x)) (drop-cons cs i Gap here))
 
 -- what is seen of a log with this header, these cells and these lapses
@@ -218,13 +218,13 @@ view_by h cs lapses = record { lent = Sound h; cell = cell_in cs; lapses = λ i.
 pub view-image : (h : Header) (cs : List Cell) (lapses : ℕ → ℕ) → is_header h ≡ true → length cs ≡ cells_of h → AllCells cs
     → view_of (image_of h cs lapses) ≡ view_by h cs lapses
 view-image h cs lapses e l k =
-    seen_of (image_of h cs lapses) h (sound-image lapses h cs e l) ∙ same_view h (λ i. cell i (ltb i (length cs)) refl) (λ i. lapsed i (ltb i (length cs)) refl)
+    seen_of_lem (image_of h cs lapses) h (sound-image lapses h cs e l) ∙ same_view h (λ i. cell i (ltb i (length cs)) refl) (λ i. lapsed i (ltb i (length cs)) refl)
   where
     says : cells_at (image_of h cs lapses) ≡ cells_of h
-    says = cells_at (image_of h cs lapses) h (sound-image lapses h cs e l)
+    says = cells_at_lem (image_of h cs lapses) h (sound-image lapses h cs e l)
 
     cell : (i : ℕ) (b : Bool) → ltb i (length cs) ≡ b → cell_at (image_of h cs lapses) i ≡ cell_in cs i
-    cell i true t = let m = ltb-true i (length cs) t in cell_at-image lapses h cs e l i m (k i m) ∙ sym (cell_in cs i m)
+    cell i true t = let m = ltb-true i (length cs) t in cell_at-image lapses h cs e l i m (k i m) ∙ sym (cell_in_lem cs i m)
     cell i false t = let m = ltb-false i (length cs) t in cell_at-past (image_of h cs lapses) i (omega (arith, says, l)) ∙ sym (none_in cs i m)
 
     lapsed : (i : ℕ) (b : Bool) → ltb i (length cs) ≡ b → lapses_at (image_of h cs lapses) i ≡ cond b (lapses i) 0
@@ -282,10 +282,10 @@ module _ (h : Header) (cs : List Cell) (lapses : ℕ → ℕ) where
       go : (b : Bool) → eqb j i ≡ b → (d : Bool) → ltb j (length cs) ≡ d → cond b (Good c) (cell_in cs j) ≡ cell_in (set cs i c) j
       go true p d q =
           let e = eqb-true j i p in
-          sym (ap (cell_in (set cs i c)) e ∙ cell_in (set cs i c) i (rw length-set l) ∙ ap Good (get_or-set_same cs i c Gap l))
+          sym (ap (cell_in (set cs i c)) e ∙ cell_in_lem (set cs i c) i (rw length-set l) ∙ ap Good (get_or-set_same cs i c Gap l))
       go false p true q =
           let m = ltb-true j (length cs) q in
-          cell_in cs j m ∙ ap Good (sym (get_or-set_other cs i j c Gap (eqb-false j i p))) ∙ sym (cell_in (set cs i c) j (rw length-set m))
+          cell_in_lem cs j m ∙ ap Good (sym (get_or-set_other cs i j c Gap (eqb-false j i p))) ∙ sym (cell_in_lem (set cs i c) j (rw length-set m))
       go false p false q =
           let m = ltb-false j (length cs) q in
           none_in cs j m ∙ sym (none_in (set cs i c) j (rw length-set m))

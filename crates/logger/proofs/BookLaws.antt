@@ -183,13 +183,13 @@ first_fits (r ∷ rows) f = go (is_zero r) refl (first_fits rows f.1)
     go true e rest = rest
     go false e rest = record { fits = f.0; nonzero = e }
 
-by_first : (f : First) (rows : List Row) → FirstFits f → IsCell (by_first f rows)
+by_first_lem : (f : First) (rows : List Row) → FirstFits f → IsCell (by_first f rows)
 unfolding by_first FirstFits is_zero no_counts is_cell
-by_first none [] k = gap-is-cell
-by_first none (r ∷ rows) k = empty-is-cell
-by_first (counts r) rows k = record { right = ap not k.nonzero; fits = k.fits }
+by_first_lem none [] k = gap-is-cell
+by_first_lem none (r ∷ rows) k = empty-is-cell
+by_first_lem (counts r) rows k = record { right = ap not k.nonzero; fits = k.fits }
 
 -- what is worked out from rows that fit is a cell that a log can hold
 pub afresh-is-cell : (rows : List Row) → Fitting rows → IsCell (afresh rows)
 unfolding afresh
-afresh-is-cell rows f = by_first (first_of rows) rows (first_fits rows f)
+afresh-is-cell rows f = by_first_lem (first_of rows) rows (first_fits rows f)

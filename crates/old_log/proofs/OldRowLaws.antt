@@ -19,7 +19,7 @@ use Rattle.log_cell.specs.Cell.{counts_size, cell_size, cell_of, counts_bytes, c
 use Rattle.log_cell.proofs.CellLaws.{length-counts_bytes, length-cell_bytes, cell_of-bytes}
 use Rattle.energy_log.specs.Image.{AllCells}
 use Rattle.energy_log.specs.View.{View}
-use Rattle.energy_log.proofs.ViewLaws.{changed, Within, Holds, cell_in, cell_in, none_in, view_by, same_view, within}
+use Rattle.energy_log.proofs.ViewLaws.{changed, Within, Holds, cell_in_lem, cell_in_lem, none_in, view_by, same_view, within}
 use Rattle.old_log.specs.OldRows.{length_of, fitted_to, sound_of, cell_start, lapses_place, cell_at, lapses_at, view_of, put_cell, put_lapses, applied, cells_bytes, image_of}
 use Rattle.log_header.specs.declared.header.Header.{Header}
 use Rattle.log_header.specs.declared.header.HeaderAnswer.TheVariants.{Right, Wrong}
@@ -237,8 +237,8 @@ module _ (lapses : ℕ → ℕ) where
 abbrev seen_of : Header → List ℕ → View
 seen_of h s = record { lent = Sound h; cell = cell_at s; lapses = lapses_at s }
 
-seen_of : (s : List ℕ) (h : Header) → sound_of s ≡ Sound h → view_of s ≡ seen_of h s
-seen_of s h p = rw p
+seen_of_lem : (s : List ℕ) (h : Header) → sound_of s ≡ Sound h → view_of s ≡ seen_of h s
+seen_of_lem s h p = rw p
 
 module _ (s : List ℕ) (h : Header) (i : ℕ) (p : sound_of s ≡ Sound h) (l : i < cells_of h) where
   cell-put : (c : Cell) → IsCell c → (j : ℕ) (b : Bool) → eqb j i ≡ b → cell_at (put_cell s i c) j ≡ cond b (Good c) (cell_at s j)
@@ -252,16 +252,16 @@ module _ (s : List ℕ) (h : Header) (i : ℕ) (p : sound_of s ≡ Sound h) (l :
   view-put : (c : Cell) → IsCell c → view_of (put_cell s i c) ≡ changed (Put i c) (view_of s)
   unfolding changed
   view-put c k =
-      seen_of (put_cell s i c) h (sound_of-put_cell s i c ∙ p)
+      seen_of_lem (put_cell s i c) h (sound_of-put_cell s i c ∙ p)
       ∙ same_view h (λ j. cell-put c k j (eqb j i) refl) (λ j. lapses_at-put s i j c)
-      ∙ ap (changed (Put i c)) (sym (seen_of s h p))
+      ∙ ap (changed (Put i c)) (sym (seen_of_lem s h p))
 
   view-lapses : (n : ℕ) → view_of (put_lapses s i n) ≡ changed (Lapses i n) (view_of s)
   unfolding changed
   view-lapses n =
-      seen_of (put_lapses s i n) h (sound_of-put_lapses s i n ∙ p)
+      seen_of_lem (put_lapses s i n) h (sound_of-put_lapses s i n ∙ p)
       ∙ same_view h (λ j. cell_at-lapses s i j n) (λ j. lapses-put n j (eqb j i) refl)
-      ∙ ap (changed (Lapses i n)) (sym (seen_of s h p))
+      ∙ ap (changed (Lapses i n)) (sym (seen_of_lem s h p))
 
 -- a change leaves the length
 pub length-applied : (ch : Change) (s : List ℕ) → length (applied ch s) ≡ length s
@@ -281,10 +281,10 @@ view-applied s (Lapses i n) k = let w = within (sound_of s) i k.0 in view-lapses
 pub view-image : (h : Header) (cs : List Cell) (lapses : ℕ → ℕ) → is_header h ≡ true → length cs ≡ cells_of h → AllCells cs
     → view_of (image_of h cs lapses) ≡ view_by h cs lapses
 view-image h cs lapses e l k =
-    seen_of (image_of h cs lapses) h (sound-image lapses h cs e l) ∙ same_view h (λ i. cell i (ltb i (length cs)) refl) (λ i. lapsed i (ltb i (length cs)) refl)
+    seen_of_lem (image_of h cs lapses) h (sound-image lapses h cs e l) ∙ same_view h (λ i. cell i (ltb i (length cs)) refl) (λ i. lapsed i (ltb i (length cs)) refl)
   where
     cell : (i : ℕ) (b : Bool) → ltb i (length cs) ≡ b → cell_at (image_of h cs lapses) i ≡ cell_in cs i
-    cell i true t = let m = ltb-true i (length cs) t in cell_at-image lapses h cs i m (k i m) ∙ sym (cell_in cs i m)
+    cell i true t = let m = ltb-true i (length cs) t in cell_at-image lapses h cs i m (k i m) ∙ sym (cell_in_lem cs i m)
     cell i false t =
         let m = ltb-false i (length cs) t in
         cell_at-past (image_of h cs lapses) i (omega (arith, length-image_of lapses h cs)) ∙ sym (none_in cs i m)

@@ -16,7 +16,7 @@ use Rattle.energy_log.specs.Image.{OutsideCell, image_of, AllCells}
 use Rattle.energy_log.specs.Pair.{pair_of}
 use Rattle.energy_log.specs.View.{View, view_of}
 use Rattle.log_header.proofs.IntervalLaws.{in-log}
-use Rattle.energy_log.proofs.ViewLaws.{Whole, cell_in, none_in, view_by, view-image}
+use Rattle.energy_log.proofs.ViewLaws.{Whole, cell_in_lem, none_in, view_by, view-image}
 use Rattle.log_cell.specs.declared.cell.Cell.{Cell}
 use Rattle.log_cell.specs.declared.cell.Cell.TheVariants.{Gap}
 use Rattle.log_cell.specs.declared.cell.CellAnswer.TheVariants.{Good, Bad}
@@ -78,7 +78,7 @@ module _ {b : LogAndRows} (start : Start b) (calls : List Call) (k : AllBytes ca
 
   -- a cell after a history is the book's: where two histories are compared cell by cell
   pub seen-cell : (i : ℕ) → i < cells_of h → (view_of (ran b calls).left.log).cell i ≡ Good (afresh (told.kept i))
-  seen-cell i l = ap (λ (v : View). v.cell i) seen ∙ cell_in cells i (rw length-worked_out l) ∙ ap Good (cell_at i l)
+  seen-cell i l = ap (λ (v : View). v.cell i) seen ∙ cell_in_lem cells i (rw length-worked_out l) ∙ ap Good (cell_at i l)
 
   -- the replies of an interval are those of the start's cell and of the completed asks
   pub kept-are : (i : ℕ) → told.kept i ≡ replies_at start (asks_in start calls) i

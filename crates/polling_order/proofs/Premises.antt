@@ -21,7 +21,7 @@ use Rattle.log_header.specs.Interval.{interval_of}
 use Rattle.energy_log.specs.View.{View, view_of}
 use Rattle.byte_numbers.proofs.ByteLaws.{bytes-cons, bytes-append}
 use Rattle.log_header.proofs.IntervalLaws.{in-log, interval-below}
-use Rattle.energy_log.proofs.ViewLaws.{cell_in}
+use Rattle.energy_log.proofs.ViewLaws.{cell_in_lem}
 use Rattle.log_cell.specs.declared.cell.Cell.{Cell}
 use Rattle.log_cell.specs.declared.cell.Cell.TheVariants.{Gap, Empty, Measured}
 use Rattle.log_cell.specs.declared.cell.CellAnswer.TheVariants.{Good}
@@ -222,7 +222,7 @@ module _ (b : LogAndRows) (start : Start b) (day slot i : ℕ) (at : interval_of
   gap : get_or start.cells i Gap ≡ Gap
   gap =
       let there : i < length start.cells = rw start.count (interval-below start.header day slot i at) in
-      let same : Good (get_or start.cells i Gap) ≡ Good Gap = sym (cell_in start.cells i there) ∙ sym (ap (λ (v : View). v.cell i) (start_seen start)) ∙ seen in
+      let same : Good (get_or start.cells i Gap) ≡ Good Gap = sym (cell_in_lem start.cells i there) ∙ sym (ap (λ (v : View). v.cell i) (start_seen start)) ∙ seen in
       cc
 
   abbrev reading : Row → Round
