@@ -34,8 +34,7 @@ fn sent_length(sent: usize, before: usize) -> usize
 //     size_t room, size_t *length)
 //
 // The reply goes to the front of `out`, and its length to `length`, which is left as it was where the meter is silent.
-#[unsafe(no_mangle)]
-pub extern "C" fn metlazuel_meter_answer(
+pub fn metlazuel_meter_answer(
     meter: &mut [u8],
     store: &mut [u8],
     frame: &[u8],

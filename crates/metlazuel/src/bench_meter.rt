@@ -56,8 +56,7 @@ fn made_in(
 //     uint8_t year, uint8_t month, uint8_t day, uint8_t hour, uint8_t minute, uint8_t second, uint8_t season)
 //
 // A meter from the factory; `year` counts from 2000, `season` is 0 for winter and 1 for summer.
-#[unsafe(no_mangle)]
-pub extern "C" fn metlazuel_meter_make(
+pub fn metlazuel_meter_make(
     meter: &mut [u8],
     address: u8,
     minutes: u8,
@@ -108,8 +107,7 @@ fn second_in(read: RecordRead) -> RecordAnswer
 // uint8_t metlazuel_meter_second(uint8_t *meter, size_t n)
 //
 // A second passes.
-#[unsafe(no_mangle)]
-pub extern "C" fn metlazuel_meter_second(meter: &mut [u8]) -> u8
+pub fn metlazuel_meter_second(meter: &mut [u8]) -> u8
     ensures { outcome result meter.new ≡ bench_for_c (second_in (record_of meter.old)) meter.old }
 {
     let answer = second_in(meter_record_bytes::record_of(meter));
@@ -139,14 +137,7 @@ fn float_from(bits: u32) -> f32
 // uint8_t metlazuel_meter_powers(uint8_t *meter, size_t n, uint8_t parameter, uint32_t a, uint32_t b, uint32_t c)
 //
 // Sets the active powers (parameter 8) or the reactive ones (9), each given as the bits of a 32-bit float.
-#[unsafe(no_mangle)]
-pub extern "C" fn metlazuel_meter_powers(
-    meter: &mut [u8],
-    parameter: u8,
-    a: u32,
-    b: u32,
-    c: u32,
-) -> u8
+pub fn metlazuel_meter_powers(meter: &mut [u8], parameter: u8, a: u32, b: u32, c: u32) -> u8
     ensures { outcome result meter.new ≡ bench_for_c (powers_in (record_of meter.old) parameter (phases_from a b c)) meter.old }
 {
     let phases = Phases {
@@ -170,8 +161,7 @@ fn ratios_in(read: RecordRead, ratios: Ratios) -> RecordAnswer
 // uint8_t metlazuel_meter_ratios(uint8_t *meter, size_t n, uint32_t ki, uint32_t ku)
 //
 // Sets the ratios of the current and voltage transformers.
-#[unsafe(no_mangle)]
-pub extern "C" fn metlazuel_meter_ratios(meter: &mut [u8], ki: u32, ku: u32) -> u8
+pub fn metlazuel_meter_ratios(meter: &mut [u8], ki: u32, ku: u32) -> u8
     ensures { outcome result meter.new ≡ bench_for_c (ratios_in (record_of meter.old) (ratios_from ki ku)) meter.old }
 {
     let ratios = Ratios { ki: ki, ku: ku };
@@ -192,8 +182,7 @@ fn slice_in(read: RecordRead, store: &mut [u8], k: Key, counts: [u16; 4]) -> Rec
 //     uint16_t eplus, uint16_t eminus, uint16_t rplus, uint16_t rminus)
 //
 // Puts a slice into the store.
-#[unsafe(no_mangle)]
-pub extern "C" fn metlazuel_meter_slice(
+pub fn metlazuel_meter_slice(
     meter: &mut [u8],
     store: &mut [u8],
     month: u8,

@@ -22,8 +22,7 @@ const NO_GAP: u8 = 255;
 //
 // The cell of a slot of a day, both counted from 0: its kind goes to `kind`, E+, E-, R+ and R- to `counts`, and how many asks for it lapsed
 // to `lapses`.
-#[unsafe(no_mangle)]
-pub extern "C" fn metlazuel_cell(
+pub fn metlazuel_cell(
     log: &[u8],
     day: u8,
     slot: u8,
@@ -72,8 +71,7 @@ fn counts_of(c: Cell) -> [u16; 4]
 // uint8_t metlazuel_next_gap(const uint8_t *log, size_t n, uint8_t day, uint8_t from, uint8_t *slot)
 //
 // The first slot of a day, from a slot on, whose cell is a gap goes to `slot`; 255 where none is one.
-#[unsafe(no_mangle)]
-pub extern "C" fn metlazuel_next_gap(log: &[u8], day: u8, from: u8, slot: &mut u8) -> u8
+pub fn metlazuel_next_gap(log: &[u8], day: u8, from: u8, slot: &mut u8) -> u8
     ensures { outcome result slot.new ≡ next_gap_for_c (view_of log.now) day from slot.old }
 {
     let LogHeader::Sound(h) = log_header::sound(log) else {

@@ -1,6 +1,6 @@
 // The core's functions for firmware written in C: numbers and byte slices alone go in and out, and nothing is required of the caller
 // but memory that is as long as it says. A slice is a pointer and then its length, `&mut` of a number or of an array a pointer. Each
-// function hands its arguments on to a proved one and answers with document 01's number.
+// function hands its arguments on to a proved one and answers with document 01's number. `metlazuel_c` exports them under these names.
 #![tactic(auto)]
 
 ghost use Rattle.std.specs.Prelude.{◌≡◌};
@@ -36,8 +36,7 @@ pub use mercury_calls::{
 pub use wire_calls::{metlazuel_decode, metlazuel_decode4, metlazuel_request, metlazuel_request4};
 
 // uint16_t metlazuel_crc16(const uint8_t *bytes, size_t n)
-#[unsafe(no_mangle)]
-pub extern "C" fn metlazuel_crc16(bytes: &[u8]) -> u16
+pub fn metlazuel_crc16(bytes: &[u8]) -> u16
     ensures { result ≡ crc_of bytes.now }
 {
     crc16::crc16(bytes)
@@ -46,8 +45,7 @@ pub extern "C" fn metlazuel_crc16(bytes: &[u8]) -> u16
 // uint8_t metlazuel_read_file(const uint8_t *file, size_t n, uint8_t *out, size_t room, uint32_t *figures, size_t numbers, size_t *length)
 //
 // The image's length goes to `length`, which a refusal leaves as it was, as it leaves `out` and `figures`.
-#[unsafe(no_mangle)]
-pub extern "C" fn metlazuel_read_file(
+pub fn metlazuel_read_file(
     file: &[u8],
     out: &mut [u8],
     figures: &mut [u32],
@@ -62,8 +60,7 @@ pub extern "C" fn metlazuel_read_file(
 }
 
 // uint8_t metlazuel_day_report(const uint8_t *log, size_t n, const uint32_t *figures, size_t numbers, uint8_t day, uint32_t *row, size_t room)
-#[unsafe(no_mangle)]
-pub extern "C" fn metlazuel_day_report(log: &[u8], figures: &[u32], day: u8, row: &mut [u32]) -> u8
+pub fn metlazuel_day_report(log: &[u8], figures: &[u32], day: u8, row: &mut [u32]) -> u8
     ensures { outcome result row.new
         ≡ numbered report_number (report_of (sound_of log.now) figures.now day row.old) }
 {

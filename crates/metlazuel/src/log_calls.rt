@@ -15,8 +15,8 @@ ghost use Rattle.metlazuel.specs.LogCalls.{header_from, image_length, file_lengt
 use crate::given;
 use c_values::AskRead;
 use calendar::Date;
-use frame::layout::READ_BYTES;
 use energy_log::FreshAnswer;
+use frame::layout::READ_BYTES;
 use log_file::WriteAnswer;
 use log_header::Header;
 use logger::OpenAsk;
@@ -26,8 +26,7 @@ use logger::OpenAsk;
 //
 // A fresh log with its figures; `year` counts from 2000, and `seasons` is 1 where the automatic seasons are followed, else 0. The image's
 // length goes to `length`.
-#[unsafe(no_mangle)]
-pub extern "C" fn metlazuel_log_fresh(
+pub fn metlazuel_log_fresh(
     log: &mut [u8],
     figures: &mut [u32],
     year: u8,
@@ -73,8 +72,7 @@ fn image_length(answer: FreshAnswer, before: usize) -> usize
 // uint8_t metlazuel_write_file(const uint8_t *log, size_t n, uint8_t *out, size_t room, size_t *length)
 //
 // The file's length goes to `length`.
-#[unsafe(no_mangle)]
-pub extern "C" fn metlazuel_write_file(log: &[u8], out: &mut [u8], length: &mut usize) -> u8
+pub fn metlazuel_write_file(log: &[u8], out: &mut [u8], length: &mut usize) -> u8
     ensures { outcome result (length.new, out.new)
         ≡ sized write_number file_length (written_file (view_of log.now) out.old) length.old }
 {
@@ -98,8 +96,7 @@ fn file_length(answer: WriteAnswer, before: usize) -> usize
 //     size_t room)
 //
 // Opens an ask for a slot of a day, both counted from 0; its frame goes to the front of `out`.
-#[unsafe(no_mangle)]
-pub extern "C" fn metlazuel_ask(
+pub fn metlazuel_ask(
     log: &[u8],
     ask: &mut [u8],
     address: u8,
@@ -139,8 +136,7 @@ fn put_left(ask: &mut [u8], before: OpenAsk, after: OpenAsk)
 // uint8_t metlazuel_lapse(uint8_t *log, size_t n, uint8_t *ask, size_t size)
 //
 // No reply came: an open ask is closed, and its cell has one lapse more. With none open log and ask stay as they are.
-#[unsafe(no_mangle)]
-pub extern "C" fn metlazuel_lapse(log: &mut [u8], ask: &mut [u8]) -> u8
+pub fn metlazuel_lapse(log: &mut [u8], ask: &mut [u8]) -> u8
     ensures { outcome result (log.new, ask.new)
         ≡ lapse_for_c (ask_of ask.old) log.old ask.old }
 {
@@ -159,8 +155,7 @@ pub extern "C" fn metlazuel_lapse(log: &mut [u8], ask: &mut [u8]) -> u8
 //
 // Takes a reply for the open ask, and keeps the day's figures right. A meter's result that is not 0 goes to `result`, a length that is wrong
 // to `length`.
-#[unsafe(no_mangle)]
-pub extern "C" fn metlazuel_take(
+pub fn metlazuel_take(
     log: &mut [u8],
     figures: &mut [u32],
     ask: &mut [u8],

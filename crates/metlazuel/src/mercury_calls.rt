@@ -4,8 +4,7 @@ ghost use Rattle.refusal.specs.Outcome.{outcome};
 ghost use Rattle.c_mercury.specs.Calls.{request_for_c, decode_for_c, tariffs_from, load_from, frequency_from, meter_from, answer_for_c};
 
 // uint8_t metlazuel_mercury_request(uint32_t address, uint8_t command, uint8_t *out, size_t room)
-#[unsafe(no_mangle)]
-pub extern "C" fn metlazuel_mercury_request(address: u32, command: u8, out: &mut [u8]) -> u8
+pub fn metlazuel_mercury_request(address: u32, command: u8, out: &mut [u8]) -> u8
     ensures { outcome result out.new ≡ request_for_c address command out.old }
 {
     c_mercury::request(address, command, out)
@@ -13,8 +12,7 @@ pub extern "C" fn metlazuel_mercury_request(address: u32, command: u8, out: &mut
 
 // uint8_t metlazuel_mercury_decode(uint32_t address, uint8_t command, const uint8_t *reply, size_t bytes, uint32_t *figures, size_t room,
 //     size_t *count)
-#[unsafe(no_mangle)]
-pub extern "C" fn metlazuel_mercury_decode(
+pub fn metlazuel_mercury_decode(
     address: u32,
     command: u8,
     reply: &[u8],
@@ -30,8 +28,7 @@ pub extern "C" fn metlazuel_mercury_decode(
 // uint8_t metlazuel_mercury_answer(uint32_t address, uint32_t first, uint32_t second, uint32_t third, uint32_t fourth, uint16_t voltage,
 //     uint16_t current, uint32_t power, uint16_t frequency, const uint8_t *rest, size_t size, const uint8_t *request, size_t bytes,
 //     uint8_t *out, size_t room, size_t *length)
-#[unsafe(no_mangle)]
-pub extern "C" fn metlazuel_mercury_answer(
+pub fn metlazuel_mercury_answer(
     address: u32,
     first: u32,
     second: u32,

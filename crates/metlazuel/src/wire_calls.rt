@@ -13,8 +13,7 @@ use request::Request;
 // uint8_t metlazuel_request(uint8_t address, uint8_t parameter, uint8_t offset, uint8_t tariff, uint8_t detail, uint8_t *out, size_t room)
 //
 // A read request's frame goes to the front of `out`.
-#[unsafe(no_mangle)]
-pub extern "C" fn metlazuel_request(
+pub fn metlazuel_request(
     address: u8,
     parameter: u8,
     offset: u8,
@@ -39,8 +38,7 @@ pub extern "C" fn metlazuel_request(
 // uint8_t metlazuel_request4(uint8_t address, uint8_t parameter, uint8_t offset, uint8_t tariff, uint8_t detail, uint8_t *out, size_t room)
 //
 // The same with function 4: figures as the display shows them.
-#[unsafe(no_mangle)]
-pub extern "C" fn metlazuel_request4(
+pub fn metlazuel_request4(
     address: u8,
     parameter: u8,
     offset: u8,
@@ -67,8 +65,7 @@ pub extern "C" fn metlazuel_request4(
 //
 // The figures go to the front of `figures` and their number to `count`, a meter's result that is not 0 to `result`, a length that is wrong
 // to `length`.
-#[unsafe(no_mangle)]
-pub extern "C" fn metlazuel_decode(
+pub fn metlazuel_decode(
     address: u8,
     parameter: u8,
     offset: u8,
@@ -99,8 +96,7 @@ pub extern "C" fn metlazuel_decode(
 //     size_t bytes, uint32_t *figures, size_t room, size_t *count, uint8_t *result, size_t *length)
 //
 // The same of a reply to a request with function 4: the figures are the bits of floats.
-#[unsafe(no_mangle)]
-pub extern "C" fn metlazuel_decode4(
+pub fn metlazuel_decode4(
     address: u8,
     parameter: u8,
     offset: u8,
