@@ -2,7 +2,7 @@
 
 use std::path::Path;
 
-/// Where `rt staticlib metlazuel` leaves the archive, as `tests/archive` has it.
+/// Where `tools/c-library` leaves the archive, as `tests/archive` has it.
 const ARCHIVE: &str = "../../target/staticlib/libmetlazuel.a";
 
 fn main() {
@@ -21,6 +21,6 @@ fn link() {
 }
 
 fn missing() {
-    eprintln!("no archive at {ARCHIVE}: build it in the project's root with `rt staticlib metlazuel`");
+    eprintln!("no archive at {ARCHIVE}: build it in the project's root with `tools/c-library`");
     std::process::exit(1);
 }
