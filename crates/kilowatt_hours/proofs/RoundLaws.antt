@@ -11,7 +11,7 @@ use lib.Ieee.Fits.{down_pos, nearest-le}
 use lib.Ieee.Nearest.{closest, nearest-ge}
 use lib.Ieee.Bits.{is_false, cond_no, to_bits-of_bits}
 use lib.Ieee.Exact.{HasValue, odd_sign}
-use lib.Ieee.Scale.{finite, grid, overflow, round_val}
+use lib.Ieee.Scale.{grid, overflow, round_val}
 use Rattle.kilowatt_hours.specs.Bits.{kwh_bits}
 use Rattle.kilowatt_hours.specs.Nearest.{infinity, steps, worth}
 use Rattle.kilowatt_hours.proofs.Worth.{worth-at, worth-lt}

@@ -25,7 +25,7 @@ fill_fresh-requires c =
     let at-args = c.args in
     let at-figures-of = c.figures_of in
     let at-if1 = c.if-figures-figures_of in
-    let made = sym (ap (λ (r : FreshAnswer). outcome r at-fresh-log.new.1.0) c.in-Done.is) ∙ at-fresh-log.ensures in
+    let made = sym (ap (λ (r : FreshAnswer). outcome r at-fresh-log.new.out) c.in-Done.is) ∙ at-fresh-log.ensures in
     (fresh-header at-args.h at-args.out.now _ _ made, omega (arith, at-figures-of.ensures, at-if1.false))
 
 pub returns-in-Done : goal.returns-in-Done
@@ -35,7 +35,7 @@ returns-in-Done c =
     let at-if1 = c.if-figures-figures_of in
     let at-fresh-log = c.fresh_log in
     let many : figures_of at-args.h ≤ length at-args.figures.now = omega (arith, at-figures-of.ensures, at-if1.false) in
-    let made = sym (ap (λ (r : FreshAnswer). outcome r at-fresh-log.new.1.0) c.in-Done.is) ∙ at-fresh-log.ensures in
+    let made = sym (ap (λ (r : FreshAnswer). outcome r at-fresh-log.new.out) c.in-Done.is) ∙ at-fresh-log.ensures in
     with-figures at-args.h at-args.out.now at-args.figures.now many _ _ _ made c.fill_fresh.ensures
 
 pub returns-in-OutOfRange : goal.returns-in-OutOfRange
@@ -45,7 +45,7 @@ returns-in-OutOfRange c =
     let at-if1 = c.if-figures-figures_of in
     let at-fresh-log = c.fresh_log in
     let many : figures_of at-args.h ≤ length at-args.figures.now = omega (arith, at-figures-of.ensures, at-if1.false) in
-    let none = sym (ap (λ (r : FreshAnswer). outcome r at-fresh-log.new.1.0) c.in-OutOfRange.is) ∙ at-fresh-log.ensures in
+    let none = sym (ap (λ (r : FreshAnswer). outcome r at-fresh-log.new.out) c.in-OutOfRange.is) ∙ at-fresh-log.ensures in
     without-figures at-args.h at-args.out.now at-args.figures.now many OutOfRange _ (omega arith) none
 
 pub returns-in-TooShort : goal.returns-in-TooShort
@@ -55,5 +55,5 @@ returns-in-TooShort c =
     let at-if1 = c.if-figures-figures_of in
     let at-fresh-log = c.fresh_log in
     let many : figures_of at-args.h ≤ length at-args.figures.now = omega (arith, at-figures-of.ensures, at-if1.false) in
-    let none = sym (ap (λ (r : FreshAnswer). outcome r at-fresh-log.new.1.0) c.in-TooShort.is) ∙ at-fresh-log.ensures in
+    let none = sym (ap (λ (r : FreshAnswer). outcome r at-fresh-log.new.out) c.in-TooShort.is) ∙ at-fresh-log.ensures in
     without-figures at-args.h at-args.out.now at-args.figures.now many TooShort _ (omega arith) none
