@@ -19,7 +19,7 @@ use Rattle.log_header.specs.Header.{is_header, cells_of, sound_of}
 use Rattle.energy_log.specs.Image.{image_of, applied}
 use Rattle.energy_log.proofs.ImageLaws.{sound-image, image-alike, bytes-image}
 use Rattle.energy_log.specs.View.{View, view_of}
-use Rattle.energy_log.proofs.ViewLaws.{AreCells, seen-are-cells, cell_in_lem, cell_in_lem, view_by, view-image, Whole, applied-image}
+use Rattle.energy_log.proofs.ViewLaws.{AreCells, seen-are-cells, cell_in, cell_in_lem, cell_in_lem, view_by, view-image, Whole, applied-image}
 use Rattle.energy_log.specs.declared.image.Change.TheVariants as change
 use Rattle.log_header.specs.Interval.{interval_of, comes_twice, if_at}
 use Rattle.log_header.proofs.IntervalLaws.{outside≢at, interval-below, in-log, by-at}

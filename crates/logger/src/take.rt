@@ -10,8 +10,8 @@ ghost use Rattle.logger.specs.Take.{taken, decided, stays, take_closes, put_with
 
 use crate::held::OpenAsk;
 use day_rows::FigureAnswer;
-use frame::layout;
 use energy_log::Change;
+use frame::layout;
 use log_cell::{Cell, CellAnswer};
 use log_header::{Interval, LogHeader};
 use parameters::code;

@@ -19,7 +19,7 @@ use Rattle.log_cell.specs.Cell.{counts_size, cell_size, cell_of, counts_bytes, c
 use Rattle.log_cell.proofs.CellLaws.{length-counts_bytes, length-cell_bytes, cell_of-bytes}
 use Rattle.energy_log.specs.Image.{AllCells}
 use Rattle.energy_log.specs.View.{View}
-use Rattle.energy_log.proofs.ViewLaws.{changed, Within, Holds, cell_in_lem, cell_in_lem, none_in, view_by, same_view, within}
+use Rattle.energy_log.proofs.ViewLaws.{changed, Within, Holds, cell_in, cell_in_lem, cell_in_lem, none_in, view_by, same_view, within}
 use Rattle.old_log.specs.OldRows.{length_of, fitted_to, sound_of, cell_start, lapses_place, cell_at, lapses_at, view_of, put_cell, put_lapses, applied, cells_bytes, image_of}
 use Rattle.log_header.specs.declared.header.Header.{Header}
 use Rattle.log_header.specs.declared.header.HeaderAnswer.TheVariants.{Right, Wrong}

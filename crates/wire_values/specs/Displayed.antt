@@ -1,6 +1,6 @@
 -- Parameter 36 as function 4 reads it. Source: document 02, request 3: "For parameter 36, function 4 answers four 32-bit floats in
 -- kilowatt-hours"; 002, section 4.13 (page 18), has each field as a float of four bytes.
-use Rattle.std.specs.Prelude.{Bool, cond, ◌&&◌, List, ◌++◌, ℕ, ◌^◌, ◌<◌}
+use Rattle.std.specs.Prelude.{Bool, cond, ◌&&◌, List, ◌++◌, ℕ}
 use Rattle.byte_numbers.specs.Number.{bytes_of}
 use Rattle.byte_numbers.specs.Place.{number_at}
 use Rattle.wire_values.specs.Power.{is_finite}
