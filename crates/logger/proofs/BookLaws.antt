@@ -1,6 +1,6 @@
 -- How the book's replies and the log's cells go together: one more reply changes the cell worked out afresh just as the log's update
 -- changes its cell.
-use mathlib.Core.Path.{◌≡◌, refl, sym, ap, ap₂, ◌∙◌}
+use mathlib.Core.Path.{◌≡◌, refl, sym, ap, ap₂, ◌∙◌, subst}
 use mathlib.Core.Bool.{Bool, true, false, cond, not, ◌&&◌}
 use mathlib.Core.List.{List, [], ◌∷◌, ◌++◌}
 use Prim.Native.Nat.{ℕ, zero, suc, ◌+◌, ◌*◌, ◌<◌}
@@ -141,7 +141,7 @@ pub worked_out-with : (kept : ℕ → List Row) (r : Row) (i n j : ℕ) → j < 
 unfolding worked_out kept_with
 worked_out-with kept r i zero j l = absurd (not-suc-le-zero l)
 worked_out-with kept r i (suc n) zero l =
-    rw (add-zero i)
+    subst (λ (p : ℕ). worked_out (kept_with kept p r) i (suc n) ≡ set (worked_out kept i (suc n)) zero (afresh (kept p ++ (r ∷ [])))) (sym (add-zero i))
     (ap₂ (λ (c : Cell) (cs : List Cell). c ∷ cs)
     (ap (λ (b : Bool). afresh (cond b (kept i ++ (r ∷ [])) (kept i))) (eq-eqb i i refl))
     (worked_out-later kept i r (suc i) n (omega arith)))
