@@ -19,6 +19,20 @@ mod log_calls;
 mod mercury_calls;
 mod wire_calls;
 
+pub use answer_call::metlazuel_meter_answer;
+pub use bench_meter::{
+    metlazuel_meter_make, metlazuel_meter_powers, metlazuel_meter_ratios, metlazuel_meter_second,
+    metlazuel_meter_slice,
+};
+pub use cell_calls::{metlazuel_cell, metlazuel_next_gap};
+pub use log_calls::{
+    metlazuel_ask, metlazuel_lapse, metlazuel_log_fresh, metlazuel_take, metlazuel_write_file,
+};
+pub use mercury_calls::{
+    metlazuel_mercury_answer, metlazuel_mercury_decode, metlazuel_mercury_request,
+};
+pub use wire_calls::{metlazuel_decode, metlazuel_decode4, metlazuel_request, metlazuel_request4};
+
 #[unsafe(no_mangle)]
 pub extern "C" fn metlazuel_crc16(bytes: &[u8]) -> u16
     ensures { result ≡ crc_of bytes.now }
