@@ -5,10 +5,9 @@ use native.Mathlib.Omega.{arith}
 use mathlib.Core.Path.{◌≡◌, refl, sym, ap, ◌∙◌}
 use mathlib.Core.List.{List, []}
 use lib.ListN.{take, drop, length, get_or, length-drop, drop_of_length-le}
-use lib.Seq.{drop-cons, take_length, take_all}
+use lib.Seq.{drop-cons, take_all}
 use borrow.Author.Tests.{eq-eqb, ne_eqb}
-use Rattle.bytes.specs.Bytes.{index_of, slice}
-use Rattle.console.specs.Line.{spaces_in, first_word, after_first, word_at}
+use Rattle.console.specs.Line.{spaces_in, index_of, first_word, after_first, word_at}
 
 -- ---- laws for the walks
 
@@ -27,28 +26,36 @@ pub none_left : (s : List ℕ) (i : ℕ) → length s ≤ i → spaces_in (drop 
 unfolding spaces_in
 none_left s i h = rw (drop_of_length-le s h)
 
--- a search over all of a line
-pub found : (s : List ℕ) (r : ℕ) → r ≡ 0 + index_of 32 (slice 0 (length s) s) → r ≡ index_of 32 s
-unfolding slice
-found s r h =
-    let e : r ≡ index_of 32 (slice 0 (length s) s) = omega (arith, h) in
-    e ∙ ap (index_of 32) (take_length s)
+-- a search for the first space: another byte is passed
+pub other_byte : (s : List ℕ) (i : ℕ) → i < length s → (get_or s i 0 ≡ 32 → ⊥) → index_of 32 (drop i s) ≡ suc (index_of 32 (drop (i + 1) s))
+unfolding index_of
+other_byte s i h e = rw (add-one, drop-cons s i 0 h, ne_eqb (get_or s i 0) 32 e)
+
+-- a space is where it ends
+pub space_here : (s : List ℕ) (i : ℕ) → i < length s → get_or s i 0 ≡ 32 → index_of 32 (drop i s) ≡ 0
+unfolding index_of
+space_here s i h e = rw (drop-cons s i 0 h, eq-eqb (get_or s i 0) 32 e)
+
+-- or the line's end
+pub at_end : (s : List ℕ) (i : ℕ) → length s ≤ i → index_of 32 (drop i s) ≡ 0
+unfolding index_of
+at_end s i h = rw (drop_of_length-le s h)
 
 -- `first_word` cuts at the place that the kit's search finds
-pub first_found : (s : List ℕ) (r : ℕ) → r ≡ 0 + index_of 32 (slice 0 (length s) s) → take r s ≡ first_word s
+pub first_found : (s : List ℕ) (r : ℕ) → r ≡ index_of 32 s → take r s ≡ first_word s
 unfolding first_word
-first_found s r h = ap (λ (k : ℕ). take k s) (found s r h)
+first_found s r h = ap (λ (k : ℕ). take k s) h
 
 -- `after_first` goes on behind it
-pub rest-found : (s : List ℕ) (r : ℕ) → r ≡ 0 + index_of 32 (slice 0 (length s) s) → take (length s - (r + 1)) (drop (r + 1) s) ≡ after_first s
+pub rest-found : (s : List ℕ) (r : ℕ) → r ≡ index_of 32 s → take (length s - (r + 1)) (drop (r + 1) s) ≡ after_first s
 unfolding after_first
 rest-found s r h =
-    take_all (length s - (r + 1)) (drop (r + 1) s) (omega (arith, length-drop (r + 1) s)) ∙ ap (λ (k : ℕ). drop (k + 1) s) (found s r h)
+    take_all (length s - (r + 1)) (drop (r + 1) s) (omega (arith, length-drop (r + 1) s)) ∙ ap (λ (k : ℕ). drop (k + 1) s) h
 
 -- a line without a space has nothing behind its word
-pub rest-none : (s : List ℕ) (r : ℕ) → r ≡ 0 + index_of 32 (slice 0 (length s) s) → length s ≤ r → [] ≡ after_first s
+pub rest-none : (s : List ℕ) (r : ℕ) → r ≡ index_of 32 s → length s ≤ r → [] ≡ after_first s
 unfolding after_first
-rest-none s r h most = let past : length s ≤ index_of 32 s + 1 = omega (arith, found s r h) in sym (drop_of_length-le s past)
+rest-none s r h most = let past : length s ≤ index_of 32 s + 1 = omega (arith, h) in sym (drop_of_length-le s past)
 
 -- `word`: the word asked for is the first
 pub word_first : (k : ℕ) (s : List ℕ) → k ≡ 0 → first_word s ≡ word_at k s

@@ -1,28 +1,28 @@
 -- What follows from the places of a log's cells: what is read after a put, there and elsewhere, in a log of n cells.
-use Prim.Native.Nat.{ℕ, zero, suc, ◌+◌, ◌-◌, ◌*◌, ◌/◌, ◌%◌, ◌≤◌, ◌<◌}
+use Prim.Native.Nat.{ℕ, suc, ◌+◌, ◌-◌, ◌*◌, ◌/◌, ◌%◌, ◌≤◌, ◌<◌}
 use native.Mathlib.Omega.{arith}
 use mathlib.Core.Path.{◌≡◌, refl, sym, ap, ◌∙◌}
 use mathlib.Core.Bool.{Bool, true, false, cond}
 use mathlib.Core.List.{List, [], ◌∷◌}
-use mathlib.Core.Logic.{◌⊎◌, inl, inr}
+use mathlib.Core.Logic.{inl, inr}
 use lib.Dec.{ltb, eqb}
 use lib.ListN.{length, set}
 use lib.Seq.{get_or-set_same, ext_get_or}
 use borrow.Author.Tests.{ltb-true, ltb-false, lt-ltb, le-ltb, eqb-true, eqb-false, eq-eqb, ne_eqb}
 use Rattle.byte_numbers.specs.Number.{bytes_of, Bytes}
-use Rattle.byte_numbers.specs.Place.{byte_at, number_at, written}
+use Rattle.byte_numbers.specs.Place.{byte_at, written}
 use Rattle.byte_numbers.proofs.PlaceLaws.{Apart, length-written, byte_at-kept, number_at-kept, number_at-written}
 use Rattle.log_header.specs.Header.{header_size, size_for}
 use Rattle.log_cell.specs.Cell.{kind_of, e_plus_of, e_minus_of, r_plus_of, r_minus_of, kind_cell, CountsFit, CellFits}
-use Rattle.energy_log.specs.Pair.{pair_of, pair_after, put_pair}
+use Rattle.energy_log.specs.Pair.{pair_of, put_pair}
 use Rattle.energy_log.proofs.PairLaws.{pair_put, same-pairs}
 use Rattle.byte_numbers.proofs.ByteLaws.{two}
 use Rattle.energy_log.specs.Image.{kind_place, count_place, lapses_place, kind_at, count_at, read_among, cell_among, lapses_among, put_kind, put_count, put_counts}
-use Rattle.energy_log.specs.Image.{put_cell_among, put_lapses_among, Two, Own, of_kind, of-e+, of-e-, of-r+, of-r-, of_lapses, OutsideCell}
+use Rattle.energy_log.specs.Image.{put_cell_among, put_lapses_among, Two, of_kind, of-e+, of-e-, of-r+, of-r-, OutsideCell}
 use Rattle.log_cell.specs.declared.cell.Cell.{Cell}
 use Rattle.log_cell.specs.declared.cell.Cell.TheVariants.{Gap, Empty, Measured}
 use Rattle.log_cell.specs.declared.cell.CellAnswer.{CellAnswer}
-use Rattle.log_cell.specs.declared.cell.CellAnswer.TheVariants.{Good, Bad}
+use Rattle.log_cell.specs.declared.cell.CellAnswer.TheVariants.{Bad}
 
 -- the room of a log of n cells
 pub record Room (s : List ℕ) (n : ℕ) : Type 0 where

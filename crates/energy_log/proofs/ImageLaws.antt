@@ -1,16 +1,16 @@
 -- What follows from the definition of an image: what is read after a put, there and elsewhere; what a put keeps; and that an image is
 -- that of its header and its cells.
-use Prim.Native.Nat.{ℕ, zero, suc, ◌+◌, ◌*◌, ◌-◌, ◌/◌, ◌%◌, ◌≤◌, ◌<◌}
+use Prim.Native.Nat.{ℕ, zero, suc, ◌+◌, ◌*◌, ◌/◌, ◌%◌, ◌≤◌, ◌<◌}
 use native.Mathlib.Nat.{add-zero, zero-add}
 use native.Mathlib.Omega.{arith}
 use mathlib.Core.Path.{◌≡◌, refl, sym, ap, ap₂, ◌∙◌}
 use mathlib.Core.Bool.{Bool, true, false, cond}
 use mathlib.Core.List.{List, [], ◌∷◌, ◌++◌, map, append_assoc}
-use mathlib.Core.Logic.{◌⊎◌, inl, inr}
+use mathlib.Core.Logic.{inl, inr}
 use lib.Dec.{ltb, eqb}
 use lib.ListN.{length, get_or, take, drop, set, length-append, drop_of_length-le, get_or-append}
 use lib.Seq.{get_or-append-add, get_or-take}
-use borrow.Author.Tests.{ltb-true, lt-ltb, eqb-true, eqb-false}
+use borrow.Author.Tests.{ltb-true, eqb-true, eqb-false}
 use Rattle.test_laws.proofs.Test.{chosen}
 use Rattle.byte_numbers.specs.Number.{bytes_of, Bytes}
 use Rattle.byte_numbers.specs.Place.{byte_at, number_at, written}
@@ -20,14 +20,14 @@ use Rattle.byte_numbers.proofs.Part.{written-part}
 use Rattle.byte_numbers.proofs.ByteLaws.{bytes-nil, bytes-cons, bytes-append}
 use Rattle.log_header.specs.Header.{header_size, version, size_for, cells_of, length_of, is_header, header_bytes, header_at, mark_right, version_right, fields_right, header_of, sound_of}
 use Rattle.log_header.proofs.HeaderLaws.{cells-fours, header-ranges, length-header_bytes, bytes-header, header_at-bytes, sound-bytes, sound-log, sound-front}
-use Rattle.log_cell.specs.Cell.{kind_of, e_plus_of, e_minus_of, r_plus_of, r_minus_of, kind_cell, kind_names, kind_fits, no_counts, cell_by, CountsFit, IsCell}
-use Rattle.log_cell.proofs.CellLaws.{Kind, kind_cell-of, kind-of, bad≢good, fits-named, two-below}
+use Rattle.log_cell.specs.Cell.{kind_of, e_plus_of, e_minus_of, r_plus_of, r_minus_of, kind_cell, CountsFit, IsCell}
+use Rattle.log_cell.proofs.CellLaws.{kind_cell-of, kind-of, bad≢good, two-below}
 use Rattle.energy_log.specs.Pair.{pair_of, packed}
 use Rattle.energy_log.proofs.PairLaws.{packed-at, packed_byte, pair-byte}
 use Rattle.energy_log.specs.Image.{kind_place, count_place, lapses_place, kind_at, count_at, cells_at, read_among, cell_among, lapses_among, cell_at, lapses_at}
-use Rattle.energy_log.specs.Image.{put_kind, put_counts, put_cell_among, put_lapses_among, put_cell, put_lapses, OutsideCell, of_lapses}
+use Rattle.energy_log.specs.Image.{put_kind, put_counts, put_cell_among, put_lapses_among, put_cell, put_lapses}
 use Rattle.energy_log.specs.Image.{kinds_bytes, column_bytes, lapses_bytes, cells_bytes, image_of, AllCells, LapsesFit}
-use Rattle.energy_log.proofs.ColumnLaws.{Room, room-kept, Parts, parts_at, parts_of, lapsed, cell_from, kind-four, counts-fit, byte-stays, parts-there, parts-elsewhere, outside-stays}
+use Rattle.energy_log.proofs.ColumnLaws.{Room, room-kept, Parts, parts_at, parts_of, lapsed, cell_from, kind-four, counts-fit, byte-stays, parts-there, parts-elsewhere}
 use Rattle.energy_log.proofs.ColumnLaws.{Off, before-off, behind-off, byte-lapses, front-lapses, lapses-there, lapses-elsewhere, length-put_cell_among, length-put_lapses_among}
 use Rattle.energy_log.proofs.ColumnLaws.{same_cell, same-front, same-lapses, cell_in, lapses-in-log, none-past, no-lapses-past, same_bytes}
 use Rattle.energy_log.specs.Walk.{seen_from}

@@ -1,10 +1,10 @@
 -- The log's image. Source: document 01, "The reader and the log": "In memory a log is its image"; document 02, CR 9: "After its 14 header bytes the log
 -- in memory should hold all kinds at two bits each, the earlier cell in the lower bits, then all E+, all E-, all R+, all R-, then the lapses."
-use Rattle.std.specs.Prelude.{ℕ, zero, suc, ◌+◌, ◌*◌, ◌/◌, ◌%◌, ◌<◌, Bool, true, false, cond, List, [], ◌∷◌, ◌++◌, ◌⊎◌, ◌≡◌, ltb, length, get_or}
+use Rattle.std.specs.Prelude.{ℕ, suc, ◌+◌, ◌*◌, ◌/◌, ◌%◌, ◌<◌, Bool, true, false, cond, List, [], ◌∷◌, ◌++◌, ◌⊎◌, ◌≡◌, ltb, length, get_or}
 use Rattle.byte_numbers.specs.Number.{bytes_of}
 use Rattle.byte_numbers.specs.Place.{byte_at, number_at, written}
 use Rattle.log_header.specs.Header.{header_size, cells_of, header_at, header_bytes}
-use Rattle.log_cell.specs.Cell.{kind_of, e_plus_of, e_minus_of, r_plus_of, r_minus_of, kind_cell, kind_names, IsCell}
+use Rattle.log_cell.specs.Cell.{kind_of, e_plus_of, e_minus_of, r_plus_of, r_minus_of, kind_cell, IsCell}
 use Rattle.energy_log.specs.Pair.{pair_of, packed, put_pair}
 use Rattle.log_header.specs.declared.header.Header.{Header}
 use Rattle.log_cell.specs.declared.cell.Cell.{Cell}

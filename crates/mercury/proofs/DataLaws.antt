@@ -7,7 +7,7 @@ use native.Mathlib.Omega.{arith}
 use lib.Dec.{lit≤}
 use lib.ListN.{length, take, drop, length-append}
 use lib.Seq.{take-add, drop-drop}
-use Rattle.byte_numbers.specs.Place.{byte_at, written}
+use Rattle.byte_numbers.specs.Place.{written}
 use Rattle.byte_numbers.proofs.PlaceLaws.{written-append}
 use Rattle.packed_decimal.specs.Packed.{packed_of, decimal_at}
 use Rattle.packed_decimal.specs.declared.Decimal.{Decimal}

@@ -1,11 +1,11 @@
 -- What follows from the definitions of specs/Layout.antt, for proofs alone: no contract cites it.
-use mathlib.Core.Path.{◌≡◌, refl, sym, ap, ◌∙◌}
+use mathlib.Core.Path.{◌≡◌, refl, ap}
 use mathlib.Core.List.{List, [], ◌∷◌, ◌++◌}
-use Prim.Native.Nat.{ℕ, suc, zero, ◌+◌, ◌^◌, ◌≤◌, ◌<◌}
+use Prim.Native.Nat.{ℕ, suc, zero, ◌^◌, ◌≤◌, ◌<◌}
 use native.Mathlib.Omega.{arith}
-use lib.ListN.{length, take, drop}
-use Rattle.byte_numbers.specs.Number.{Bytes, number, bytes_of}
-use Rattle.byte_numbers.specs.Place.{byte_at, written}
+use lib.ListN.{length}
+use Rattle.byte_numbers.specs.Number.{Bytes, bytes_of}
+use Rattle.byte_numbers.specs.Place.{written}
 use Rattle.byte_numbers.proofs.NumberLaws.{bytes-bytes_of, bytes_of-number, number-bytes_of-fits}
 use Rattle.frame.specs.Sealing.{framed, sealed}
 use Rattle.frame.proofs.SealingLaws.{sealed-written}

@@ -1,13 +1,13 @@
 -- What follows from the definitions of specs/Form.antt, specs/Request.antt and specs/Reply.antt, for proofs alone: no contract cites it.
 use mathlib.Core.Path.{◌≡◌, refl, sym, ap, ap₂, ◌∙◌}
-use mathlib.Core.Bool.{Bool, true, false, cond, ◌&&◌, false≢true}
+use mathlib.Core.Bool.{Bool, true, false, cond}
 use mathlib.Core.List.{List, [], ◌∷◌, ◌++◌, append_assoc, append-nil}
 use Prim.Native.Nat.{ℕ, zero, suc, ◌+◌, ◌-◌, ◌^◌, ◌≤◌, ◌<◌}
 use native.Mathlib.Nat.{zero-lt-suc}
 use native.Mathlib.Omega.{arith}
 use lib.Dec.{eqb}
-use lib.ListN.{length, take, drop, length-append, length-drop, take-append-drop}
-use lib.Seq.{take-add, take_at, drop_at}
+use lib.ListN.{length, take, drop, length-append}
+use lib.Seq.{take-add, drop_at}
 use borrow.Author.Tests.{eq-eqb, eqb-true}
 use Rattle.test_laws.proofs.Test.{both}
 use Rattle.byte_numbers.specs.Number.{Bytes, bytes_of}
@@ -18,10 +18,9 @@ use Rattle.frame.proofs.SealingLaws.{length-framed, crc_fits-framed, framed-of-f
 use Rattle.packed_decimal.proofs.PackedLaws.{bytes-append}
 use Rattle.mercury.specs.Command.{command_of, is_known, data_size}
 use Rattle.mercury.specs.Form.{form_of, request_form, repeats, reply_form}
-use Rattle.mercury.specs.Layout.{turned, address_bytes, address_in, head_of, bare_size}
+use Rattle.mercury.specs.Layout.{address_bytes, address_in, head_of}
 use Rattle.mercury.specs.Reply.{reply_frame}
 use Rattle.mercury.specs.Request.{request_frame}
-use Rattle.mercury.specs.declared.form.Form.{Form}
 use Rattle.mercury.specs.declared.form.Form.TheVariants.{WellFormed, Faulty}
 use Rattle.mercury.specs.declared.form.Fault.{Fault}
 use Rattle.mercury.specs.declared.form.Fault.TheVariants as fault

@@ -1,5 +1,5 @@
 -- Protection. Source: document 01, "Protection"; 002, sections 5.1 and 5.2, figures 21 and 22 (page 20); document 02, CR 6.
-use Rattle.std.specs.Prelude.{Bool, true, false, cond, List, ℕ, eqb, leb, length}
+use Rattle.std.specs.Prelude.{Bool, true, false, cond, List, ℕ, eqb, leb}
 use Rattle.byte_numbers.specs.Place.{number_at}
 use Rattle.parameters.specs.declared.code.Parameter.{Parameter}
 use Rattle.frame.specs.Layout.{data_place, bare_size, unlock_size}

@@ -1,0 +1,4 @@
+use Rattle.console.proofs.line.+word.Given as goal
+
+abbrev pub decreases-word : goal.decreases-word
+decreases-word l = l.k
