@@ -1,27 +1,35 @@
 // The next line, for scripts and for people: where a person types, there is a prompt on standard error.
 use console_io::{Rest, Taken};
-use libc::{STDERR_FILENO, STDIN_FILENO};
+use std::io;
 
-pub fn greet() {
-    tell(b"bench: help prints the lines with their answers, quit ends\n");
+pub fn greet(rt: HostRuntime) {
+    tell(
+        rt,
+        b"bench: help prints the lines with their answers, quit ends\n",
+    );
 }
 
 // The line `quit` ends the input.
-pub fn next_call(block: &mut [u8], rest: Rest, line: &mut [u8]) -> Taken {
-    prompt(rest);
-    let taken = console_io::next_line(STDIN_FILENO, block, rest, line);
+pub fn next_call(
+    rt: HostRuntime,
+    block: &mut [u8],
+    rest: Rest,
+    line: &mut [u8],
+) -> io::Result<Taken> {
+    prompt(rt, rest);
+    let taken = console_io::next_line(&mut rt.stdin(), block, rest, line)?;
     if taken.ended {
         // What comes next on the terminal begins on a line of its own.
-        tell(b"\n");
-        return taken;
+        tell(rt, b"\n");
+        return Ok(taken);
     }
     if is_quit(console::part(line, taken.length)) {
-        return Taken {
+        return Ok(Taken {
             ended: true,
             ..taken
-        };
+        });
     }
-    taken
+    Ok(taken)
 }
 
 fn is_quit(line: &[u8]) -> bool {
@@ -29,14 +37,14 @@ fn is_quit(line: &[u8]) -> bool {
 }
 
 // Only where another read has to be waited for.
-fn prompt(rest: Rest) {
+fn prompt(rt: HostRuntime, rest: Rest) {
     if rest.end <= rest.at {
-        tell(b"bench> ");
+        tell(rt, b"bench> ");
     }
 }
 
-fn tell(bytes: &[u8]) {
-    if console_io::is_typed() {
-        io::write_all(STDERR_FILENO, bytes);
+fn tell(rt: HostRuntime, bytes: &[u8]) {
+    if console_io::is_typed(rt) {
+        let _ = rt.stderr().write_all(bytes);
     }
 }

@@ -1,5 +1,8 @@
-// A descriptor's bytes, a line at a time. They are read in blocks: a read gives what is there, so a person who types is answered at
+// A reader's bytes, a line at a time. They are read in blocks: a read gives what is there, so a person who types is answered at
 // once, and a script takes few reads.
+use std::io;
+use std::io::Read;
+
 // What of a block is yet to be taken: from one place up to another.
 #[derive(Clone, Copy)]
 pub struct Rest {
@@ -28,26 +31,30 @@ pub const LINE_ROOM: usize = 4097;
 
 // The next line to the front of a lent buffer, which has a byte more than the longest line. The last line may lack its newline. A line
 // that does not fit is read to its end all the same, and is given as `?` alone, or as a comment if it is one.
-pub fn next_line(fd: i32, block: &mut [u8], from: Rest, line: &mut [u8]) -> Taken {
+pub fn next_line<R: Read>(
+    reader: &mut R,
+    block: &mut [u8],
+    from: Rest,
+    line: &mut [u8],
+) -> io::Result<Taken> {
     let mut rest = from;
     let mut n: usize = 0;
     let mut long = false;
     // Nothing says that the input ends: this many bytes no line has.
-    let mut turns = u64::MAX;
-    while 0 < turns {
-        rest = filled(fd, block, rest);
+    for _ in 0..u64::MAX {
+        rest = filled(reader, block, rest)?;
         let at = rest.at;
         if rest.end <= at {
-            return last_line(line, n, long);
+            return Ok(last_line(line, n, long));
         }
         rest.at = at + 1;
         let byte = byte_numbers::byte_at(block, at);
         if byte == NEWLINE {
-            return Taken {
+            return Ok(Taken {
                 ended: false,
                 length: fitting(line, n, long),
                 rest: rest,
-            };
+            });
         }
         // Stored where there is room.
         byte_numbers::put_byte(line, n, byte);
@@ -56,21 +63,17 @@ pub fn next_line(fd: i32, block: &mut [u8], from: Rest, line: &mut [u8]) -> Take
         } else {
             long = true;
         }
-        turns -= 1;
     }
-    ended()
+    Ok(ended())
 }
 
 // Another block where all of this one is taken.
-fn filled(fd: i32, block: &mut [u8], rest: Rest) -> Rest {
+fn filled<R: Read>(reader: &mut R, block: &mut [u8], rest: Rest) -> io::Result<Rest> {
     if rest.at < rest.end {
-        return rest;
+        return Ok(rest);
     }
-    let got = libc::read(fd, block);
-    Rest {
-        at: 0,
-        end: io::count(got, block),
-    }
+    let end = reader.read(block)?;
+    Ok(Rest { at: 0, end: end })
 }
 
 fn ended() -> Taken {

@@ -1,4 +1,4 @@
-// What the programs over the console's lines read and write: lines from a descriptor, the words of an answer to standard output, and for
+// What the programs over the console's lines read and write: lines from a reader, the words of an answer to standard output, and for
 // people words about it to standard error.
 #![tactic(auto)]
 

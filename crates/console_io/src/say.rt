@@ -1,102 +1,108 @@
 // Answers, on standard output, and words about them on standard error.
-use libc::{STDERR_FILENO, STDOUT_FILENO};
-
-pub fn put(bytes: &[u8]) {
-    io::write_all(STDOUT_FILENO, bytes);
+// What cannot be written is left out.
+pub fn put(rt: HostRuntime, bytes: &[u8]) {
+    let _ = rt.stdout().write_all(bytes);
 }
 
-pub fn unread() {
-    failed();
-    if crate::typed::is_typed() {
-        io::write_all(STDERR_FILENO, b"not read: help prints the lines\n");
+fn tell(rt: HostRuntime, bytes: &[u8]) {
+    let _ = rt.stderr().write_all(bytes);
+}
+
+pub fn unread(rt: HostRuntime) {
+    failed(rt);
+    if crate::typed::is_typed(rt) {
+        tell(rt, b"not read: help prints the lines\n");
     }
 }
 
 // A file could not be read or written: whoever tried it says why.
-pub fn failed() {
-    put(b"?\n");
+pub fn failed(rt: HostRuntime) {
+    put(rt, b"?\n");
 }
 
 // A call's number, alone on its line.
-pub fn number_line(n: u8) {
-    first(n);
-    end_of(n);
+pub fn number_line(rt: HostRuntime, n: u8) {
+    first(rt, n);
+    end_of(rt, n);
 }
 
 // A call's number, as the first word.
-pub fn first(n: u8) {
-    io::print_decimal(STDOUT_FILENO, n as u64);
+pub fn first(rt: HostRuntime, n: u8) {
+    let _ = rt.stdout().print(n as u64);
 }
 
-pub fn end() {
-    put(b"\n");
+pub fn end(rt: HostRuntime) {
+    put(rt, b"\n");
 }
 
 // Ends the answer of a call with this number. Whoever types is told what a refusal means.
-pub fn end_of(n: u8) {
-    end();
+pub fn end_of(rt: HostRuntime, n: u8) {
+    end(rt);
     if n == refusal::DONE {
         return;
     }
-    if crate::typed::is_typed() {
-        refused(n);
+    if crate::typed::is_typed(rt) {
+        refused(rt, n);
     }
 }
 
 // A refusal's number and its words, to standard error.
-pub fn refused(n: u8) {
+pub fn refused(rt: HostRuntime, n: u8) {
     let mut words = [0u8; refusal_words::WORDS_MOST];
     let length = refusal_words::put_words(n, &mut words);
-    io::write_all(STDERR_FILENO, b"refused ");
-    io::print_decimal(STDERR_FILENO, n as u64);
-    io::write_all(STDERR_FILENO, b": ");
-    io::write_all(STDERR_FILENO, console::part(&words, length));
-    io::write_all(STDERR_FILENO, b"\n");
+    tell(rt, b"refused ");
+    let _ = rt.stderr().print(n as u64);
+    tell(rt, b": ");
+    tell(rt, console::part(&words, length));
+    tell(rt, b"\n");
 }
 
-pub fn number(n: u64) {
-    put(b" ");
-    io::print_decimal(STDOUT_FILENO, n);
+pub fn number(rt: HostRuntime, n: u64) {
+    put(rt, b" ");
+    let _ = rt.stdout().print(n);
 }
 
-pub fn short(n: u16) {
-    number(n as u64);
+pub fn short(rt: HostRuntime, n: u16) {
+    number(rt, n as u64);
 }
 
 // The digits of at most 64 bytes, as many as a frame has.
-pub fn hex(bytes: &[u8]) {
+pub fn hex(rt: HostRuntime, bytes: &[u8]) {
     let mut digits = [0u8; 128];
     text::put_hex(&mut digits, 0, bytes);
     if bytes.len() <= 64 {
         let n = 2 * bytes.len();
-        put(b" ");
-        put(console::part(&digits, n));
+        put(rt, b" ");
+        put(rt, console::part(&digits, n));
     }
 }
 
 // A float as the eight digits of its bits.
-pub fn float(x: f32) {
-    float_bits(wire_values::bits_of(x));
+pub fn float(rt: HostRuntime, x: f32) {
+    float_bits(rt, wire_values::bits_of(x));
 }
 
-pub fn float_bits(bits: u32) {
+pub fn float_bits(rt: HostRuntime, bits: u32) {
     let mut low_first = [0u8; 4];
     byte_numbers::put_u32(&mut low_first, 0, bits);
-    hex(&[low_first[3], low_first[2], low_first[1], low_first[0]]);
+    hex(
+        rt,
+        &[low_first[3], low_first[2], low_first[1], low_first[0]],
+    );
 }
 
-pub fn six_bytes(bytes: [u8; 6]) {
-    number(bytes[0] as u64);
-    number(bytes[1] as u64);
-    number(bytes[2] as u64);
-    number(bytes[3] as u64);
-    number(bytes[4] as u64);
-    number(bytes[5] as u64);
+pub fn six_bytes(rt: HostRuntime, bytes: [u8; 6]) {
+    number(rt, bytes[0] as u64);
+    number(rt, bytes[1] as u64);
+    number(rt, bytes[2] as u64);
+    number(rt, bytes[3] as u64);
+    number(rt, bytes[4] as u64);
+    number(rt, bytes[5] as u64);
 }
 
-pub fn four_counts(a: u16, b: u16, c: u16, d: u16) {
-    short(a);
-    short(b);
-    short(c);
-    short(d);
+pub fn four_counts(rt: HostRuntime, a: u16, b: u16, c: u16, d: u16) {
+    short(rt, a);
+    short(rt, b);
+    short(rt, c);
+    short(rt, d);
 }

@@ -26,30 +26,42 @@ pub struct ConsoleLog {
 }
 
 // All stays as it was.
-fn unread(kept: ConsoleLog) -> ConsoleLog
+fn unread(rt: HostRuntime, kept: ConsoleLog) -> ConsoleLog
     ensures { result ≡ kept }
 {
-    say::unread();
+    say::unread(rt);
     kept
 }
 
 // YEAR MONTH DAY DAYS MINUTES KE SEASONS
-pub fn fresh(line: &[u8], image: &mut [u8], figures: &mut [u32], kept: ConsoleLog) -> ConsoleLog
+pub fn fresh(
+    rt: HostRuntime,
+    line: &[u8],
+    image: &mut [u8],
+    figures: &mut [u32],
+    kept: ConsoleLog,
+) -> ConsoleLog
     ensures { outcome result (log_and_rows image.new figures.new)
         ≡ fresh_line line.now (log_and_rows image.old figures.old) kept }
 {
     if console::is_form(line, &[SHORT, BYTE, BYTE, BYTE, BYTE, SHORT, BYTE]) {
-        return fresh_from(line, image, figures, kept);
+        return fresh_from(rt, line, image, figures, kept);
     }
-    unread(kept)
+    unread(rt, kept)
 }
 
-fn fresh_from(line: &[u8], image: &mut [u8], figures: &mut [u32], kept: ConsoleLog) -> ConsoleLog
+fn fresh_from(
+    rt: HostRuntime,
+    line: &[u8],
+    image: &mut [u8],
+    figures: &mut [u32],
+    kept: ConsoleLog,
+) -> ConsoleLog
     ensures { outcome result (log_and_rows image.new figures.new)
         ≡ fresh_in (year_of (short_in line.now 1)) line.now (log_and_rows image.old figures.old) kept }
 {
     let YearAnswer::Year(year) = console::year(line, 1) else {
-        say::number_line(refusal::OUT_OF_RANGE);
+        say::number_line(rt, refusal::OUT_OF_RANGE);
         return kept;
     };
     let start = Date {
@@ -64,15 +76,21 @@ fn fresh_from(line: &[u8], image: &mut [u8], figures: &mut [u32], kept: ConsoleL
         ke: console::short(line, 6),
         seasons: byte(line, 7),
     };
-    fresh_of(header, image, figures, kept)
+    fresh_of(rt, header, image, figures, kept)
 }
 
-fn fresh_of(h: Header, image: &mut [u8], figures: &mut [u32], kept: ConsoleLog) -> ConsoleLog
+fn fresh_of(
+    rt: HostRuntime,
+    h: Header,
+    image: &mut [u8],
+    figures: &mut [u32],
+    kept: ConsoleLog,
+) -> ConsoleLog
     ensures { outcome result (log_and_rows image.new figures.new)
         ≡ new_log kept (fresh_with h image.old figures.old) }
 {
     let answer = day_rows::fresh_log(h, image, figures);
-    say::number_line(answer.number());
+    say::number_line(rt, answer.number());
     kept_after(answer, kept)
 }
 
@@ -90,12 +108,18 @@ fn kept_after(answer: FreshAnswer, kept: ConsoleLog) -> ConsoleLog
 }
 
 // The bytes of a file.
-pub fn loaded(bytes: &[u8], image: &mut [u8], figures: &mut [u32], kept: ConsoleLog) -> ConsoleLog
+pub fn loaded(
+    rt: HostRuntime,
+    bytes: &[u8],
+    image: &mut [u8],
+    figures: &mut [u32],
+    kept: ConsoleLog,
+) -> ConsoleLog
     ensures { outcome result (log_and_rows image.new figures.new)
         ≡ loaded_log kept (read_file bytes.now image.old figures.old) }
 {
     let answer = log_file::read_file(bytes, image, figures);
-    say::number_line(answer.number());
+    say::number_line(rt, answer.number());
     kept_loaded(answer, kept)
 }
 
@@ -118,16 +142,23 @@ fn kept_loaded(answer: ReadAnswer, kept: ConsoleLog) -> ConsoleLog
 }
 
 // ADDRESS DAY SLOT
-pub fn ask(line: &[u8], image: &[u8], kept: ConsoleLog) -> ConsoleLog
+pub fn ask(rt: HostRuntime, line: &[u8], image: &[u8], kept: ConsoleLog) -> ConsoleLog
     ensures { result ≡ ask_line line.now image.now kept }
 {
     if console::is_form(line, &[BYTE, BYTE, BYTE]) {
-        return ask_for(image, kept, byte(line, 1), byte(line, 2), byte(line, 3));
+        return ask_for(rt, image, kept, byte(line, 1), byte(line, 2), byte(line, 3));
     }
-    unread(kept)
+    unread(rt, kept)
 }
 
-fn ask_for(image: &[u8], kept: ConsoleLog, address: u8, day: u8, slot: u8) -> ConsoleLog
+fn ask_for(
+    rt: HostRuntime,
+    image: &[u8],
+    kept: ConsoleLog,
+    address: u8,
+    day: u8,
+    slot: u8,
+) -> ConsoleLog
     ensures { result ≡ asked_for image.now kept address day slot }
 {
     let mut frame = [0u8; frame::layout::READ_BYTES];
@@ -141,7 +172,7 @@ fn ask_for(image: &[u8], kept: ConsoleLog, address: u8, day: u8, slot: u8) -> Co
         &mut frame,
     );
     let answer = asked.answer;
-    say_asked(answer, &frame);
+    say_asked(rt, answer, &frame);
     let after = asked.held;
     ConsoleLog {
         length: kept.length,
@@ -149,39 +180,39 @@ fn ask_for(image: &[u8], kept: ConsoleLog, address: u8, day: u8, slot: u8) -> Co
     }
 }
 
-fn say_asked(answer: AskAnswer, frame: &[u8]) {
+fn say_asked(rt: HostRuntime, answer: AskAnswer, frame: &[u8]) {
     let number = answer.number();
-    say::first(number);
+    say::first(rt, number);
     match answer {
-        AskAnswer::Done => say::hex(frame),
+        AskAnswer::Done => say::hex(rt, frame),
         AskAnswer::TooShort => {}
         AskAnswer::Unsound => {}
         AskAnswer::AlreadyOpen => {}
         AskAnswer::NotInLog => {}
     }
-    say::end_of(number);
+    say::end_of(rt, number);
 }
 
-pub fn lapse(line: &[u8], image: &mut [u8], kept: ConsoleLog) -> ConsoleLog
+pub fn lapse(rt: HostRuntime, line: &[u8], image: &mut [u8], kept: ConsoleLog) -> ConsoleLog
     ensures { outcome result image.new ≡ lapse_line line.now image.old kept }
 {
     if console::spaces(line) == 0 {
-        return lapse_of(image, kept);
+        return lapse_of(rt, image, kept);
     }
-    unread(kept)
+    unread(rt, kept)
 }
 
-fn lapse_of(image: &mut [u8], kept: ConsoleLog) -> ConsoleLog
+fn lapse_of(rt: HostRuntime, image: &mut [u8], kept: ConsoleLog) -> ConsoleLog
     ensures { outcome result image.new ≡ lapse_of image.old kept }
 {
     let length = kept.length;
     let held = kept.held;
     if image.len() < length {
-        return unread(kept);
+        return unread(rt, kept);
     }
     let lapsed = logger::lapse(&mut image[..length], held);
     let answer = lapsed.answer;
-    say::number_line(answer.number());
+    say::number_line(rt, answer.number());
     let after = lapsed.held;
     ConsoleLog {
         length: length,
@@ -190,29 +221,41 @@ fn lapse_of(image: &mut [u8], kept: ConsoleLog) -> ConsoleLog
 }
 
 // BYTES, or none
-pub fn reply(line: &[u8], image: &mut [u8], figures: &mut [u32], kept: ConsoleLog) -> ConsoleLog
+pub fn reply(
+    rt: HostRuntime,
+    line: &[u8],
+    image: &mut [u8],
+    figures: &mut [u32],
+    kept: ConsoleLog,
+) -> ConsoleLog
     ensures { outcome result (log_and_rows image.new figures.new)
         ≡ reply_line line.now (log_and_rows image.old figures.old) kept }
 {
     let mut bytes = [0u8; 2048];
     match crate::reads::reply_bytes(line, 1, &mut bytes) {
-        BytesAnswer::Bytes(n) => reply_of(console::part(&bytes, n), image, figures, kept),
-        BytesAnswer::Unread => unread(kept),
+        BytesAnswer::Bytes(n) => reply_of(rt, console::part(&bytes, n), image, figures, kept),
+        BytesAnswer::Unread => unread(rt, kept),
     }
 }
 
-fn reply_of(bytes: &[u8], image: &mut [u8], figures: &mut [u32], kept: ConsoleLog) -> ConsoleLog
+fn reply_of(
+    rt: HostRuntime,
+    bytes: &[u8],
+    image: &mut [u8],
+    figures: &mut [u32],
+    kept: ConsoleLog,
+) -> ConsoleLog
     ensures { outcome result (log_and_rows image.new figures.new)
         ≡ reply_of bytes.now (log_and_rows image.old figures.old) kept }
 {
     let length = kept.length;
     let held = kept.held;
     if image.len() < length {
-        return unread(kept);
+        return unread(rt, kept);
     }
     let taken = logger::take_reply(&mut image[..length], figures, held, bytes);
     let answer = taken.answer;
-    say_taken(answer);
+    say_taken(rt, answer);
     let after = taken.held;
     ConsoleLog {
         length: length,
@@ -220,107 +263,107 @@ fn reply_of(bytes: &[u8], image: &mut [u8], figures: &mut [u32], kept: ConsoleLo
     }
 }
 
-fn say_taken(answer: TakeAnswer) {
+fn say_taken(rt: HostRuntime, answer: TakeAnswer) {
     let number = answer.number();
-    say::first(number);
+    say::first(rt, number);
     match answer {
         TakeAnswer::Done => {}
         TakeAnswer::TooShort => {}
         TakeAnswer::NoAskOpen => {}
         TakeAnswer::NotInLog => {}
-        TakeAnswer::Malformed(fault) => crate::reads::say_fault(fault),
-        TakeAnswer::MeterRefused(result) => say::number(result as u64),
+        TakeAnswer::Malformed(fault) => crate::reads::say_fault(rt, fault),
+        TakeAnswer::MeterRefused(result) => say::number(rt, result as u64),
         TakeAnswer::OtherCounts => {}
         TakeAnswer::Unsound => {}
     }
-    say::end_of(number);
+    say::end_of(rt, number);
 }
 
-pub fn open_ask(line: &[u8], held: OpenAsk) {
+pub fn open_ask(rt: HostRuntime, line: &[u8], held: OpenAsk) {
     if console::spaces(line) != 0 {
-        say::unread();
+        say::unread(rt);
         return;
     }
-    say::first(refusal::DONE);
+    say::first(rt, refusal::DONE);
     match held {
-        OpenAsk::Closed => say::put(b" closed"),
+        OpenAsk::Closed => say::put(rt, b" closed"),
         OpenAsk::Open(address, day, slot) => {
-            say::number(address as u64);
-            say::number(day as u64);
-            say::number(slot as u64);
+            say::number(rt, address as u64);
+            say::number(rt, day as u64);
+            say::number(rt, slot as u64);
         }
     }
-    say::end();
+    say::end(rt);
 }
 
 // DAY SLOT
-pub fn cell(line: &[u8], image: &[u8]) {
+pub fn cell(rt: HostRuntime, line: &[u8], image: &[u8]) {
     if console::is_form(line, &[BYTE, BYTE]) {
-        cell_of(image, byte(line, 1), byte(line, 2));
+        cell_of(rt, image, byte(line, 1), byte(line, 2));
     } else {
-        say::unread();
+        say::unread(rt);
     }
 }
 
-fn cell_of(image: &[u8], day: u8, slot: u8) {
+fn cell_of(rt: HostRuntime, image: &[u8], day: u8, slot: u8) {
     match log_header::sound(image) {
         LogHeader::Sound(h) => match log_header::interval_of(h, day, slot) {
-            Interval::At(i) => say_cell(energy_log::cell_at(image, i), energy_log::lapses_at(image, i)),
-            Interval::Outside => say::number_line(refusal::NOT_IN_LOG),
+            Interval::At(i) => say_cell(rt, energy_log::cell_at(image, i), energy_log::lapses_at(image, i)),
+            Interval::Outside => say::number_line(rt, refusal::NOT_IN_LOG),
         },
-        LogHeader::Unsound => say::number_line(refusal::UNSOUND),
+        LogHeader::Unsound => say::number_line(rt, refusal::UNSOUND),
     }
 }
 
-fn say_cell(answer: CellAnswer, lapses: u8) {
+fn say_cell(rt: HostRuntime, answer: CellAnswer, lapses: u8) {
     match answer {
         CellAnswer::Good(c) => {
-            say::first(refusal::DONE);
+            say::first(rt, refusal::DONE);
             match c {
-                Cell::Gap => say::put(b" gap"),
-                Cell::Empty => say::put(b" empty"),
+                Cell::Gap => say::put(rt, b" gap"),
+                Cell::Empty => say::put(rt, b" empty"),
                 Cell::Measured(ep, em, rp, rm) => {
-                    say::put(b" measured");
-                    say::four_counts(ep, em, rp, rm);
+                    say::put(rt, b" measured");
+                    say::four_counts(rt, ep, em, rp, rm);
                 }
             }
-            say::number(lapses as u64);
-            say::end();
+            say::number(rt, lapses as u64);
+            say::end(rt);
         }
-        CellAnswer::Bad => say::number_line(refusal::UNSOUND),
+        CellAnswer::Bad => say::number_line(rt, refusal::UNSOUND),
     }
 }
 
 // DAY
-pub fn report(line: &[u8], image: &[u8], figures: &[u32]) {
+pub fn report(rt: HostRuntime, line: &[u8], image: &[u8], figures: &[u32]) {
     if console::is_form(line, &[BYTE]) {
-        report_of(image, figures, byte(line, 1));
+        report_of(rt, image, figures, byte(line, 1));
     } else {
-        say::unread();
+        say::unread(rt);
     }
 }
 
-fn report_of(image: &[u8], figures: &[u32], day: u8) {
+fn report_of(rt: HostRuntime, image: &[u8], figures: &[u32], day: u8) {
     let mut row = [0u32; day_rows::REPORT_NUMBERS];
     let answer = day_report::day_report(image, figures, day, &mut row);
     let number = answer.number();
-    say::first(number);
+    say::first(rt, number);
     match answer {
-        ReportAnswer::Done => say_row(row),
+        ReportAnswer::Done => say_row(rt, row),
         ReportAnswer::TooShort => {}
         ReportAnswer::Unsound => {}
         ReportAnswer::NotInLog => {}
     }
-    say::end_of(number);
+    say::end_of(rt, number);
 }
 
-fn say_row(row: [u32; day_rows::REPORT_NUMBERS]) {
-    say::number(row[0] as u64);
-    say::number(row[1] as u64);
-    say::number(row[2] as u64);
-    say::number(row[3] as u64);
-    say::number(row[4] as u64);
-    say::number(row[5] as u64);
-    say::number(row[6] as u64);
-    say::number(row[7] as u64);
+fn say_row(rt: HostRuntime, row: [u32; day_rows::REPORT_NUMBERS]) {
+    say::number(rt, row[0] as u64);
+    say::number(rt, row[1] as u64);
+    say::number(rt, row[2] as u64);
+    say::number(rt, row[3] as u64);
+    say::number(rt, row[4] as u64);
+    say::number(rt, row[5] as u64);
+    say::number(rt, row[6] as u64);
+    say::number(rt, row[7] as u64);
 }

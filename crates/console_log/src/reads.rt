@@ -40,108 +40,108 @@ pub fn request_in(reading: Reading, line: &[u8]) -> Request
     }
 }
 
-pub fn request(reading: Reading, line: &[u8]) {
+pub fn request(rt: HostRuntime, reading: Reading, line: &[u8]) {
     if console::is_form(line, &[BYTE, BYTE, BYTE, BYTE, BYTE]) {
-        request_of(request_in(reading, line));
+        request_of(rt, request_in(reading, line));
     } else {
-        say::unread();
+        say::unread(rt);
     }
 }
 
-fn request_of(q: Request) {
+fn request_of(rt: HostRuntime, q: Request) {
     let mut frame = [0u8; frame::layout::READ_BYTES];
     let answer = request::put_request(q, &mut frame);
     let number = answer.number();
-    say::first(number);
+    say::first(rt, number);
     match answer {
-        RequestAnswer::Done => say::hex(&frame),
+        RequestAnswer::Done => say::hex(rt, &frame),
         RequestAnswer::TooShort => {}
         RequestAnswer::OutOfRange => {}
     }
-    say::end_of(number);
+    say::end_of(rt, number);
 }
 
 // A request's five numbers, and BYTES, or none.
-pub fn decode(reading: Reading, line: &[u8]) {
+pub fn decode(rt: HostRuntime, reading: Reading, line: &[u8]) {
     let mut bytes = [0u8; 2048];
     match reply_bytes(line, 6, &mut bytes) {
-        BytesAnswer::Bytes(n) => decode_from(reading, line, console::part(&bytes, n)),
-        BytesAnswer::Unread => say::unread(),
+        BytesAnswer::Bytes(n) => decode_from(rt, reading, line, console::part(&bytes, n)),
+        BytesAnswer::Unread => say::unread(rt),
     }
 }
 
-fn decode_from(reading: Reading, line: &[u8], reply: &[u8]) {
+fn decode_from(rt: HostRuntime, reading: Reading, line: &[u8], reply: &[u8]) {
     if console::are_numbers(line, &[BYTE, BYTE, BYTE, BYTE, BYTE]) {
-        decode_of(request_in(reading, line), reply);
+        decode_of(rt, request_in(reading, line), reply);
     } else {
-        say::unread();
+        say::unread(rt);
     }
 }
 
-fn decode_of(q: Request, reply: &[u8]) {
+fn decode_of(rt: HostRuntime, q: Request, reply: &[u8]) {
     let decoded = reader::decode(q, reply);
     let number = decoded.number();
-    say::first(number);
-    say_figures(decoded, reply);
-    say::end_of(number);
+    say::first(rt, number);
+    say_figures(rt, decoded, reply);
+    say::end_of(rt, number);
 }
 
-pub fn say_figures(decoded: Decoded, reply: &[u8]) {
+pub fn say_figures(rt: HostRuntime, decoded: Decoded, reply: &[u8]) {
     match decoded {
         Decoded::OutOfRange => {}
-        Decoded::Malformed(fault) => say_fault(fault),
-        Decoded::MeterRefused(result) => say::number(result as u64),
+        Decoded::Malformed(fault) => say_fault(rt, fault),
+        Decoded::MeterRefused(result) => say::number(rt, result as u64),
         Decoded::NotFinite => {}
-        Decoded::Address(address) => say::number(address as u64),
+        Decoded::Address(address) => say::number(rt, address as u64),
         Decoded::Telemetry(t) => {
-            say::number(t.k as u64);
-            say::number(t.ke as u64);
-            say::number(t.reserve as u64);
+            say::number(rt, t.k as u64);
+            say::number(rt, t.ke as u64);
+            say::number(rt, t.reserve as u64);
         }
         Decoded::DateTime(t) => {
             let mut bytes = [0u8; 6];
             wire_values::put_date_time(&mut bytes, t);
-            say::six_bytes(bytes);
+            say::six_bytes(rt, bytes);
         }
         Decoded::DisplayMask(m) => {
             let mut bytes = [0u8; 6];
             wire_values::put_display_mask(&mut bytes, m);
-            say::six_bytes(bytes);
+            say::six_bytes(rt, bytes);
         }
         Decoded::Powers(p) => {
             let phases = p.phases;
-            say::float(p.total);
-            say::float(phases.a);
-            say::float(phases.b);
-            say::float(phases.c);
+            say::float(rt, p.total);
+            say::float(rt, phases.a);
+            say::float(rt, phases.b);
+            say::float(rt, phases.c);
         }
-        Decoded::OnePower(x) => say::float(x),
+        Decoded::OnePower(x) => say::float(rt, x),
         Decoded::Slice(c) => {
-            say::number(c.e_plus as u64);
-            say::number(c.e_minus as u64);
-            say::number(c.r_plus as u64);
-            say::number(c.r_minus as u64);
+            say::number(rt, c.e_plus as u64);
+            say::number(rt, c.e_minus as u64);
+            say::number(rt, c.r_plus as u64);
+            say::number(rt, c.r_minus as u64);
         }
-        Decoded::SixSlices => say_rows(reader::six_slices(reply)),
-        Decoded::Displayed(e) => say_energies(e),
+        Decoded::SixSlices => say_rows(rt, reader::six_slices(reply)),
+        Decoded::Displayed(e) => say_energies(rt, e),
     }
 }
 
-fn say_energies(e: Energies) {
+fn say_energies(rt: HostRuntime, e: Energies) {
     let e_plus = e.e_plus;
     let e_minus = e.e_minus;
     let r_plus = e.r_plus;
     let r_minus = e.r_minus;
-    say::float_bits(e_plus.0);
-    say::float_bits(e_minus.0);
-    say::float_bits(r_plus.0);
-    say::float_bits(r_minus.0);
+    say::float_bits(rt, e_plus.0);
+    say::float_bits(rt, e_minus.0);
+    say::float_bits(rt, r_plus.0);
+    say::float_bits(rt, r_minus.0);
 }
 
 // The length received, which a 50 comes with.
-pub fn say_fault(fault: Fault) {
+pub fn say_fault(rt: HostRuntime, fault: Fault) {
     match fault {
-        Fault::Length(n) => say::number(n as u64),
+        Fault::Length(n) => say::number(rt, n as u64),
         Fault::Crc => {}
         Fault::Address => {}
         Fault::Function => {}
@@ -149,15 +149,15 @@ pub fn say_fault(fault: Fault) {
     }
 }
 
-fn say_rows(six: [[u16; 4]; 6]) {
-    say_row(six[0]);
-    say_row(six[1]);
-    say_row(six[2]);
-    say_row(six[3]);
-    say_row(six[4]);
-    say_row(six[5]);
+fn say_rows(rt: HostRuntime, six: [[u16; 4]; 6]) {
+    say_row(rt, six[0]);
+    say_row(rt, six[1]);
+    say_row(rt, six[2]);
+    say_row(rt, six[3]);
+    say_row(rt, six[4]);
+    say_row(rt, six[5]);
 }
 
-fn say_row(counts: [u16; 4]) {
-    say::four_counts(counts[0], counts[1], counts[2], counts[3]);
+fn say_row(rt: HostRuntime, counts: [u16; 4]) {
+    say::four_counts(rt, counts[0], counts[1], counts[2], counts[3]);
 }

@@ -4,60 +4,60 @@ use console_io::say;
 use mercury::{Decoded, Frequency, Load, Tariffs};
 
 // What a line came to, with the output that it was lent.
-pub fn print(answer: Answer, out: &[u8]) {
+pub fn print(rt: HostRuntime, answer: Answer, out: &[u8]) {
     match answer {
-        Answer::Unread => say::unread(),
-        Answer::Number(n) => say::number_line(n),
-        Answer::Frame(n, length) => frame(n, console::part(out, length)),
-        Answer::Told(d) => decoded(d),
+        Answer::Unread => say::unread(rt),
+        Answer::Number(n) => say::number_line(rt, n),
+        Answer::Frame(n, length) => frame(rt, n, console::part(out, length)),
+        Answer::Told(d) => decoded(rt, d),
     }
 }
 
-fn frame(number: u8, bytes: &[u8]) {
-    say::first(number);
+fn frame(rt: HostRuntime, number: u8, bytes: &[u8]) {
+    say::first(rt, number);
     if 0 < bytes.len() {
-        say::hex(bytes);
+        say::hex(rt, bytes);
     }
-    say::end_of(number);
+    say::end_of(rt, number);
 }
 
-fn decoded(d: Decoded) {
+fn decoded(rt: HostRuntime, d: Decoded) {
     let number = d.number();
-    say::first(number);
+    say::first(rt, number);
     match d {
-        Decoded::Tariffs(t) => tariffs(t),
-        Decoded::Load(l) => load(l),
-        Decoded::Frequency(f) => frequency(f),
+        Decoded::Tariffs(t) => tariffs(rt, t),
+        Decoded::Load(l) => load(rt, l),
+        Decoded::Frequency(f) => frequency(rt, f),
         Decoded::Malformed(_) => {}
         Decoded::NotDecimal => {}
     }
-    say::end_of(number);
+    say::end_of(rt, number);
 }
 
-fn tariffs(t: Tariffs) {
+fn tariffs(rt: HostRuntime, t: Tariffs) {
     let first = t.first;
     let second = t.second;
     let third = t.third;
     let fourth = t.fourth;
-    say::number(first.0 as u64);
-    say::number(second.0 as u64);
-    say::number(third.0 as u64);
-    say::number(fourth.0 as u64);
+    say::number(rt, first.0 as u64);
+    say::number(rt, second.0 as u64);
+    say::number(rt, third.0 as u64);
+    say::number(rt, fourth.0 as u64);
 }
 
-fn load(l: Load) {
+fn load(rt: HostRuntime, l: Load) {
     let voltage = l.voltage;
     let current = l.current;
     let power = l.power;
-    say::short(voltage.0);
-    say::short(current.0);
-    say::number(power.0 as u64);
+    say::short(rt, voltage.0);
+    say::short(rt, current.0);
+    say::number(rt, power.0 as u64);
 }
 
 // The seven bytes behind the frequency as one word.
-fn frequency(f: Frequency) {
+fn frequency(rt: HostRuntime, f: Frequency) {
     let frequency = f.frequency;
     let r = f.rest;
-    say::short(frequency.0);
-    say::hex(&[r.0, r.1, r.2, r.3, r.4, r.5, r.6]);
+    say::short(rt, frequency.0);
+    say::hex(rt, &[r.0, r.1, r.2, r.3, r.4, r.5, r.6]);
 }

@@ -1,48 +1,85 @@
 // A new file beside another.
-use crate::path::too_long;
-use paths_and_locks::{PathAnswer, folder_of, joined};
+use crate::path::{as_text, put_joined};
+use paths_and_locks::{folder_of, front};
+use std::fs::{File, OpenOptions};
+use std::io;
+use std::io::ErrorKind;
+use std::os::unix::fs::OpenOptionsExt;
+use std::random::RandomSource;
 
-#[derive(Clone, Copy)]
+// Open for writing.
+#[derive(Drop)]
 pub struct Beside {
-    // Open for writing, or below 0: there is no file.
-    pub fd: i32,
+    pub file: File,
     // Of its name, from the front of the lent buffer on.
     pub length: usize,
 }
 
+// What a name of its own ends in, after a dot.
+const LETTERS: usize = 6;
+
+const LETTER: [u8; 62] = *b"ABCDEFGHIJKLMNOPQRSTUVWXYZabcdefghijklmnopqrstuvwxyz0123456789";
+
+// Names that are tried.
+const TRIES: u16 = 1000;
+
+// Open to its owner alone.
+const OWN_RIGHTS: u32 = 0o600;
+
 // Makes a file under a name that nobody else has, so that no two programs write to the same one.
-pub fn new_beside(path: &[u8], name: &mut [u8]) -> Beside {
-    match joined(name, path, b".XXXXXX") {
-        PathAnswer::Length(n) => Beside {
-            fd: new_named(name, n),
-            length: n,
-        },
-        PathAnswer::Failed => {
-            too_long();
-            Beside { fd: -1, length: 0 }
+pub fn new_beside(rt: HostRuntime, path: &[u8], name: &mut [u8]) -> io::Result<Beside> {
+    for _ in 0..TRIES {
+        let length = put_joined(name, path, &own_ending(rt)?)?;
+        let made = OpenOptions::new()
+            .read(true)
+            .write(true)
+            .create_new(true)
+            .mode(OWN_RIGHTS)
+            .open(&rt, as_text(front(name, length))?);
+        match made {
+            Ok(file) => return Ok(Beside { file, length }),
+            Err(e) if e.kind() == ErrorKind::AlreadyExists => {}
+            Err(e) => return Err(e),
         }
     }
+    Err(io::Error::from(ErrorKind::AlreadyExists))
 }
 
-fn new_named(name: &mut [u8], n: usize) -> i32 {
-    if n <= name.len() {
-        return os::create_temp(&mut name[..n]);
-    }
-    -1
+// A dot and letters by chance.
+fn own_ending(rt: HostRuntime) -> io::Result<[u8; 7]> {
+    let mut b = [0u8; LETTERS];
+    rt.fill_bytes(&mut b)?;
+    Ok([
+        b'.',
+        letter(b[0]),
+        letter(b[1]),
+        letter(b[2]),
+        letter(b[3]),
+        letter(b[4]),
+        letter(b[5]),
+    ])
+}
+
+fn letter(b: u8) -> u8 {
+    LETTER[b as usize % 62]
+}
+
+// Makes a file that was not there, with the rights of any file that is made.
+pub fn new_file(rt: HostRuntime, path: &[u8]) -> io::Result<File> {
+    OpenOptions::new()
+        .write(true)
+        .create_new(true)
+        .open(&rt, as_text(path)?)
 }
 
 // Sees that a name which a file was given or lost stays so after a power cut. Where the system has no way to, it is left.
-pub fn settle(path: &[u8]) {
-    let fd = open_folder(folder_of(path));
-    if 0 <= fd {
-        libc::fsync(fd);
-        libc::close(fd);
-    }
+pub fn settle(rt: HostRuntime, path: &[u8]) {
+    let _ = settled(rt, folder_of(path));
 }
 
-fn open_folder(folder: &[u8]) -> i32 {
+fn settled(rt: HostRuntime, folder: &[u8]) -> io::Result<()> {
     if folder.len() == 0 {
-        return os::open_read(b".");
+        return File::open(&rt, ".")?.sync_all();
     }
-    os::open_read(folder)
+    File::open(&rt, as_text(folder)?)?.sync_all()
 }

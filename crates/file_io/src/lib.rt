@@ -1,21 +1,28 @@
 // A file as a whole: read into a lent buffer, written anew, or made where there was none. A power cut while one is written anew
 // leaves the old file or the new one. A lock keeps a second program from the same file or line: a file that names the process that
-// holds it. Where a call answers that it failed, errno says why.
+// holds it. And what a program asks of the machine: its clock, and the words that it was called with.
 #![tactic(auto)]
 
+mod arguments;
 mod beside;
 mod kept;
 mod link;
 mod lock;
 mod machine_clock;
 mod path;
-mod pause;
 mod reading;
+mod reason;
 mod writing;
 
+pub use arguments::{word, word_count};
 pub use link::{file_lock_name, line_lock_name, resolved};
 pub use lock::{Lock, locked, unlocked};
 pub use machine_clock::seconds;
+pub use path::{PATH_ROOM, as_text};
 pub use paths_and_locks::PathAnswer;
-pub use reading::{FileAnswer, contents};
+pub use reading::contents;
+pub use reason::fail;
 pub use writing::{made, stored};
+
+#[cfg(test)]
+mod tests;

@@ -1,6 +1,8 @@
 // Paths behind symbolic links, and the names of locks.
-use crate::path::{ended, is_whole, too_long};
-use paths_and_locks::{PathAnswer, base_of, front, joined, start_of};
+use crate::path::{LINKS, PATH_ROOM, as_text, put_joined};
+use paths_and_locks::{base_of, front, start_of};
+use std::fs::File;
+use std::{fs, io};
 
 #[derive(Clone, Copy)]
 enum Step {
@@ -8,113 +10,63 @@ enum Step {
     End,
     // The path that a link leads to, by its length.
     To(usize),
-    Failed,
 }
 
 // The system follows no more links than these.
 const LINKS_MOST: u8 = 40;
 
 // A path to the file itself where the path names a symbolic link, or a link to a link: the links of its last name are followed. A
-// name that is not there is where the walk ends.
-pub fn resolved(path: &[u8], out: &mut [u8]) -> PathAnswer {
-    if is_whole(path) {
-        return match joined(out, path, b"") {
-            PathAnswer::Length(n) => walked(path, out, n),
-            PathAnswer::Failed => too_long(),
-        };
-    }
-    // Its errno is the one that opening such a path gives.
-    os::open_read(path);
-    PathAnswer::Failed
-}
-
-fn walked(path: &[u8], out: &mut [u8], n: usize) -> PathAnswer {
-    let mut size = n;
-    let mut left = LINKS_MOST;
-    while 0 < left {
-        match stepped(out, size) {
-            Step::End => {
-                return PathAnswer::Length(size);
-            }
-            Step::To(m) => {
-                size = m;
-            }
-            Step::Failed => {
-                return PathAnswer::Failed;
-            }
+// name that is not there is where the walk ends. The path stands at the front of the lent buffer, and the answer is its length.
+pub fn resolved(rt: HostRuntime, path: &[u8], out: &mut [u8]) -> io::Result<usize> {
+    as_text(path)?;
+    let mut n = put_joined(out, path, b"")?;
+    for _ in 0..LINKS_MOST {
+        match stepped(rt, out, n)? {
+            Step::End => return Ok(n),
+            Step::To(m) => n = m,
         }
-        left -= 1;
     }
     // The system says what is wrong with it.
-    os::open_read(path);
-    PathAnswer::Failed
+    File::open(&rt, as_text(path)?)?;
+    Err(io::Error::from_raw_os_error(LINKS))
 }
 
 // The path in the buffer's first bytes gives way to the one that its link leads to.
-fn stepped(out: &mut [u8], n: usize) -> Step {
-    let mut next = io::buffer();
-    let step = followed(front(out, n), &mut next);
-    match step {
-        Step::End => Step::End,
-        Step::To(m) => {
-            if out.len() < m {
-                too_long();
-                return Step::Failed;
-            }
-            byte_numbers::put_bytes(out, 0, front(&next, m));
-            Step::To(m)
-        }
-        Step::Failed => Step::Failed,
+fn stepped(rt: HostRuntime, out: &mut [u8], n: usize) -> io::Result<Step> {
+    let mut next = [0u8; PATH_ROOM];
+    match followed(rt, front(out, n), &mut next)? {
+        Step::End => Ok(Step::End),
+        Step::To(m) => Ok(Step::To(put_joined(out, front(&next, m), b"")?)),
     }
 }
 
 // Where one link leads to.
-fn followed(path: &[u8], next: &mut [u8]) -> Step {
-    let at = ended(path);
-    let mut text = io::buffer();
-    let got = libc::readlink(&at, &mut text);
-    if got < 0 {
-        return Step::End;
-    }
-    let n = io::count(got, &text);
-    let answer = joined(next, start_of(path, &text[..n]), &text[..n]);
-    match answer {
-        PathAnswer::Length(m) => {
-            if is_whole(front(next, m)) {
-                return Step::To(m);
-            }
-            too_long();
-            Step::Failed
+fn followed(rt: HostRuntime, path: &[u8], next: &mut [u8]) -> io::Result<Step> {
+    match fs::read_link(&rt, as_text(path)?) {
+        Ok(link) => {
+            let words = link.as_str().as_bytes();
+            let m = put_joined(next, start_of(path, words), words)?;
+            as_text(front(next, m))?;
+            Ok(Step::To(m))
         }
-        PathAnswer::Failed => {
-            too_long();
-            Step::Failed
-        }
+        // The system does not follow it. Other errors are no answer.
+        Err(e) => match e.raw_os_error() {
+            Some(_) => Ok(Step::End),
+            None => Err(e),
+        },
     }
 }
 
 // The name of a serial line's lock, by the custom of the programs that use one: LCK.. and the device's own name.
-pub fn line_lock_name(device: &[u8], out: &mut [u8]) -> PathAnswer {
-    let mut real = io::buffer();
-    match resolved(device, &mut real) {
-        PathAnswer::Length(n) => named(out, b"/var/lock/LCK..", base_of(front(&real, n))),
-        PathAnswer::Failed => PathAnswer::Failed,
-    }
+pub fn line_lock_name(rt: HostRuntime, device: &[u8], out: &mut [u8]) -> io::Result<usize> {
+    let mut real = [0u8; PATH_ROOM];
+    let n = resolved(rt, device, &mut real)?;
+    put_joined(out, b"/var/lock/LCK..", base_of(front(&real, n)))
 }
 
 // The name of a file's lock, which stands beside it.
-pub fn file_lock_name(path: &[u8], out: &mut [u8]) -> PathAnswer {
-    let mut real = io::buffer();
-    match resolved(path, &mut real) {
-        PathAnswer::Length(n) => named(out, front(&real, n), b".lock"),
-        PathAnswer::Failed => PathAnswer::Failed,
-    }
-}
-
-fn named(out: &mut [u8], xs: &[u8], ys: &[u8]) -> PathAnswer {
-    let answer = joined(out, xs, ys);
-    match answer {
-        PathAnswer::Length(n) => PathAnswer::Length(n),
-        PathAnswer::Failed => too_long(),
-    }
+pub fn file_lock_name(rt: HostRuntime, path: &[u8], out: &mut [u8]) -> io::Result<usize> {
+    let mut real = [0u8; PATH_ROOM];
+    let n = resolved(rt, path, &mut real)?;
+    put_joined(out, front(&real, n), b".lock")
 }

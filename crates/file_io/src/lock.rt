@@ -1,8 +1,14 @@
 // Locks: files that name the process that holds them.
-use crate::beside::new_beside;
-use crate::pause::pause;
-use crate::reading::{FileAnswer, contents};
+use crate::beside::{Beside, new_beside, new_file};
+use crate::path::{PATH_ROOM, as_text};
+use crate::reading::contents;
+use crate::writing::{remove, renamed};
 use paths_and_locks::{Holder, front, holder_of, put_holder};
+use std::fs::{File, Permissions};
+use std::io::{ErrorKind, Write};
+use std::os::unix::fs::PermissionsExt;
+use std::time::Duration;
+use std::{fs, io, process, thread};
 
 #[derive(Clone, Copy)]
 pub enum Lock {
@@ -12,7 +18,6 @@ pub enum Lock {
     By(u32),
     // There is one, and it names no process.
     Unreadable,
-    Failed,
 }
 
 // What one try comes to.
@@ -24,7 +29,6 @@ enum Try {
     NoNumber,
     // It was there, and is no more.
     Gone,
-    Failed,
 }
 
 #[derive(Clone, Copy)]
@@ -43,50 +47,44 @@ const LOOKED_AT: usize = 64;
 // Tries before a lock without a number is given up, with a wait between them.
 const TRIES: u8 = 4;
 
-// Billionths of a second, which a take-over waits beyond one.
-const OVER_A_SECOND: i64 = 200000000;
+// Thousandths of a second, which a take-over waits.
+const TAKE_OVER: u64 = 1200;
 
-const BETWEEN_TRIES: i64 = 700000000;
+const BETWEEN_TRIES: u64 = 700;
 
 // Open to be read by all, as a lock has to be.
 const RIGHTS: u32 = 0o644;
 
-// errno: there is no such process.
-const ESRCH: i32 = 3;
+// Where the system shows each process that lives, by its number.
+const PROCESSES: &[u8] = b"/proc/";
+
+// The process that always lives.
+const FIRST: u32 = 1;
 
 // Takes a lock for this process. One of a process that lives no more is taken over. A lock that names this process is such a one, too:
 // it was another's, that had its number.
-pub fn locked(path: &[u8]) -> Lock {
-    let mut left = TRIES;
-    while 0 < left {
-        match tried(path) {
-            Try::Held => {
-                return Lock::Held;
-            }
-            Try::By(pid) => {
-                return Lock::By(pid);
-            }
+pub fn locked(rt: HostRuntime, path: &[u8]) -> io::Result<Lock> {
+    for turn in 0..TRIES {
+        match tried(rt, path)? {
+            Try::Held => return Ok(Lock::Held),
+            Try::By(pid) => return Ok(Lock::By(pid)),
             Try::NoNumber => {
-                if 1 < left {
-                    pause(0, BETWEEN_TRIES);
+                if turn < TRIES - 1 {
+                    thread::sleep(&rt, Duration::from_millis(BETWEEN_TRIES));
                 }
             }
             Try::Gone => {}
-            Try::Failed => {
-                return Lock::Failed;
-            }
         }
-        left -= 1;
     }
-    Lock::Unreadable
+    Ok(Lock::Unreadable)
 }
 
 // Gives a lock up, if it is this process's.
-pub fn unlocked(path: &[u8]) {
-    match found(path) {
+pub fn unlocked(rt: HostRuntime, path: &[u8]) {
+    match found(rt, path) {
         Look::Process(pid) => {
-            if pid == own_number() {
-                os::unlink(path);
+            if pid == own_number(rt) {
+                remove(rt, path);
             }
         }
         Look::NoNumber => {}
@@ -94,38 +92,45 @@ pub fn unlocked(path: &[u8]) {
     }
 }
 
-fn tried(path: &[u8]) -> Try {
-    let fd = os::create(path);
-    if 0 <= fd {
-        if put_own(fd) {
-            return Try::Held;
+fn tried(rt: HostRuntime, path: &[u8]) -> io::Result<Try> {
+    match new_file(rt, path) {
+        Ok(file) => match put_own(rt, file) {
+            Ok(()) => Ok(Try::Held),
+            Err(e) => {
+                remove(rt, path);
+                Err(e)
+            }
+        },
+        Err(e) => {
+            if e.kind() == ErrorKind::AlreadyExists {
+                return looked_at(rt, path);
+            }
+            Err(e)
         }
-        os::unlink(path);
-        return Try::Failed;
-    }
-    if os::errno() != libc::EEXIST {
-        return Try::Failed;
-    }
-    match found(path) {
-        Look::Process(pid) => judged(path, pid),
-        Look::NoNumber => Try::NoNumber,
-        Look::Gone => Try::Gone,
     }
 }
 
-fn judged(path: &[u8], pid: u32) -> Try {
-    if lives(pid) {
-        return Try::By(pid);
+fn looked_at(rt: HostRuntime, path: &[u8]) -> io::Result<Try> {
+    match found(rt, path) {
+        Look::Process(pid) => judged(rt, path, pid),
+        Look::NoNumber => Ok(Try::NoNumber),
+        Look::Gone => Ok(Try::Gone),
     }
-    taken_over(path, pid)
 }
 
-fn found(path: &[u8]) -> Look {
+fn judged(rt: HostRuntime, path: &[u8], pid: u32) -> io::Result<Try> {
+    if lives(rt, pid) {
+        return Ok(Try::By(pid));
+    }
+    taken_over(rt, path, pid)
+}
+
+fn found(rt: HostRuntime, path: &[u8]) -> Look {
     let mut bytes = [0u8; LOOKED_AT];
-    match contents(path, &mut bytes) {
-        FileAnswer::Bytes(n) => found_in(front(&bytes, n)),
-        FileAnswer::Failed => {
-            if os::errno() == libc::ENOENT {
+    match contents(rt, path, &mut bytes) {
+        Ok(n) => found_in(front(&bytes, n)),
+        Err(e) => {
+            if e.kind() == ErrorKind::NotFound {
                 return Look::Gone;
             }
             Look::NoNumber
@@ -140,80 +145,89 @@ fn found_in(bytes: &[u8]) -> Look {
     }
 }
 
-// Whether another process has this number. One that this user may not ask after has.
-fn lives(pid: u32) -> bool {
-    if pid == own_number() {
+// Whether another process has this number. One that this user may not ask after has, and where the system shows nobody others'
+// processes, any may.
+fn lives(rt: HostRuntime, pid: u32) -> bool {
+    if pid == own_number(rt) {
         return false;
     }
     if 2147483647 < pid {
         return false;
     }
-    if libc::getpgid(pid as i32) == -1 {
-        return os::errno() != ESRCH;
-    }
-    true
+    is_shown(rt, pid) || !is_shown(rt, FIRST)
 }
 
-fn own_number() -> u32 {
-    let pid = libc::getpid();
-    if 0 < pid {
-        return pid as u32;
+fn is_shown(rt: HostRuntime, pid: u32) -> bool {
+    let mut name = [0u8; 16];
+    let digits = text::decimal_length(pid as u64);
+    byte_numbers::put_bytes(&mut name, 0, PROCESSES);
+    text::put_decimal(&mut name, PROCESSES.len(), pid as u64);
+    let length = PROCESSES.len().saturating_add(digits);
+    match known(rt, front(&name, length)) {
+        Ok(()) => true,
+        Err(e) => e.kind() != ErrorKind::NotFound,
     }
-    0
 }
 
-fn put_own(fd: i32) -> bool {
-    let mut text = [0u8; TEXT];
-    put_holder(&mut text, own_number());
-    let whole = io::write_all(fd, &text);
-    let closed = libc::close(fd);
-    if whole {
-        return closed == 0;
-    }
-    false
+fn known(rt: HostRuntime, path: &[u8]) -> io::Result<()> {
+    fs::metadata(&rt, as_text(path)?)?;
+    Ok(())
+}
+
+fn own_number(rt: HostRuntime) -> u32 {
+    process::id(rt.process())
+}
+
+fn put_own(rt: HostRuntime, mut file: File) -> io::Result<()> {
+    let mut bytes = [0u8; TEXT];
+    put_holder(&mut bytes, own_number(rt));
+    file.write_all(&bytes)
 }
 
 // Puts a lock of this process in the place of one whose process lives no more. Several may do so at once: the last one's stays, which
 // each sees after a wait that is longer than the others take from their look at the lock to their change of it.
-fn taken_over(path: &[u8], stale: u32) -> Try {
-    let mut name = io::buffer();
-    let new = new_beside(path, &mut name);
-    if new.fd < 0 {
-        return Try::Failed;
-    }
-    libc::fchmod(new.fd, RIGHTS);
-    if put_own(new.fd) {
-        return renamed(path, front(&name, new.length), stale);
-    }
-    os::unlink(front(&name, new.length));
-    Try::Failed
-}
-
-fn renamed(path: &[u8], name: &[u8], stale: u32) -> Try {
-    if holds(path, stale) {
-        if os::rename(name, path) == 0 {
-            pause(1, OVER_A_SECOND);
-            return after_the_wait(path);
+fn taken_over(rt: HostRuntime, path: &[u8], stale: u32) -> io::Result<Try> {
+    let mut name = [0u8; PATH_ROOM];
+    let Beside { file, length } = new_beside(rt, path, &mut name)?;
+    let _ = file.set_permissions(Permissions::from_mode(RIGHTS));
+    match put_own(rt, file) {
+        Ok(()) => put_in_place(rt, path, front(&name, length), stale),
+        Err(e) => {
+            remove(rt, front(&name, length));
+            Err(e)
         }
-        os::unlink(name);
-        return Try::Failed;
     }
-    os::unlink(name);
-    Try::Gone
 }
 
-fn holds(path: &[u8], pid: u32) -> bool {
-    match found(path) {
+fn put_in_place(rt: HostRuntime, path: &[u8], name: &[u8], stale: u32) -> io::Result<Try> {
+    if holds(rt, path, stale) {
+        return match renamed(rt, name, path) {
+            Ok(()) => {
+                thread::sleep(&rt, Duration::from_millis(TAKE_OVER));
+                Ok(after_the_wait(rt, path))
+            }
+            Err(e) => {
+                remove(rt, name);
+                Err(e)
+            }
+        };
+    }
+    remove(rt, name);
+    Ok(Try::Gone)
+}
+
+fn holds(rt: HostRuntime, path: &[u8], pid: u32) -> bool {
+    match found(rt, path) {
         Look::Process(other) => other == pid,
         Look::NoNumber => false,
         Look::Gone => false,
     }
 }
 
-fn after_the_wait(path: &[u8]) -> Try {
-    match found(path) {
+fn after_the_wait(rt: HostRuntime, path: &[u8]) -> Try {
+    match found(rt, path) {
         Look::Process(pid) => {
-            if pid == own_number() {
+            if pid == own_number(rt) {
                 return Try::Held;
             }
             Try::By(pid)

@@ -1,8 +1,10 @@
 // The machine's own clock.
+use std::rt::Clock;
 
 // Seconds since 1970; none before.
-pub fn seconds() -> u64 {
-    let mut t: i64 = 0;
-    let now = libc::time(&mut t);
-    if now > 0 { now as u64 } else { 0 }
+pub fn seconds(rt: HostRuntime) -> u64 {
+    match rt.since_1970() {
+        Ok(time) => time.as_secs(),
+        Err(_) => 0,
+    }
 }

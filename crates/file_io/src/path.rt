@@ -1,35 +1,38 @@
-// Paths as the C library takes them.
-ghost use Rattle.libc.specs.Io.{Ended};
+// Paths as the system takes them.
+use paths_and_locks::{PathAnswer, joined};
+use std::io;
+use std::str::from_utf8;
 
-use paths_and_locks::PathAnswer;
+// Holds any path, and a byte more: the system takes none of so many bytes.
+pub const PATH_ROOM: usize = 4096;
 
-// The place of a path's closing 0.
-const LAST: usize = libc::PATH_MAX - 1;
+// The system's numbers for what is wrong with a path: a byte 0 in it, its length, its characters, and links that lead to no end.
+pub const INVALID: i32 = 22;
 
-// As much of a path as leaves room for a 0, and then zeros, as the C library wants it.
-pub fn ended(path: &[u8]) -> [u8; libc::PATH_MAX]
-    ensures { Ended result }
-{
-    let mut r = io::buffer();
-    byte_numbers::put_bytes(&mut r, 0, path);
-    r[LAST] = 0;
-    r
-}
+const TOO_LONG: i32 = 36;
 
-// Whether the C library would read a path up to its end.
-pub fn is_whole(path: &[u8]) -> bool {
-    let mut i = 0;
-    while i < path.len() {
-        if path[i] == 0 {
-            return false;
-        }
-        i += 1;
+const CHARACTERS: i32 = 84;
+
+pub const LINKS: i32 = 40;
+
+// A path as the system takes it, as text.
+pub fn as_text(path: &[u8]) -> io::Result<&str> {
+    if PATH_ROOM <= path.len() {
+        return Err(io::Error::from_raw_os_error(TOO_LONG));
     }
-    path.len() < libc::PATH_MAX
+    if path.contains(&0) {
+        return Err(io::Error::from_raw_os_error(INVALID));
+    }
+    match from_utf8(path) {
+        Ok(text) => Ok(text),
+        Err(_) => Err(io::Error::from_raw_os_error(CHARACTERS)),
+    }
 }
 
-// No path is as long as this one: errno says so from here on.
-pub fn too_long() -> PathAnswer {
-    os::open_read(&io::buffer());
-    PathAnswer::Failed
+// Puts two texts, one behind the other, to the front of a buffer, where they are no longer than a path may be.
+pub fn put_joined(out: &mut [u8], xs: &[u8], ys: &[u8]) -> io::Result<usize> {
+    match joined(out, xs, ys) {
+        PathAnswer::Length(n) => Ok(n),
+        PathAnswer::Failed => Err(io::Error::from_raw_os_error(TOO_LONG)),
+    }
 }

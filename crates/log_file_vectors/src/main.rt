@@ -4,7 +4,6 @@
 // on which the clock is moved, and the figures that come with a log. stdout was written by hand from the tables of documents 01 and 02, and not by this code.
 #![tactic(auto)]
 
-use libc::STDOUT_FILENO;
 use log_file::{ReadAnswer, WriteAnswer};
 
 // A row before version 3, and since.
@@ -83,143 +82,147 @@ const QUARTERS_FILE: usize = QUARTERS_CRC + frame::layout::CRC_BYTES;
 
 const QUARTERS_IMAGE: usize = log_header::HEADER_BYTES + 96 / 4 + 9 * 96;
 
-fn main() {
-    lengths();
-    marks();
-    dates();
-    fields();
-    crcs();
-    cells();
-    outputs();
-    figures();
-    first_of_two();
-    first_version();
-    second_version();
-    third_version();
-    missing_hour();
-    lapses();
-    written_out();
+fn main(rt: HostRuntime) {
+    lengths(rt);
+    marks(rt);
+    dates(rt);
+    fields(rt);
+    crcs(rt);
+    cells(rt);
+    outputs(rt);
+    figures(rt);
+    first_of_two(rt);
+    first_version(rt);
+    second_version(rt);
+    third_version(rt);
+    missing_hour(rt);
+    lapses(rt);
+    written_out(rt);
 }
 
 // The whole file, too little to say, nothing behind the header, and a byte too few or too many.
-fn lengths() {
-    show(b"good", good(), FILE);
-    show_crc(good());
-    show(b"no byte", good(), 0);
-    show(b"4 bytes", good(), 4);
-    show(b"5 bytes", good(), 5);
-    show(b"13 bytes", good(), 13);
-    show(b"14 bytes", good(), log_header::HEADER_BYTES);
-    show(b"all but the CRC", good(), CRC);
-    show(b"a byte short", good(), FILE - 1);
-    show(b"a byte long", good(), LONGER);
+fn lengths(rt: HostRuntime) {
+    show(rt, b"good", good(), FILE);
+    show_crc(rt, good());
+    show(rt, b"no byte", good(), 0);
+    show(rt, b"4 bytes", good(), 4);
+    show(rt, b"5 bytes", good(), 5);
+    show(rt, b"13 bytes", good(), 13);
+    show(rt, b"14 bytes", good(), log_header::HEADER_BYTES);
+    show(rt, b"all but the CRC", good(), CRC);
+    show(rt, b"a byte short", good(), FILE - 1);
+    show(rt, b"a byte long", good(), LONGER);
 }
 
 // The mark and the version.
-fn marks() {
-    damaged(b"mark geL", 0, b"ge");
-    damaged(b"mark GEl", 2, b"l");
-    damaged(b"version 0", 3, b"\x00");
-    damaged(b"version 2", 3, b"\x02");
-    sealed_again(b"version 2", 3, b"\x02");
-    damaged(b"version 3", 3, b"\x03");
-    sealed_again(b"version 3", 3, b"\x03");
-    sealed_again(b"version 4", 3, b"\x04");
-    sealed_again(b"version 257", 4, b"\x01");
-    sealed_again(b"version 258", 3, b"\x02\x01");
+fn marks(rt: HostRuntime) {
+    damaged(rt, b"mark geL", 0, b"ge");
+    damaged(rt, b"mark GEl", 2, b"l");
+    damaged(rt, b"version 0", 3, b"\x00");
+    damaged(rt, b"version 2", 3, b"\x02");
+    sealed_again(rt, b"version 2", 3, b"\x02");
+    damaged(rt, b"version 3", 3, b"\x03");
+    sealed_again(rt, b"version 3", 3, b"\x03");
+    sealed_again(rt, b"version 4", 3, b"\x04");
+    sealed_again(rt, b"version 257", 4, b"\x01");
+    sealed_again(rt, b"version 258", 3, b"\x02\x01");
 }
 
 // The start, and the end by 2099-12-31.
-fn dates() {
-    damaged(b"year 2100", 5, b"\x64");
-    damaged(b"month 0", 6, b"\x00");
-    damaged(b"month 13", 6, b"\x0D");
-    damaged(b"day 0", 7, b"\x00");
-    damaged(b"30 February 2024", 6, b"\x02\x1E");
-    damaged(b"29 February 2023", 5, b"\x17\x02\x1D");
-    sealed_again(b"29 February 2024", 6, b"\x02\x1D");
-    sealed_again(b"31 December 2099", 5, b"\x63\x0C\x1F");
-    damaged(b"31 December 2099, 2 days", 5, b"\x63\x0C\x1F\x02");
+fn dates(rt: HostRuntime) {
+    damaged(rt, b"year 2100", 5, b"\x64");
+    damaged(rt, b"month 0", 6, b"\x00");
+    damaged(rt, b"month 13", 6, b"\x0D");
+    damaged(rt, b"day 0", 7, b"\x00");
+    damaged(rt, b"30 February 2024", 6, b"\x02\x1E");
+    damaged(rt, b"29 February 2023", 5, b"\x17\x02\x1D");
+    sealed_again(rt, b"29 February 2024", 6, b"\x02\x1D");
+    sealed_again(rt, b"31 December 2099", 5, b"\x63\x0C\x1F");
+    damaged(rt, b"31 December 2099, 2 days", 5, b"\x63\x0C\x1F\x02");
 }
 
 // The header's other fields. A right one that tells of another length is 33.
-fn fields() {
-    damaged(b"0 days", 8, b"\x00");
-    damaged(b"63 days", 8, b"\x3F");
-    damaged(b"62 days", 8, b"\x3E");
-    damaged(b"2 days", 8, b"\x02");
-    damaged(b"20 minutes", 9, b"\x14");
-    damaged(b"15 minutes", 9, b"\x0F");
-    damaged(b"Ke 0", 10, b"\x00");
-    sealed_again(b"Ke 65535", 10, b"\xFF\xFF");
-    sealed_again(b"first zero byte 1", 12, b"\x01");
-    damaged(b"second zero byte 128", 13, b"\x80");
+fn fields(rt: HostRuntime) {
+    damaged(rt, b"0 days", 8, b"\x00");
+    damaged(rt, b"63 days", 8, b"\x3F");
+    damaged(rt, b"62 days", 8, b"\x3E");
+    damaged(rt, b"2 days", 8, b"\x02");
+    damaged(rt, b"20 minutes", 9, b"\x14");
+    damaged(rt, b"15 minutes", 9, b"\x0F");
+    damaged(rt, b"Ke 0", 10, b"\x00");
+    sealed_again(rt, b"Ke 65535", 10, b"\xFF\xFF");
+    sealed_again(rt, b"first zero byte 1", 12, b"\x01");
+    damaged(rt, b"second zero byte 128", 13, b"\x80");
 }
 
-fn crcs() {
-    damaged(b"CRC 0", CRC, b"\x00\x00");
-    damaged(b"year 2025", 5, b"\x19");
-    sealed_again(b"year 2025", 5, b"\x19");
-    damaged(b"slot 0 counts 13", SLOT_0 + 1, b"\x0D");
-    sealed_again(b"slot 0 counts 13", SLOT_0 + 1, b"\x0D");
-    damaged(b"slot 47 kind 3", SLOT_47, b"\x03");
+fn crcs(rt: HostRuntime) {
+    damaged(rt, b"CRC 0", CRC, b"\x00\x00");
+    damaged(rt, b"year 2025", 5, b"\x19");
+    sealed_again(rt, b"year 2025", 5, b"\x19");
+    damaged(rt, b"slot 0 counts 13", SLOT_0 + 1, b"\x0D");
+    sealed_again(rt, b"slot 0 counts 13", SLOT_0 + 1, b"\x0D");
+    damaged(rt, b"slot 47 kind 3", SLOT_47, b"\x03");
 }
 
-fn cells() {
+fn cells(rt: HostRuntime) {
     sealed_again(
+        rt,
         b"slot 0 measured zeros",
         SLOT_0,
         b"\x02\x00\x00\x00\x00\x00\x00\x00\x00",
     );
-    sealed_again(b"slot 0 kind 3", SLOT_0, b"\x03");
-    sealed_again(b"slot 0 a gap with counts", SLOT_0, b"\x00");
-    sealed_again(b"slot 1 empty with a count", SLOT_1 + 8, b"\x01");
-    sealed_again(b"slot 1 measured zeros", SLOT_1, b"\x02");
-    sealed_again(b"slot 47 kind 3", SLOT_47, b"\x03");
-    sealed_again(b"slot 47 measured 65535", SLOT_47, b"\x02\xFF\xFF");
-    sealed_again(b"all slots but 0 gaps", SLOT_1, b"\x00");
+    sealed_again(rt, b"slot 0 kind 3", SLOT_0, b"\x03");
+    sealed_again(rt, b"slot 0 a gap with counts", SLOT_0, b"\x00");
+    sealed_again(rt, b"slot 1 empty with a count", SLOT_1 + 8, b"\x01");
+    sealed_again(rt, b"slot 1 measured zeros", SLOT_1, b"\x02");
+    sealed_again(rt, b"slot 47 kind 3", SLOT_47, b"\x03");
+    sealed_again(rt, b"slot 47 measured 65535", SLOT_47, b"\x02\xFF\xFF");
+    sealed_again(rt, b"all slots but 0 gaps", SLOT_1, b"\x00");
 }
 
-fn outputs() {
-    into_less(b"good", good());
-    into_one(b"good", good());
+fn outputs(rt: HostRuntime) {
+    into_less(rt, b"good", good());
+    into_one(rt, b"good", good());
 }
 
 // The eight figures of the day, into numbers that were 9 before: with room for more, for them alone, and for one too few. Those of a slot that
 // does not exist are not counted, one that comes twice is counted once more.
-fn figures() {
+fn figures(rt: HostRuntime) {
     let mut file = example();
-    into_nine(b"good", &file);
-    into_eight(b"good", &file);
-    into_seven(b"good", &file);
+    into_nine(rt, b"good", &file);
+    into_eight(rt, b"good", &file);
+    into_seven(rt, b"good", &file);
     byte_numbers::put_bytes(&mut file, CRC, b"\x00\x00");
-    into_seven(b"CRC 0", &file);
-    into_nine(b"27 October 2024", &in_october());
-    into_nine(b"version 3, spring", &late_spring(SLOT_0, b"\x00"));
+    into_seven(rt, b"CRC 0", &file);
+    into_nine(rt, b"27 October 2024", &in_october());
+    into_nine(rt, b"version 3, spring", &late_spring(SLOT_0, b"\x00"));
 }
 
 // Of two faults the one that comes first in the table answers.
-fn first_of_two() {
-    damaged(b"mark and version", 0, b"GEM\x04");
-    damaged(b"version and month 13", 3, b"\x04\x00\x18\x0D");
+fn first_of_two(rt: HostRuntime) {
+    damaged(rt, b"mark and version", 0, b"GEM\x04");
+    damaged(rt, b"version and month 13", 3, b"\x04\x00\x18\x0D");
     show(
+        rt,
         b"month 13, a byte short",
         with(good(), 6, b"\x0D"),
         FILE - 1,
     );
     show(
+        rt,
         b"CRC 0, a byte short",
         with(good(), CRC, b"\x00\x00"),
         FILE - 1,
     );
-    damaged(b"slot 0 kind 3", SLOT_0, b"\x03");
-    into_less(b"slot 0 kind 3", sealed(with(good(), SLOT_0, b"\x03")));
-    into_less(b"CRC 0", with(good(), CRC, b"\x00\x00"));
+    damaged(rt, b"slot 0 kind 3", SLOT_0, b"\x03");
+    into_less(rt, b"slot 0 kind 3", sealed(with(good(), SLOT_0, b"\x03")));
+    into_less(rt, b"CRC 0", with(good(), CRC, b"\x00\x00"));
 }
 
 // Version 1 over the last Sundays of March and of October, with cells in the hour from 02:00: it follows no seasons, and is written as version 3.
-fn first_version() {
+fn first_version(rt: HostRuntime) {
     half_hours(
+        rt,
         b"version 1, 31 March 2024",
         b"GEL\x01\x00\x18\x03\x1F\x01\x1E\x64\x00\x00\x00",
         SLOT_4,
@@ -227,6 +230,7 @@ fn first_version() {
         b"\x3F\xFC",
     );
     half_hours(
+        rt,
         b"version 1, 27 October 2024",
         b"GEL\x01\x00\x18\x0A\x1B\x01\x1E\x64\x00\x00\x00",
         SLOT_4,
@@ -234,6 +238,7 @@ fn first_version() {
         b"\xD3\x42",
     );
     quarters(
+        rt,
         b"version 1, 31 March 2024",
         b"GEL\x01\x00\x18\x03\x1F\x01\x0F\x64\x00\x00\x00",
         SLOT_8,
@@ -241,6 +246,7 @@ fn first_version() {
         b"\x3D\x6D",
     );
     quarters(
+        rt,
         b"version 1, 27 October 2024",
         b"GEL\x01\x00\x18\x0A\x1B\x01\x0F\x64\x00\x00\x00",
         SLOT_8,
@@ -250,8 +256,9 @@ fn first_version() {
 }
 
 // Version 2 that follows the seasons: in March with cells beside the hour alone, in October in it.
-fn second_version() {
+fn second_version(rt: HostRuntime) {
     half_hours(
+        rt,
         b"version 2, 31 March 2024",
         b"GEL\x02\x00\x18\x03\x1F\x01\x1E\x64\x00\x01\x00",
         SLOT_3,
@@ -259,6 +266,7 @@ fn second_version() {
         b"\x79\x03",
     );
     half_hours(
+        rt,
         b"version 2, 27 October 2024",
         b"GEL\x02\x00\x18\x0A\x1B\x01\x1E\x64\x00\x01\x00",
         SLOT_4,
@@ -266,6 +274,7 @@ fn second_version() {
         b"\xDA\x0D",
     );
     quarters(
+        rt,
         b"version 2, 31 March 2024",
         b"GEL\x02\x00\x18\x03\x1F\x01\x0F\x64\x00\x01\x00",
         SLOT_7,
@@ -273,6 +282,7 @@ fn second_version() {
         b"\xFB\x2D",
     );
     quarters(
+        rt,
         b"version 2, 27 October 2024",
         b"GEL\x02\x00\x18\x0A\x1B\x01\x0F\x64\x00\x01\x00",
         SLOT_8,
@@ -282,8 +292,9 @@ fn second_version() {
 }
 
 // Version 3 over the same days: slot 0 a gap with a lapse, the measured cell with 255, the empty one with 7.
-fn third_version() {
+fn third_version(rt: HostRuntime) {
     late_half_hours(
+        rt,
         b"version 3, 31 March 2024",
         b"GEL\x03\x00\x18\x03\x1F\x01\x1E\x64\x00\x01\x00",
         LATE_3,
@@ -291,6 +302,7 @@ fn third_version() {
         b"\xD3\x92",
     );
     late_half_hours(
+        rt,
         b"version 3, 27 October 2024",
         b"GEL\x03\x00\x18\x0A\x1B\x01\x1E\x64\x00\x01\x00",
         LATE_4,
@@ -298,6 +310,7 @@ fn third_version() {
         b"\xC2\xE2",
     );
     late_half_hours(
+        rt,
         b"version 3, 31 March 2024, seasons 0",
         b"GEL\x03\x00\x18\x03\x1F\x01\x1E\x64\x00\x00\x00",
         LATE_4,
@@ -305,6 +318,7 @@ fn third_version() {
         b"\xAD\x36",
     );
     late_quarters(
+        rt,
         b"version 3, 31 March 2024",
         b"GEL\x03\x00\x18\x03\x1F\x01\x0F\x64\x00\x01\x00",
         LATE_7,
@@ -312,6 +326,7 @@ fn third_version() {
         b"\xF3\x74",
     );
     late_quarters(
+        rt,
         b"version 3, 27 October 2024",
         b"GEL\x03\x00\x18\x0A\x1B\x01\x0F\x64\x00\x01\x00",
         LATE_8,
@@ -321,29 +336,31 @@ fn third_version() {
 }
 
 // The hour that 31 March 2024 does not have where the seasons are followed.
-fn missing_hour() {
-    in_spring(b"all gaps", SLOT_0, b"\x00");
-    in_spring(b"slot 3 empty", SLOT_3, b"\x01");
-    in_spring(b"slot 4 empty", SLOT_4, b"\x01");
-    in_spring(b"slot 4 measured 1", SLOT_4, b"\x02\x01");
-    in_spring(b"slot 5 empty", SLOT_5, b"\x01");
-    in_spring(b"slot 5 kind 3", SLOT_5, b"\x03");
-    in_spring(b"slot 6 empty", SLOT_6, b"\x01");
-    in_spring(b"seasons 2", 12, b"\x02");
-    in_spring(b"seasons 255", 12, b"\xFF");
-    in_spring(b"last zero byte 1", 13, b"\x01");
-    in_spring(b"version 1", 3, b"\x01");
-    with_slot_4(b"seasons 0", 12, b"\x00");
-    with_slot_4(b"30 March", 7, b"\x1E");
-    with_slot_4(b"24 March", 7, b"\x18");
-    with_slot_4(b"30 March 2025", 5, b"\x19\x03\x1E");
-    with_slot_4(b"27 October", 6, b"\x0A\x1B");
-    with_slot_4(b"seasons 2", 12, b"\x02");
+fn missing_hour(rt: HostRuntime) {
+    in_spring(rt, b"all gaps", SLOT_0, b"\x00");
+    in_spring(rt, b"slot 3 empty", SLOT_3, b"\x01");
+    in_spring(rt, b"slot 4 empty", SLOT_4, b"\x01");
+    in_spring(rt, b"slot 4 measured 1", SLOT_4, b"\x02\x01");
+    in_spring(rt, b"slot 5 empty", SLOT_5, b"\x01");
+    in_spring(rt, b"slot 5 kind 3", SLOT_5, b"\x03");
+    in_spring(rt, b"slot 6 empty", SLOT_6, b"\x01");
+    in_spring(rt, b"seasons 2", 12, b"\x02");
+    in_spring(rt, b"seasons 255", 12, b"\xFF");
+    in_spring(rt, b"last zero byte 1", 13, b"\x01");
+    in_spring(rt, b"version 1", 3, b"\x01");
+    with_slot_4(rt, b"seasons 0", 12, b"\x00");
+    with_slot_4(rt, b"30 March", 7, b"\x1E");
+    with_slot_4(rt, b"24 March", 7, b"\x18");
+    with_slot_4(rt, b"30 March 2025", 5, b"\x19\x03\x1E");
+    with_slot_4(rt, b"27 October", 6, b"\x0A\x1B");
+    with_slot_4(rt, b"seasons 2", 12, b"\x02");
     into_less(
+        rt,
         b"spring, slot 4 empty",
         sealed(with(spring(), SLOT_4, b"\x01")),
     );
     show(
+        rt,
         b"spring, slot 4 empty",
         with(spring(), SLOT_4, b"\x01"),
         FILE,
@@ -351,53 +368,54 @@ fn missing_hour() {
 }
 
 // Of version 3: any byte is the lapses of a slot that exists, and 0 alone those of one that does not. A version's length is its own.
-fn lapses() {
-    in_late_spring(b"all gaps", SLOT_0, b"\x00");
-    in_late_spring(b"slot 0 one lapse", SLOT_0 + LAPSES, b"\x01");
-    in_late_spring(b"slot 3 255 lapses", LATE_3 + LAPSES, b"\xFF");
-    in_late_spring(b"slot 4 one lapse", LATE_4 + LAPSES, b"\x01");
-    in_late_spring(b"slot 4 255 lapses", LATE_4 + LAPSES, b"\xFF");
-    in_late_spring(b"slot 5 one lapse", LATE_5 + LAPSES, b"\x01");
-    in_late_spring(b"slot 6 one lapse", LATE_6 + LAPSES, b"\x01");
-    in_late_spring(b"slot 47 255 lapses", LATE_47 + LAPSES, b"\xFF");
-    in_late_spring(b"slot 4 empty", LATE_4, b"\x01");
-    in_late_spring(b"slot 47 kind 3", LATE_47, b"\x03");
-    in_late_spring(b"version 2", 3, b"\x02");
+fn lapses(rt: HostRuntime) {
+    in_late_spring(rt, b"all gaps", SLOT_0, b"\x00");
+    in_late_spring(rt, b"slot 0 one lapse", SLOT_0 + LAPSES, b"\x01");
+    in_late_spring(rt, b"slot 3 255 lapses", LATE_3 + LAPSES, b"\xFF");
+    in_late_spring(rt, b"slot 4 one lapse", LATE_4 + LAPSES, b"\x01");
+    in_late_spring(rt, b"slot 4 255 lapses", LATE_4 + LAPSES, b"\xFF");
+    in_late_spring(rt, b"slot 5 one lapse", LATE_5 + LAPSES, b"\x01");
+    in_late_spring(rt, b"slot 6 one lapse", LATE_6 + LAPSES, b"\x01");
+    in_late_spring(rt, b"slot 47 255 lapses", LATE_47 + LAPSES, b"\xFF");
+    in_late_spring(rt, b"slot 4 empty", LATE_4, b"\x01");
+    in_late_spring(rt, b"slot 47 kind 3", LATE_47, b"\x03");
+    in_late_spring(rt, b"version 2", 3, b"\x02");
     in_late_spring(
+        rt,
         b"version 1, seasons 0",
         3,
         b"\x01\x00\x18\x03\x1F\x01\x1E\x64\x00\x00",
     );
-    in_late_spring(b"seasons 2", 12, b"\x02");
+    in_late_spring(rt, b"seasons 2", 12, b"\x02");
 }
 
 // What a log is written as that no file gives: cells and lapses in the hour that is none, and images of other versions.
-fn written_out() {
+fn written_out(rt: HostRuntime) {
     let mut image = [0u8; IMAGE];
     let mut figures = [0u32; day_rows::FIGURES_MOST];
     log_file::read_file(&in_october(), &mut image, &mut figures);
-    write(b"27 October", &image);
+    write(rt, b"27 October", &image);
     byte_numbers::put_bytes(&mut image, 6, b"\x03\x1F");
-    write(b"31 March", &image);
+    write(rt, b"31 March", &image);
     byte_numbers::put_bytes(&mut image, 12, b"\x00");
-    write(b"31 March, seasons 0", &image);
+    write(rt, b"31 March, seasons 0", &image);
     byte_numbers::put_bytes(&mut image, 3, b"\x01");
-    write(b"31 March, seasons 0, version 1", &image);
+    write(rt, b"31 March, seasons 0, version 1", &image);
     byte_numbers::put_bytes(&mut image, 3, b"\x02");
-    write(b"31 March, seasons 0, version 2", &image);
-    write_lapses();
+    write(rt, b"31 March, seasons 0, version 2", &image);
+    write_lapses(rt);
 }
 
-fn write_lapses() {
+fn write_lapses(rt: HostRuntime) {
     let mut image = [0u8; IMAGE];
     let mut figures = [0u32; day_rows::FIGURES_MOST];
     log_file::read_file(&late_spring(SLOT_0, b"\x00"), &mut image, &mut figures);
-    write(b"spring, all gaps", &image);
+    write(rt, b"spring, all gaps", &image);
     energy_log::put_lapses(&mut image, 4, 1);
-    write(b"spring, slot 4 one lapse", &image);
+    write(rt, b"spring, slot 4 one lapse", &image);
     energy_log::put_lapses(&mut image, 4, 0);
     energy_log::put_lapses(&mut image, 6, 255);
-    write(b"spring, slot 6 255 lapses", &image);
+    write(rt, b"spring, slot 6 255 lapses", &image);
 }
 
 fn good() -> [u8; LONGER] {
@@ -482,28 +500,34 @@ fn with(mut file: [u8; LONGER], at: usize, bytes: &[u8]) -> [u8; LONGER] {
 }
 
 // Bytes changed under the old CRC.
-fn damaged(what: &[u8], at: usize, bytes: &[u8]) {
-    show(what, with(good(), at, bytes), FILE);
+fn damaged(rt: HostRuntime, what: &[u8], at: usize, bytes: &[u8]) {
+    show(rt, what, with(good(), at, bytes), FILE);
 }
 
 // Bytes changed, and the CRC made right again.
-fn sealed_again(what: &[u8], at: usize, bytes: &[u8]) {
-    say(what);
-    show(b", sealed again", sealed(with(good(), at, bytes)), FILE);
+fn sealed_again(rt: HostRuntime, what: &[u8], at: usize, bytes: &[u8]) {
+    say(rt, what);
+    show(rt, b", sealed again", sealed(with(good(), at, bytes)), FILE);
 }
 
 // The same of the March day.
-fn in_spring(what: &[u8], at: usize, bytes: &[u8]) {
-    say(b"spring, ");
-    say(what);
-    show(b", sealed again", sealed(with(spring(), at, bytes)), FILE);
+fn in_spring(rt: HostRuntime, what: &[u8], at: usize, bytes: &[u8]) {
+    say(rt, b"spring, ");
+    say(rt, what);
+    show(
+        rt,
+        b", sealed again",
+        sealed(with(spring(), at, bytes)),
+        FILE,
+    );
 }
 
 // And with a cell in the hour from 02:00.
-fn with_slot_4(what: &[u8], at: usize, bytes: &[u8]) {
-    say(b"slot 4 empty, ");
-    say(what);
+fn with_slot_4(rt: HostRuntime, what: &[u8], at: usize, bytes: &[u8]) {
+    say(rt, b"slot 4 empty, ");
+    say(rt, what);
     show(
+        rt,
         b", sealed again",
         sealed(with(with(spring(), SLOT_4, b"\x01"), at, bytes)),
         FILE,
@@ -511,60 +535,81 @@ fn with_slot_4(what: &[u8], at: usize, bytes: &[u8]) {
 }
 
 // Of version 3.
-fn in_late_spring(what: &[u8], at: usize, bytes: &[u8]) {
+fn in_late_spring(rt: HostRuntime, what: &[u8], at: usize, bytes: &[u8]) {
     let mut out = [255u8; IMAGE];
-    say(b"version 3, spring, ");
-    say(what);
-    say(b", sealed again");
-    read(&late_spring(at, bytes), &mut out);
+    say(rt, b"version 3, spring, ");
+    say(rt, what);
+    say(rt, b", sealed again");
+    read(rt, &late_spring(at, bytes), &mut out);
 }
 
 // A stored file, with a CRC that another program reckoned: read, and what was read written again.
-fn half_hours(what: &[u8], head: &[u8], measured: usize, empty: usize, crc: &[u8]) {
+fn half_hours(
+    rt: HostRuntime,
+    what: &[u8],
+    head: &[u8],
+    measured: usize,
+    empty: usize,
+    crc: &[u8],
+) {
     let mut file = [0u8; FILE];
     put_day(&mut file, head, measured, empty);
     byte_numbers::put_bytes(&mut file, CRC, crc);
     let mut image = [255u8; IMAGE];
     let mut again = [255u8; LATE_FILE];
-    say(what);
-    say(b", 30 minutes");
-    read_and_write(&file, &mut image, &mut again);
+    say(rt, what);
+    say(rt, b", 30 minutes");
+    read_and_write(rt, &file, &mut image, &mut again);
 }
 
-fn quarters(what: &[u8], head: &[u8], measured: usize, empty: usize, crc: &[u8]) {
+fn quarters(rt: HostRuntime, what: &[u8], head: &[u8], measured: usize, empty: usize, crc: &[u8]) {
     let mut file = [0u8; QUARTERS_FILE];
     put_day(&mut file, head, measured, empty);
     byte_numbers::put_bytes(&mut file, QUARTERS_CRC, crc);
     let mut image = [255u8; QUARTERS_IMAGE];
     let mut again = [255u8; LATE_QUARTERS_FILE];
-    say(what);
-    say(b", 15 minutes");
-    read_and_write(&file, &mut image, &mut again);
+    say(rt, what);
+    say(rt, b", 15 minutes");
+    read_and_write(rt, &file, &mut image, &mut again);
 }
 
 // The same of version 3.
-fn late_half_hours(what: &[u8], head: &[u8], measured: usize, empty: usize, crc: &[u8]) {
+fn late_half_hours(
+    rt: HostRuntime,
+    what: &[u8],
+    head: &[u8],
+    measured: usize,
+    empty: usize,
+    crc: &[u8],
+) {
     let mut file = [0u8; LATE_FILE];
     put_late_day(&mut file, head, measured, empty);
     byte_numbers::put_bytes(&mut file, LATE_CRC, crc);
     let mut image = [255u8; IMAGE];
     let mut again = [255u8; LATE_FILE];
-    say(what);
-    say(b", 30 minutes");
-    read_and_write(&file, &mut image, &mut again);
-    show_lapses(&image);
+    say(rt, what);
+    say(rt, b", 30 minutes");
+    read_and_write(rt, &file, &mut image, &mut again);
+    show_lapses(rt, &image);
 }
 
-fn late_quarters(what: &[u8], head: &[u8], measured: usize, empty: usize, crc: &[u8]) {
+fn late_quarters(
+    rt: HostRuntime,
+    what: &[u8],
+    head: &[u8],
+    measured: usize,
+    empty: usize,
+    crc: &[u8],
+) {
     let mut file = [0u8; LATE_QUARTERS_FILE];
     put_late_day(&mut file, head, measured, empty);
     byte_numbers::put_bytes(&mut file, LATE_QUARTERS_CRC, crc);
     let mut image = [255u8; QUARTERS_IMAGE];
     let mut again = [255u8; LATE_QUARTERS_FILE];
-    say(what);
-    say(b", 15 minutes");
-    read_and_write(&file, &mut image, &mut again);
-    show_lapses(&image);
+    say(rt, what);
+    say(rt, b", 15 minutes");
+    read_and_write(rt, &file, &mut image, &mut again);
+    show_lapses(rt, &image);
 }
 
 // With lapses, and a gap with one at midnight.
@@ -576,22 +621,22 @@ fn put_late_day(file: &mut [u8], head: &[u8], measured: usize, empty: usize) {
 }
 
 // The lapses at midnight, and in and beside the hour from 02:00, be it of half hours or of quarters.
-fn show_lapses(image: &[u8]) {
-    say(b"its lapses in slots 0, 3 to 8, 11 and 12:");
-    lapses_of(image, 0);
-    lapses_of(image, 3);
-    lapses_of(image, 4);
-    lapses_of(image, 5);
-    lapses_of(image, 6);
-    lapses_of(image, 7);
-    lapses_of(image, 8);
-    lapses_of(image, 11);
-    lapses_of(image, 12);
-    say(b"\n");
+fn show_lapses(rt: HostRuntime, image: &[u8]) {
+    say(rt, b"its lapses in slots 0, 3 to 8, 11 and 12:");
+    lapses_of(rt, image, 0);
+    lapses_of(rt, image, 3);
+    lapses_of(rt, image, 4);
+    lapses_of(rt, image, 5);
+    lapses_of(rt, image, 6);
+    lapses_of(rt, image, 7);
+    lapses_of(rt, image, 8);
+    lapses_of(rt, image, 11);
+    lapses_of(rt, image, 12);
+    say(rt, b"\n");
 }
 
-fn lapses_of(image: &[u8], i: usize) {
-    number(energy_log::lapses_at(image, i) as u64);
+fn lapses_of(rt: HostRuntime, image: &[u8], i: usize) {
+    number(rt, energy_log::lapses_at(image, i) as u64);
 }
 
 // A header, and the rows of two cells, where all others are gaps.
@@ -602,38 +647,38 @@ fn put_day(file: &mut [u8], head: &[u8], measured: usize, empty: usize) {
 }
 
 // The image's version and seasons, and the length and the CRC of the file that it is written as.
-fn read_and_write(file: &[u8], image: &mut [u8], again: &mut [u8]) {
-    read(file, image);
-    say(b"its image: version");
-    number(log_header::version_at(image) as u64);
-    say(b", seasons");
-    number(byte_numbers::byte_at(image, 12) as u64);
-    say(b", written");
-    answer_of(log_file::write_file(image, again), again);
+fn read_and_write(rt: HostRuntime, file: &[u8], image: &mut [u8], again: &mut [u8]) {
+    read(rt, file, image);
+    say(rt, b"its image: version");
+    number(rt, log_header::version_at(image) as u64);
+    say(rt, b", seasons");
+    number(rt, byte_numbers::byte_at(image, 12) as u64);
+    say(rt, b", written");
+    answer_of(rt, log_file::write_file(image, again), again);
 }
 
-fn write(what: &[u8], image: &[u8]) {
+fn write(rt: HostRuntime, what: &[u8], image: &[u8]) {
     let mut out = [255u8; LATE_FILE];
-    say(what);
-    say(b", written:");
-    answer_of(log_file::write_file(image, &mut out), &out);
+    say(rt, what);
+    say(rt, b", written:");
+    answer_of(rt, log_file::write_file(image, &mut out), &out);
 }
 
 // The first byte of a file that was not written, and the CRC of one that was.
-fn answer_of(answer: WriteAnswer, out: &[u8]) {
-    number(answer.number() as u64);
+fn answer_of(rt: HostRuntime, answer: WriteAnswer, out: &[u8]) {
+    number(rt, answer.number() as u64);
     match answer {
         WriteAnswer::Done(n) => {
-            number(n as u64);
-            say(b" ");
+            number(rt, n as u64);
+            say(rt, b" ");
             let mut digits = [0u8; 4];
             text::put_hex(&mut digits, 0, &[from_end(out, 2), from_end(out, 1)]);
-            say(&digits);
+            say(rt, &digits);
         }
-        WriteAnswer::Unsound => number(byte_numbers::byte_at(out, 0) as u64),
-        WriteAnswer::TooShort => number(byte_numbers::byte_at(out, 0) as u64),
+        WriteAnswer::Unsound => number(rt, byte_numbers::byte_at(out, 0) as u64),
+        WriteAnswer::TooShort => number(rt, byte_numbers::byte_at(out, 0) as u64),
     }
-    say(b"\n");
+    say(rt, b"\n");
 }
 
 fn from_end(bytes: &[u8], n: usize) -> u8 {
@@ -644,104 +689,104 @@ fn from_end(bytes: &[u8], n: usize) -> u8 {
 }
 
 // The first n bytes, into an output that has room.
-fn show(what: &[u8], file: [u8; LONGER], n: usize) {
+fn show(rt: HostRuntime, what: &[u8], file: [u8; LONGER], n: usize) {
     let mut out = [255u8; IMAGE];
-    say(what);
-    read_first(file, n, &mut out);
+    say(rt, what);
+    read_first(rt, file, n, &mut out);
 }
 
 // Into an output one byte too short.
-fn into_less(what: &[u8], file: [u8; LONGER]) {
+fn into_less(rt: HostRuntime, what: &[u8], file: [u8; LONGER]) {
     let mut out = [255u8; IMAGE - 1];
-    say(what);
-    say(b", output of 493 bytes");
-    read_first(file, FILE, &mut out);
+    say(rt, what);
+    say(rt, b", output of 493 bytes");
+    read_first(rt, file, FILE, &mut out);
 }
 
-fn into_one(what: &[u8], file: [u8; LONGER]) {
+fn into_one(rt: HostRuntime, what: &[u8], file: [u8; LONGER]) {
     let mut out = [255u8; 1];
-    say(what);
-    say(b", output of 1 byte");
-    read_first(file, FILE, &mut out);
+    say(rt, what);
+    say(rt, b", output of 1 byte");
+    read_first(rt, file, FILE, &mut out);
 }
 
-fn read_first(file: [u8; LONGER], n: usize, out: &mut [u8]) {
+fn read_first(rt: HostRuntime, file: [u8; LONGER], n: usize, out: &mut [u8]) {
     if n <= LONGER {
-        read(&file[..n], out);
+        read(rt, &file[..n], out);
     }
 }
 
-fn into_nine(what: &[u8], file: &[u8]) {
+fn into_nine(rt: HostRuntime, what: &[u8], file: &[u8]) {
     let mut figures = [9u32; 9];
-    say(what);
-    say(b", 9 figures lent: ");
-    read_beside(file, &mut figures);
+    say(rt, what);
+    say(rt, b", 9 figures lent: ");
+    read_beside(rt, file, &mut figures);
 }
 
-fn into_eight(what: &[u8], file: &[u8]) {
+fn into_eight(rt: HostRuntime, what: &[u8], file: &[u8]) {
     let mut figures = [9u32; 8];
-    say(what);
-    say(b", 8 figures lent: ");
-    read_beside(file, &mut figures);
+    say(rt, what);
+    say(rt, b", 8 figures lent: ");
+    read_beside(rt, file, &mut figures);
 }
 
-fn into_seven(what: &[u8], file: &[u8]) {
+fn into_seven(rt: HostRuntime, what: &[u8], file: &[u8]) {
     let mut figures = [9u32; 7];
-    say(what);
-    say(b", 7 figures lent: ");
-    read_beside(file, &mut figures);
+    say(rt, what);
+    say(rt, b", 7 figures lent: ");
+    read_beside(rt, file, &mut figures);
 }
 
 // The number, the output's first byte and the figures.
-fn read_beside(file: &[u8], figures: &mut [u32]) {
+fn read_beside(rt: HostRuntime, file: &[u8], figures: &mut [u32]) {
     let mut out = [255u8; IMAGE];
     let answer = log_file::read_file(file, &mut out, figures);
-    io::print_decimal(STDOUT_FILENO, answer.number() as u64);
-    number(byte_numbers::byte_at(&out, 0) as u64);
-    say(b",");
-    figure(figures, 0);
-    figure(figures, 1);
-    figure(figures, 2);
-    figure(figures, 3);
-    figure(figures, 4);
-    figure(figures, 5);
-    figure(figures, 6);
-    figure(figures, 7);
-    figure(figures, 8);
-    say(b"\n");
+    let _ = rt.stdout().print(answer.number() as u64);
+    number(rt, byte_numbers::byte_at(&out, 0) as u64);
+    say(rt, b",");
+    figure(rt, figures, 0);
+    figure(rt, figures, 1);
+    figure(rt, figures, 2);
+    figure(rt, figures, 3);
+    figure(rt, figures, 4);
+    figure(rt, figures, 5);
+    figure(rt, figures, 6);
+    figure(rt, figures, 7);
+    figure(rt, figures, 8);
+    say(rt, b"\n");
 }
 
-fn figure(figures: &[u32], i: usize) {
+fn figure(rt: HostRuntime, figures: &[u32], i: usize) {
     if i < figures.len() {
-        number(figures[i] as u64);
+        number(rt, figures[i] as u64);
     }
 }
 
-fn read(file: &[u8], out: &mut [u8]) {
+fn read(rt: HostRuntime, file: &[u8], out: &mut [u8]) {
     let mut figures = [0u32; day_rows::FIGURES_MOST];
-    say(b": ");
+    say(rt, b": ");
     let answer = log_file::read_file(file, out, &mut figures);
-    io::print_decimal(STDOUT_FILENO, answer.number() as u64);
+    let _ = rt.stdout().print(answer.number() as u64);
     if let ReadAnswer::Done(n) = answer {
-        number(n as u64);
+        number(rt, n as u64);
     }
-    number(byte_numbers::byte_at(out, 0) as u64);
-    say(b"\n");
+    number(rt, byte_numbers::byte_at(out, 0) as u64);
+    say(rt, b"\n");
 }
 
-fn show_crc(file: [u8; LONGER]) {
+fn show_crc(rt: HostRuntime, file: [u8; LONGER]) {
     let mut digits = [0u8; 4];
     text::put_hex(&mut digits, 0, &[file[CRC], file[CRC + 1]]);
-    say(b"its CRC: ");
-    say(&digits);
-    say(b"\n");
+    say(rt, b"its CRC: ");
+    say(rt, &digits);
+    say(rt, b"\n");
 }
 
-fn number(n: u64) {
-    say(b" ");
-    io::print_decimal(STDOUT_FILENO, n);
+fn number(rt: HostRuntime, n: u64) {
+    say(rt, b" ");
+    let _ = rt.stdout().print(n);
 }
 
-fn say(bytes: &[u8]) {
-    io::write_all(STDOUT_FILENO, bytes);
+fn say(rt: HostRuntime, bytes: &[u8]) {
+    let _ = rt.stdout().write_all(bytes);
 }

@@ -9,16 +9,15 @@ use native.Mathlib.Omega.{arith}
 use borrow.Author.Tests.{eq-eqb, ne_eqb, le-leb, leb-true}
 use lib.Dec.{leb}
 use lib.ListN.{length, take, drop, get_or, length-append, length-drop}
-use lib.Seq.{drop-cons, take_at, take_length}
+use lib.Seq.{drop-cons, take_at, take-length}
 use Rattle.byte_numbers.specs.Place.{written}
 use Rattle.byte_numbers.proofs.PlaceLaws.{onward}
-use Rattle.bytes.specs.Bytes.{index_of, index_after, slice}
 use Rattle.text.specs.Decimal.{decimal, is_digit, are_digits}
 use Rattle.text.specs.Reading.{number_of_text}
 use Rattle.text.specs.declared.reading.NumberAnswer.{NumberAnswer}
 use Rattle.text.proofs.DecimalLaws.{are_digits-decimal, decimal-least, decimal-most-u32}
 use Rattle.text.proofs.ReadingLaws.{read-decimal}
-use Rattle.paths_and_locks.specs.Lock.{pad_of, holder_text, after_spaces, up_to, process_of, holder_in, holder_of}
+use Rattle.paths_and_locks.specs.Lock.{index_of, pad_of, holder_text, after_spaces, up_to, process_of, holder_in, holder_of}
 use Rattle.paths_and_locks.specs.declared.holder.Holder.TheVariants.{Process}
 
 abbrev spaces : ℕ → List ℕ
@@ -57,13 +56,6 @@ pub other_at : (s : List ℕ) (i : ℕ) → i < length s → (get_or s i 0 ≡ 3
 unfolding after_spaces
 other_at s i h e = rw (drop-cons s i 0 h, ne_eqb (get_or s i 0) 32 e)
 
--- a search over all of a text
-pub found : (b : ℕ) (s : List ℕ) (r : ℕ) → r ≡ 0 + index_of b (slice 0 (length s) s) → take r s ≡ up_to b s
-unfolding slice up_to
-found b s r h =
-    let e : r ≡ index_of b (slice 0 (length s) s) = omega (arith, h) in
-    ap (λ (k : ℕ). take k s) (e ∙ ap (index_of b) (take_length s))
-
 -- what a text's first word says of its holder
 pub told : (s a l w : List ℕ) (x y : NumberAnswer) → a ≡ after_spaces s → l ≡ up_to 10 a → w ≡ up_to 32 l → x ≡ number_of_text w → x ≡ y → holder_in y ≡ holder_of s
 unfolding holder_of
@@ -96,22 +88,22 @@ kept [] t h e = absurd (omega arith)
 kept (x ∷ xs) t h e = let low = above x (both (is_digit x) (are_digits xs) e).0 in rw (ne_eqb x 32 (λ f. omega (arith, low, f)))
 
 past : (b : ℕ) (xs t : List ℕ) → b < 48 → are_digits xs ≡ true → index_of b (xs ++ t) ≡ length xs + index_of b t
-unfolding index_of index_after are_digits
+unfolding are_digits
 past b [] t h e = omega arith
 past b (x ∷ xs) t h e =
     let d = both (is_digit x) (are_digits xs) e in
     let low = above x d.0 in
-    rw (ne_eqb x b (λ f. omega (arith, low, f, h))) (ap suc (past b xs t h d.1) ∙ omega arith)
+    rw (ne_eqb x b (λ f. omega (arith, low, f, h))) (ap (λ (k : ℕ). 1 + k) (past b xs t h d.1) ∙ omega arith)
 
 line : (xs : List ℕ) → are_digits xs ≡ true → up_to 10 (xs ++ (10 ∷ [])) ≡ xs
-unfolding up_to index_of index_after
+unfolding up_to
 line xs e = take_at xs (10 ∷ []) _ (sym (past 10 xs (10 ∷ []) (omega arith) e ∙ add-zero (length xs)))
 
 word : (xs : List ℕ) → are_digits xs ≡ true → up_to 32 xs ≡ xs
-unfolding up_to index_of
+unfolding up_to
 word xs e =
     let n : index_of 32 xs ≡ length xs = ap (index_of 32) (sym (append-nil xs)) ∙ past 32 xs [] (omega arith) e ∙ add-zero (length xs) in
-    ap (λ (k : ℕ). take k xs) n ∙ take_length xs
+    ap (λ (k : ℕ). take k xs) n ∙ take-length xs
 
 -- a process that was put is read back
 pub read_back : (p : ℕ) → 1 ≤ p → p ≤ 2147483647 → holder_of (holder_text p) ≡ Process p

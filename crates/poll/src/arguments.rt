@@ -1,5 +1,6 @@
 // The program's arguments.
 use calendar::Date;
+use file_io::PATH_ROOM;
 use log_header::Header;
 use polling::{Order, Wanted};
 use text::NumberAnswer;
@@ -109,44 +110,43 @@ const FIRST_YEAR: u16 = 2000;
 const LAST_YEAR: u16 = 2255;
 
 // Whether the first word is `new`.
-pub fn is_new() -> bool {
-    first_place() == NEW
+pub fn is_new(rt: HostRuntime) -> bool {
+    first_place(rt) == NEW
 }
 
 // Whether it is `mercury`.
-pub fn is_mercury() -> bool {
-    first_place() == MERCURY
+pub fn is_mercury(rt: HostRuntime) -> bool {
+    first_place(rt) == MERCURY
 }
 
-fn first_place() -> usize {
-    let mut word = io::buffer();
-    let n = os::arg(DEVICE, &mut word);
-    console::place_of(&word[..n], b"new mercury")
+fn first_place(rt: HostRuntime) -> usize {
+    let mut room = [0u8; PATH_ROOM];
+    console::place_of(file_io::word(rt, DEVICE, &mut room), b"new mercury")
 }
 
-pub fn said_options() -> Options {
+pub fn said_options(rt: HostRuntime) -> Options {
     let none = Options {
         chosen: Chosen::All,
         wanted: Wanted::Gaps,
         order: Order::OldestFirst,
         anyway: false,
     };
-    let one = with_word(none, FIRST_OPTION);
-    let two = with_word(one, SECOND_OPTION);
-    let three = with_word(two, THIRD_OPTION);
-    with_word(three, FOURTH_OPTION)
+    let one = with_word(rt, none, FIRST_OPTION);
+    let two = with_word(rt, one, SECOND_OPTION);
+    let three = with_word(rt, two, THIRD_OPTION);
+    with_word(rt, three, FOURTH_OPTION)
 }
 
-fn with_word(o: Options, i: usize) -> Options {
-    if os::arg_count() <= i {
+fn with_word(rt: HostRuntime, o: Options, i: usize) -> Options {
+    if file_io::word_count(rt) <= i {
         return o;
     }
-    let mut word = io::buffer();
-    let n = os::arg(i, &mut word);
+    let mut room = [0u8; PATH_ROOM];
+    let word = file_io::word(rt, i, &mut room);
     let chosen = o.chosen;
     let wanted = o.wanted;
     let order = o.order;
-    match console::place_of(&word[..n], b"again anyway newest") {
+    match console::place_of(word, b"again anyway newest") {
         AGAIN => Options {
             chosen: chosen,
             wanted: Wanted::GapsAndEmpties,
@@ -166,7 +166,7 @@ fn with_word(o: Options, i: usize) -> Options {
             anyway: o.anyway,
         },
         _ => Options {
-            chosen: one_day(i),
+            chosen: one_day(rt, i),
             wanted: wanted,
             order: order,
             anyway: o.anyway,
@@ -174,34 +174,34 @@ fn with_word(o: Options, i: usize) -> Options {
     }
 }
 
-fn one_day(i: usize) -> Chosen {
-    match byte_argument(i) {
+fn one_day(rt: HostRuntime, i: usize) -> Chosen {
+    match byte_argument(rt, i) {
         ByteArgument::Byte(day) => Chosen::One(day),
         ByteArgument::Unread => Chosen::Unread,
     }
 }
 
 // YEAR MONTH DAY DAYS MINUTES KE SEASONS: a word that is no number is no header's either.
-pub fn start_words() -> Start {
-    let ShortArgument::Short(year) = short_argument(YEAR) else {
+pub fn start_words(rt: HostRuntime) -> Start {
+    let ShortArgument::Short(year) = short_argument(rt, YEAR) else {
         return Start::OutOfRange;
     };
-    let ByteArgument::Byte(month) = byte_argument(MONTH) else {
+    let ByteArgument::Byte(month) = byte_argument(rt, MONTH) else {
         return Start::OutOfRange;
     };
-    let ByteArgument::Byte(day) = byte_argument(DAY) else {
+    let ByteArgument::Byte(day) = byte_argument(rt, DAY) else {
         return Start::OutOfRange;
     };
-    let ByteArgument::Byte(days) = byte_argument(DAYS) else {
+    let ByteArgument::Byte(days) = byte_argument(rt, DAYS) else {
         return Start::OutOfRange;
     };
-    let ByteArgument::Byte(minutes) = byte_argument(MINUTES) else {
+    let ByteArgument::Byte(minutes) = byte_argument(rt, MINUTES) else {
         return Start::OutOfRange;
     };
-    let ShortArgument::Short(ke) = short_argument(KE) else {
+    let ShortArgument::Short(ke) = short_argument(rt, KE) else {
         return Start::OutOfRange;
     };
-    let ByteArgument::Byte(seasons) = byte_argument(SEASONS) else {
+    let ByteArgument::Byte(seasons) = byte_argument(rt, SEASONS) else {
         return Start::OutOfRange;
     };
     start_of(year, month, day, days, minutes, ke, seasons)
@@ -228,8 +228,8 @@ fn start_of(year: u16, month: u8, day: u8, days: u8, minutes: u8, ke: u16, seaso
     })
 }
 
-pub fn byte_argument(i: usize) -> ByteArgument {
-    match number_argument(i) {
+pub fn byte_argument(rt: HostRuntime, i: usize) -> ByteArgument {
+    match number_argument(rt, i) {
         NumberAnswer::Number(n) => {
             if n <= MOST_BYTE {
                 ByteArgument::Byte(n as u8)
@@ -241,8 +241,8 @@ pub fn byte_argument(i: usize) -> ByteArgument {
     }
 }
 
-fn short_argument(i: usize) -> ShortArgument {
-    match number_argument(i) {
+fn short_argument(rt: HostRuntime, i: usize) -> ShortArgument {
+    match number_argument(rt, i) {
         NumberAnswer::Number(n) => {
             if n <= MOST_SHORT {
                 ShortArgument::Short(n as u16)
@@ -254,8 +254,8 @@ fn short_argument(i: usize) -> ShortArgument {
     }
 }
 
-pub fn long_argument(i: usize) -> LongArgument {
-    match number_argument(i) {
+pub fn long_argument(rt: HostRuntime, i: usize) -> LongArgument {
+    match number_argument(rt, i) {
         NumberAnswer::Number(n) => {
             if n <= MOST_LONG {
                 LongArgument::Long(n as u32)
@@ -268,8 +268,7 @@ pub fn long_argument(i: usize) -> LongArgument {
 }
 
 // A word that is missing or too long reads as an empty one, which is no number.
-fn number_argument(i: usize) -> NumberAnswer {
-    let mut word = io::buffer();
-    let n = os::arg(i, &mut word);
-    text::number_of(&word[..n])
+fn number_argument(rt: HostRuntime, i: usize) -> NumberAnswer {
+    let mut room = [0u8; PATH_ROOM];
+    text::number_of(file_io::word(rt, i, &mut room))
 }

@@ -1,7 +1,8 @@
 // One poll at a time: a lock for the log's file, beside it, and one for the line, by the custom of serial programs.
-use file_io::{Lock, PathAnswer};
+use file_io::Lock;
 use paths_and_locks::front;
 use poll_words::say;
+use std::io;
 
 // What a lock is for.
 #[derive(Clone, Copy)]
@@ -19,37 +20,37 @@ pub enum Taken {
 }
 
 // Takes the lock that keeps a file or a line for this poll.
-pub fn take(kind: Kind, what: &[u8], path: &mut [u8]) -> Taken {
-    match name_of(kind, what, path) {
-        PathAnswer::Length(n) => {
-            if is_taken(what, front(path, n)) {
+pub fn take(rt: HostRuntime, kind: Kind, what: &[u8], path: &mut [u8]) -> Taken {
+    match name_of(rt, kind, what, path) {
+        Ok(n) => {
+            if is_taken(rt, what, front(path, n)) {
                 return Taken::Path(n);
             }
             Taken::Not
         }
-        PathAnswer::Failed => {
-            say::failed(what);
+        Err(why) => {
+            say::failed(rt, what, why);
             Taken::Not
         }
     }
 }
 
-fn name_of(kind: Kind, what: &[u8], path: &mut [u8]) -> PathAnswer {
+fn name_of(rt: HostRuntime, kind: Kind, what: &[u8], path: &mut [u8]) -> io::Result<usize> {
     match kind {
-        Kind::LogFile => file_io::file_lock_name(what, path),
-        Kind::Line => file_io::line_lock_name(what, path),
+        Kind::LogFile => file_io::file_lock_name(rt, what, path),
+        Kind::Line => file_io::line_lock_name(rt, what, path),
     }
 }
 
-fn is_taken(what: &[u8], path: &[u8]) -> bool {
-    match file_io::locked(path) {
-        Lock::Held => true,
-        Lock::By(process) => say::held(what, path, process),
-        Lock::Unreadable => say::unreadable(what, path),
-        Lock::Failed => say::failed(path),
+fn is_taken(rt: HostRuntime, what: &[u8], path: &[u8]) -> bool {
+    match file_io::locked(rt, path) {
+        Ok(Lock::Held) => true,
+        Ok(Lock::By(process)) => say::held(rt, what, path, process),
+        Ok(Lock::Unreadable) => say::unreadable(rt, what, path),
+        Err(why) => say::failed(rt, path, why),
     }
 }
 
-pub fn left(path: &[u8]) {
-    file_io::unlocked(path);
+pub fn left(rt: HostRuntime, path: &[u8]) {
+    file_io::unlocked(rt, path);
 }

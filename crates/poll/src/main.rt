@@ -3,6 +3,7 @@
 #![tactic(auto)]
 
 mod arguments;
+mod device;
 mod fresh;
 mod help;
 mod locks;
@@ -23,35 +24,35 @@ const LEAST_WORDS: usize = 4;
 
 const MOST_WORDS: usize = 8;
 
-fn main() {
-    let count = os::arg_count();
-    if arguments::is_new() {
+fn main(rt: HostRuntime) {
+    let count = file_io::word_count(rt);
+    if arguments::is_new(rt) {
         if count == NEW_WORDS {
-            say::end(fresh::make());
+            say::end(rt, fresh::make(rt));
             return;
         }
-        help::show();
+        help::show(rt);
         return;
     }
-    if arguments::is_mercury() {
+    if arguments::is_mercury(rt) {
         if count == MERCURY_WORDS {
-            say::end(mercury_meter::read());
+            say::end(rt, mercury_meter::read(rt));
             return;
         }
-        help::show();
+        help::show(rt);
         return;
     }
-    polled(count);
+    polled(rt, count);
 }
 
-fn polled(count: usize) {
+fn polled(rt: HostRuntime, count: usize) {
     if count < LEAST_WORDS {
-        help::show();
+        help::show(rt);
         return;
     }
     if MOST_WORDS < count {
-        help::show();
+        help::show(rt);
         return;
     }
-    say::end(session::poll());
+    say::end(rt, session::poll(rt));
 }

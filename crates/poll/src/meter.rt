@@ -26,12 +26,12 @@ enum Told {
 // The tries take a second each, at least, where reads wait.
 const LEAST_SECONDS: u64 = 2;
 
-pub fn met(wire: Wire, device: &[u8], h: Header, anyway: bool) -> Known {
+pub fn met(wire: &Wire, device: &[u8], h: Header, anyway: bool) -> Known {
     match heard(wire, device, Question::Clock) {
         Told::Learned(l) => match l {
-            Learned::Clock(t) => known_at(wire, device, h, at(t, anyway)),
+            Learned::Clock(t) => known_at(wire, device, h, at(wire.rt, t, anyway)),
             _ => {
-                say::unlearned(device, wire.address, l);
+                say::unlearned(wire.rt, device, wire.address, l);
                 Known::Not
             }
         },
@@ -40,7 +40,7 @@ pub fn met(wire: Wire, device: &[u8], h: Header, anyway: bool) -> Known {
     }
 }
 
-fn known_at(wire: Wire, device: &[u8], h: Header, clock: Known) -> Known {
+fn known_at(wire: &Wire, device: &[u8], h: Header, clock: Known) -> Known {
     match clock {
         Known::At(_) => {
             if fits(wire, device, h, Question::Weight) {
@@ -55,29 +55,29 @@ fn known_at(wire: Wire, device: &[u8], h: Header, clock: Known) -> Known {
 }
 
 // A clock that is more than a day off the machine's own time is a reason to stop.
-fn at(t: DateTime, anyway: bool) -> Known {
+fn at(rt: HostRuntime, t: DateTime, anyway: bool) -> Known {
     let Moment::Minute(meter) = polling::moment_of(t) else {
-        say::no_time(t);
+        say::no_time(rt, t);
         return Known::Not;
     };
-    let machine = polling::machine_minute(file_io::seconds());
+    let machine = polling::machine_minute(file_io::seconds(rt));
     if polling::far_apart(meter, machine) {
-        say::far_apart(t, machine, anyway);
+        say::far_apart(rt, t, machine, anyway);
         if !anyway {
             return Known::Not;
         }
     }
-    say::clock(t);
+    say::clock(rt, t);
     Known::At(meter)
 }
 
-fn fits(wire: Wire, device: &[u8], h: Header, question: Question) -> bool {
+fn fits(wire: &Wire, device: &[u8], h: Header, question: Question) -> bool {
     match heard(wire, device, question) {
         Told::Learned(l) => {
             if polling::fits_log(h, l) {
                 return true;
             }
-            say::does_not_fit(device, wire.address, h, l);
+            say::does_not_fit(wire.rt, device, wire.address, h, l);
             false
         }
         Told::Silence => false,
@@ -86,15 +86,15 @@ fn fits(wire: Wire, device: &[u8], h: Header, question: Question) -> bool {
 }
 
 // What the meter tells; silence is said.
-fn heard(wire: Wire, device: &[u8], question: Question) -> Told {
-    let before = file_io::seconds();
+fn heard(wire: &Wire, device: &[u8], question: Question) -> Told {
+    let before = file_io::seconds(wire.rt);
     let told = asked(wire, device, question);
     match told {
         Told::Silence => {
-            if have_waited(before) {
-                say::silent(device, wire.address);
+            if have_waited(wire.rt, before) {
+                say::silent(wire.rt, device, wire.address);
             } else {
-                say::reads_do_not_wait(device);
+                say::reads_do_not_wait(wire.rt, device);
             }
         }
         Told::Learned(_) => {}
@@ -104,15 +104,15 @@ fn heard(wire: Wire, device: &[u8], question: Question) -> Told {
 }
 
 // Whether the tries since then took as long as reads that wait do.
-fn have_waited(before: u64) -> bool {
-    let now = file_io::seconds();
+fn have_waited(rt: HostRuntime, before: u64) -> bool {
+    let now = file_io::seconds(rt);
     if now < before {
         return true;
     }
     LEAST_SECONDS <= now - before
 }
 
-fn asked(wire: Wire, device: &[u8], question: Question) -> Told {
+fn asked(wire: &Wire, device: &[u8], question: Question) -> Told {
     let mut reply = [0u8; REPLY_ROOM];
     match poll_line::asked(wire, device, Ask::Meter(question), &mut reply) {
         Heard::Bytes(n) => {

@@ -49,7 +49,7 @@ pub struct Course {
 
 // Asks for the wanted intervals of the days from one on and before another.
 pub fn poll(
-    wire: Wire,
+    wire: &Wire,
     plan: Plan,
     device: &[u8],
     path: &[u8],
@@ -62,22 +62,20 @@ pub fn poll(
 {
     let order = plan.order;
     let mut course = nothing(OpenAsk::Closed);
-    let mut turn = from;
-    while turn < end {
+    for turn in from..end {
         let day = polling::day_in_order(order, from, end, turn);
         let earlier = course;
         course = one_day(wire, plan, device, path, image, figures, day, earlier);
         if is_over(course) {
             return course;
         }
-        turn += 1;
     }
     course
 }
 
 // One more day behind the earlier ones.
 fn one_day(
-    wire: Wire,
+    wire: &Wire,
     plan: Plan,
     device: &[u8],
     path: &[u8],
@@ -95,7 +93,7 @@ fn one_day(
     let course = kept(wire, path, image, after);
     let tally = course.tally;
     let passed = course.passed;
-    say::day(wire.terminal, day, tally, passed);
+    say::day(wire.rt, wire.terminal, day, tally, passed);
     holding(behind(earlier, course), left)
 }
 
@@ -116,7 +114,7 @@ fn behind(earlier: Course, course: Course) -> Course {
 }
 
 // A day whose asks have left the log as it was: its file is not touched.
-fn kept(wire: Wire, path: &[u8], image: &[u8], after: Course) -> Course {
+fn kept(wire: &Wire, path: &[u8], image: &[u8], after: Course) -> Course {
     let tally = after.tally;
     if changes(tally) {
         if saved(wire, path, image) {
@@ -156,7 +154,7 @@ fn has_faults(faults: Faults) -> bool {
 }
 
 fn asks(
-    wire: Wire,
+    wire: &Wire,
     plan: Plan,
     device: &[u8],
     path: &[u8],
@@ -188,7 +186,7 @@ fn asks(
 
 // An interval that is not over, or that another year's could answer for, is not asked for.
 fn one_slot(
-    wire: Wire,
+    wire: &Wire,
     plan: Plan,
     device: &[u8],
     path: &[u8],
@@ -211,7 +209,7 @@ fn one_slot(
 }
 
 fn one_ask(
-    wire: Wire,
+    wire: &Wire,
     device: &[u8],
     path: &[u8],
     image: &mut [u8],
@@ -226,7 +224,7 @@ fn one_ask(
     let tally = earlier.tally;
     let passed = earlier.passed;
     let before = earlier.held;
-    say::slot(wire.terminal, day, slot, tally, passed);
+    say::slot(wire.rt, wire.terminal, day, slot, tally, passed);
     let mut frame = [0u8; READ_BYTES];
     let asked = logger::put_ask(image, before, wire.address, day, slot, &mut frame);
     let answer = asked.answer;
@@ -234,8 +232,8 @@ fn one_ask(
     match answer {
         AskAnswer::Done => exchanged(wire, device, path, image, figures, &frame, held, earlier),
         _ => {
-            say::new_line(wire.terminal);
-            say::refused(path, answer.number());
+            say::new_line(wire.rt, wire.terminal);
+            say::refused(wire.rt, path, answer.number());
             holding(ends(earlier, End::Stopped), held)
         }
     }
@@ -244,7 +242,7 @@ fn one_ask(
 // Sends the open ask's frame, and settles the ask by what is heard then. A device that fails is not the meter's silence: the poll ends with
 // the ask open, and nothing is counted.
 fn exchanged(
-    wire: Wire,
+    wire: &Wire,
     device: &[u8],
     path: &[u8],
     image: &mut [u8],
@@ -268,7 +266,7 @@ fn exchanged(
 
 // What was heard for the open ask, which no bytes are where the meter was silent.
 fn heard(
-    wire: Wire,
+    wire: &Wire,
     device: &[u8],
     path: &[u8],
     image: &mut [u8],
@@ -298,21 +296,21 @@ fn ask_settled(image: &mut [u8], figures: &mut [u32], held: OpenAsk, reply: &[u8
 }
 
 // What an ask's fate leads to.
-fn followed(wire: Wire, device: &[u8], path: &[u8], fate: Fate, course: Course) -> Course {
+fn followed(wire: &Wire, device: &[u8], path: &[u8], fate: Fate, course: Course) -> Course {
     match fate {
         Fate::Taken => course,
         Fate::Refused => course,
         Fate::Silent => after_a_loss(wire, device, course),
         Fate::Malformed(_) => after_a_loss(wire, device, course),
         Fate::Stopped(number) => {
-            say::new_line(wire.terminal);
-            say::refused(path, number);
+            say::new_line(wire.rt, wire.terminal);
+            say::refused(wire.rt, path, number);
             ends(course, End::Stopped)
         }
     }
 }
 
-fn after_a_loss(wire: Wire, device: &[u8], course: Course) -> Course {
+fn after_a_loss(wire: &Wire, device: &[u8], course: Course) -> Course {
     if poll_line::silent_again(wire, device) {
         return course;
     }
@@ -408,16 +406,16 @@ fn is_over(course: Course) -> bool {
     }
 }
 
-fn saved(wire: Wire, path: &[u8], image: &[u8]) -> bool {
-    match saving::saved(Way::InItsPlace, path, image) {
+fn saved(wire: &Wire, path: &[u8], image: &[u8]) -> bool {
+    match saving::saved(wire.rt, Way::InItsPlace, path, image) {
         SaveAnswer::Done => true,
         SaveAnswer::Refused(number) => {
-            say::new_line(wire.terminal);
-            say::refused(path, number)
+            say::new_line(wire.rt, wire.terminal);
+            say::refused(wire.rt, path, number)
         }
-        SaveAnswer::Failed => {
-            say::new_line(wire.terminal);
-            say::not_saved(path);
+        SaveAnswer::Failed(why) => {
+            say::new_line(wire.rt, wire.terminal);
+            say::not_saved(wire.rt, path, why);
             false
         }
     }

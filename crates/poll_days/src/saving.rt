@@ -4,6 +4,7 @@ ghost use Rattle.poll_days.specs.Saved.{LogFile};
 
 use log_file::{FILE_MOST, WriteAnswer};
 use paths_and_locks::front;
+use std::io;
 
 // How the file comes to its path.
 #[derive(Clone, Copy)]
@@ -19,27 +20,27 @@ pub enum SaveAnswer {
     Done,
     // The log, with this number.
     Refused(u8),
-    // The system did.
-    Failed,
+    // The system did, and why.
+    Failed(io::Error),
 }
 
 // Writes the file of a log.
-pub fn saved(way: Way, path: &[u8], image: &[u8]) -> SaveAnswer {
+pub fn saved(rt: HostRuntime, way: Way, path: &[u8], image: &[u8]) -> SaveAnswer {
     let mut file = [0u8; FILE_MOST];
     let answer = log_file::write_file(image, &mut file);
     let WriteAnswer::Done(n) = answer else {
         return SaveAnswer::Refused(answer.number());
     };
-    if put(way, path, file_of(image, &file, n)) {
-        return SaveAnswer::Done;
+    match put(rt, way, path, file_of(image, &file, n)) {
+        Ok(()) => SaveAnswer::Done,
+        Err(why) => SaveAnswer::Failed(why),
     }
-    SaveAnswer::Failed
 }
 
-fn put(way: Way, path: &[u8], file: &[u8]) -> bool {
+fn put(rt: HostRuntime, way: Way, path: &[u8], file: &[u8]) -> io::Result<()> {
     match way {
-        Way::New => file_io::made(path, file),
-        Way::InItsPlace => file_io::stored(path, file),
+        Way::New => file_io::made(rt, path, file),
+        Way::InItsPlace => file_io::stored(rt, path, file),
     }
 }
 

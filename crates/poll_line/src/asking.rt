@@ -19,10 +19,9 @@ pub enum Ask {
 const TRIES: u8 = 3;
 
 // What was heard last: silence, and what is no answer, are a reason to ask again.
-pub fn asked(wire: Wire, device: &[u8], ask: Ask, reply: &mut [u8]) -> Heard {
+pub fn asked(wire: &Wire, device: &[u8], ask: Ask, reply: &mut [u8]) -> Heard {
     let mut heard = Heard::Bytes(0);
-    let mut turns = TRIES;
-    while 0 < turns {
+    for _ in 0..TRIES {
         heard = asked_once(wire, device, ask, reply);
         if is_settled(wire, ask, heard, reply) {
             return heard;
@@ -30,12 +29,11 @@ pub fn asked(wire: Wire, device: &[u8], ask: Ask, reply: &mut [u8]) -> Heard {
         if !wire::silent_again(wire, device) {
             return Heard::Failed;
         }
-        turns -= 1;
     }
     heard
 }
 
-fn asked_once(wire: Wire, device: &[u8], ask: Ask, reply: &mut [u8]) -> Heard {
+fn asked_once(wire: &Wire, device: &[u8], ask: Ask, reply: &mut [u8]) -> Heard {
     match ask {
         Ask::Meter(question) => {
             let mut frame = [0u8; READ_BYTES];
@@ -60,7 +58,7 @@ fn mercury_bytes(code: u8) -> usize {
 }
 
 // Whether there is no reason to ask again.
-fn is_settled(wire: Wire, ask: Ask, heard: Heard, reply: &[u8]) -> bool {
+fn is_settled(wire: &Wire, ask: Ask, heard: Heard, reply: &[u8]) -> bool {
     match heard {
         Heard::Bytes(n) => {
             if n == 0 {
@@ -72,7 +70,7 @@ fn is_settled(wire: Wire, ask: Ask, heard: Heard, reply: &[u8]) -> bool {
     }
 }
 
-fn is_answer(wire: Wire, ask: Ask, reply: &[u8]) -> bool {
+fn is_answer(wire: &Wire, ask: Ask, reply: &[u8]) -> bool {
     match ask {
         Ask::Meter(question) => is_told(polling::learned_from(question, wire.address, reply)),
         Ask::Mercury(address, code) => {

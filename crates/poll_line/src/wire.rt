@@ -2,10 +2,16 @@
 use frame::layout::LONGEST;
 use paths_and_locks::front;
 use poll_words::say;
+use std::fs::File;
+use std::io;
+use std::io::{Read, Write};
 
-#[derive(Clone, Copy)]
+#[derive(Drop)]
 pub struct Wire {
-    pub fd: i32,
+    // What is said of it is said on this machine.
+    pub rt: HostRuntime,
+    // Open for reading and writing.
+    pub line: File,
     // The meter's.
     pub address: u8,
     // Whether standard error is one.
@@ -23,11 +29,10 @@ pub enum Heard {
 }
 
 #[derive(Clone, Copy)]
-enum Read {
+enum Got {
     // How many bytes stand in the buffer then.
     Bytes(usize),
     Silent,
-    Failed,
 }
 
 #[derive(Clone, Copy)]
@@ -35,7 +40,6 @@ enum Line {
     Silent,
     // It went on for all the reads that a drain has.
     Busy,
-    Failed,
 }
 
 // Silent reads in a row, before an ask and after one that was lost.
@@ -56,99 +60,90 @@ const GATHER_READS: usize = polling::SILENT_MOST as usize + REPLY_ROOM;
 const CHUNK: usize = REPLY_ROOM;
 
 // Sends a frame on a line that is silent, and gathers what is heard then: a full reply has so many bytes.
-pub fn exchange(wire: Wire, device: &[u8], frame: &[u8], full: usize, reply: &mut [u8]) -> Heard {
+pub fn exchange(wire: &Wire, device: &[u8], frame: &[u8], full: usize, reply: &mut [u8]) -> Heard {
     if drained(wire, device, BEFORE_AN_ASK) {
-        if io::write_all(wire.fd, frame) {
-            return gathered(wire, device, full, reply);
-        }
-        say::new_line(wire.terminal);
-        say::failed(device);
+        let mut line = &wire.line;
+        return match line.write_all(frame) {
+            Ok(()) => gathered(wire, device, full, reply),
+            Err(e) => {
+                failed(wire, device, e);
+                Heard::Failed
+            }
+        };
     }
     Heard::Failed
 }
 
 // Lets the line fall silent after an ask that was lost, so that a late reply is not taken for the next one's. Where it does not, or
 // the device fails, that is said.
-pub fn silent_again(wire: Wire, device: &[u8]) -> bool {
+pub fn silent_again(wire: &Wire, device: &[u8]) -> bool {
     drained(wire, device, AFTER_A_LOSS)
 }
 
-fn drained(wire: Wire, device: &[u8], quiet: u8) -> bool {
-    match drain(wire.fd, quiet) {
-        Line::Silent => true,
-        Line::Busy => {
-            say::new_line(wire.terminal);
-            say::never_silent(device);
+fn failed(wire: &Wire, device: &[u8], why: io::Error) {
+    say::new_line(wire.rt, wire.terminal);
+    say::failed(wire.rt, device, why);
+}
+
+fn drained(wire: &Wire, device: &[u8], quiet: u8) -> bool {
+    match drain(wire, quiet) {
+        Ok(Line::Silent) => true,
+        Ok(Line::Busy) => {
+            say::new_line(wire.rt, wire.terminal);
+            say::never_silent(wire.rt, device);
             false
         }
-        Line::Failed => {
-            say::new_line(wire.terminal);
-            say::failed(device);
+        Err(e) => {
+            failed(wire, device, e);
             false
         }
     }
 }
 
 // Throws away what comes until so many reads in a row are silent.
-fn drain(fd: i32, quiet: u8) -> Line {
+fn drain(wire: &Wire, quiet: u8) -> io::Result<Line> {
     let mut left = quiet;
-    let mut turns = DRAIN_READS;
-    while 0 < turns {
+    for _ in 0..DRAIN_READS {
         let mut chunk = [0u8; CHUNK];
-        match read_on(fd, &mut chunk, 0) {
-            Read::Bytes(_) => {
-                left = quiet;
-            }
-            Read::Silent => {
+        match read_on(wire, &mut chunk, 0)? {
+            Got::Bytes(_) => left = quiet,
+            Got::Silent => {
                 if left <= 1 {
-                    return Line::Silent;
+                    return Ok(Line::Silent);
                 }
                 left -= 1;
             }
-            Read::Failed => {
-                return Line::Failed;
-            }
-        }
-        turns -= 1;
-    }
-    Line::Busy
-}
-
-fn gathered(wire: Wire, device: &[u8], full: usize, reply: &mut [u8]) -> Heard {
-    let heard = gather(wire.fd, wire.refuses, full, reply);
-    match heard {
-        Heard::Bytes(_) => {}
-        Heard::Failed => {
-            say::new_line(wire.terminal);
-            say::failed(device);
         }
     }
-    heard
+    Ok(Line::Busy)
 }
 
-fn gather(fd: i32, refuses: bool, full: usize, reply: &mut [u8]) -> Heard {
+fn gathered(wire: &Wire, device: &[u8], full: usize, reply: &mut [u8]) -> Heard {
+    match gather(wire, full, reply) {
+        Ok(n) => Heard::Bytes(n),
+        Err(e) => {
+            failed(wire, device, e);
+            Heard::Failed
+        }
+    }
+}
+
+fn gather(wire: &Wire, full: usize, reply: &mut [u8]) -> io::Result<usize> {
     let mut n: usize = 0;
     let mut silent: u8 = 0;
-    let mut turns = GATHER_READS;
-    while 0 < turns {
-        match read_on(fd, reply, n) {
-            Read::Bytes(after) => {
+    for _ in 0..GATHER_READS {
+        match read_on(wire, reply, n)? {
+            Got::Bytes(after) => {
                 n = after;
                 silent = 0;
             }
-            Read::Silent => {
-                silent += 1;
-            }
-            Read::Failed => {
-                return Heard::Failed;
-            }
+            Got::Silent => silent = silent.saturating_add(1),
         }
-        if is_over(refuses, full, front(reply, n), silent) {
-            return Heard::Bytes(n);
+        if is_over(wire.refuses, full, front(reply, n), silent) {
+            return Ok(n);
         }
-        turns -= 1;
     }
-    Heard::Bytes(n)
+    Ok(n)
 }
 
 fn is_over(refuses: bool, full: usize, reply: &[u8], silent: u8) -> bool {
@@ -159,17 +154,14 @@ fn is_over(refuses: bool, full: usize, reply: &[u8], silent: u8) -> bool {
 }
 
 // One read, to the bytes behind the first n of a buffer.
-fn read_on(fd: i32, buffer: &mut [u8], n: usize) -> Read {
+fn read_on(wire: &Wire, buffer: &mut [u8], n: usize) -> io::Result<Got> {
     if buffer.len() <= n {
-        return Read::Silent;
+        return Ok(Got::Silent);
     }
-    let rest = &mut buffer[n..];
-    let got = libc::read(fd, rest);
-    if got < 0 {
-        return Read::Failed;
-    }
+    let mut line = &wire.line;
+    let got = line.read(&mut buffer[n..])?;
     if got == 0 {
-        return Read::Silent;
+        return Ok(Got::Silent);
     }
-    Read::Bytes(n + io::count(got, rest))
+    Ok(Got::Bytes(n + got))
 }

@@ -10,60 +10,93 @@ ghost use Rattle.report.specs.Printed.{Printed};
 
 use day_report::{LINE_MOST, STRIP_MOST, TextAnswer};
 use day_rows::FIGURES_MOST;
-use libc::{STDERR_FILENO, STDIN_FILENO, STDOUT_FILENO};
 use log_file::ReadAnswer;
 use log_header::IMAGE_MOST;
 use report_page::Page;
+use std::env::FillError;
+use std::io;
+use std::io::{IsTerminal, Read};
+use std::rt::Env;
 
 // One byte more than the longest file has, so that a longer one shows.
 const FILE_ROOM: usize = log_file::FILE_MOST + 1;
 
-// The program's own name.
+// The word behind the program's own name.
 const ITS_WORDS: usize = 1;
 
-fn main() {
-    if ITS_WORDS < os::arg_count() {
-        say(b"report < LOGFILE: prints the day report of the log's file on its standard input\n");
-        return;
+fn main(rt: HostRuntime) -> io::Result<()> {
+    if is_said(rt, ITS_WORDS) {
+        say(
+            rt,
+            b"report < LOGFILE: prints the day report of the log's file on its standard input\n",
+        );
+        return Ok(());
     }
-    begin();
+    begin(rt)
 }
 
-fn begin() {
+// Whether the program was called with so many words behind its name.
+fn is_said(rt: HostRuntime, i: usize) -> bool {
+    match rt.arg(i, &mut []) {
+        Ok(_) => true,
+        Err(FillError::TooLong) => true,
+        Err(FillError::NotPresent) => false,
+    }
+}
+
+fn begin(rt: HostRuntime) -> io::Result<()> {
     let mut file = [0u8; FILE_ROOM];
-    let n = io::read_full(STDIN_FILENO, &mut file);
-    read(&file[..n]);
+    let n = filled(rt, &mut file)?;
+    read(rt, front(&file, n));
+    Ok(())
 }
 
-fn read(file: &[u8]) {
+// Reads until the buffer is full or the input ends.
+fn filled(rt: HostRuntime, bytes: &mut [u8]) -> io::Result<usize> {
+    let mut done = 0;
+    // A read that gives nothing is the end.
+    for _ in 0..bytes.len() {
+        if bytes.len() <= done {
+            return Ok(done);
+        }
+        let n = rt.stdin().read(&mut bytes[done..])?;
+        if n == 0 {
+            return Ok(done);
+        }
+        done += n;
+    }
+    Ok(done)
+}
+
+fn read(rt: HostRuntime, file: &[u8]) {
     let mut room = [0u8; IMAGE_MOST];
     let mut figures = [0u32; FIGURES_MOST];
     let answer = log_file::read_file(file, &mut room, &mut figures);
-    shown(file, answer, &room, &figures);
+    shown(rt, file, answer, &room, &figures);
 }
 
 // What was read of the file.
-fn shown(file: &[u8], answer: ReadAnswer, room: &[u8], figures: &[u32])
+fn shown(rt: HostRuntime, file: &[u8], answer: ReadAnswer, room: &[u8], figures: &[u32])
     requires { ReadOf file.now answer (log_and_rows room.now figures.now) }
 {
-    lines(file, answer, room, figures);
+    lines(rt, file, answer, room, figures);
     // Nobody looks at a pipe's or a file's end.
-    if libc::isatty(STDERR_FILENO) == 1 {
-        strips(file, answer, room, figures);
+    if rt.stderr().is_terminal() {
+        strips(rt, file, answer, room, figures);
     }
 }
 
-fn lines(file: &[u8], answer: ReadAnswer, room: &[u8], figures: &[u32])
+fn lines(rt: HostRuntime, file: &[u8], answer: ReadAnswer, room: &[u8], figures: &[u32])
     requires { ReadOf file.now answer (log_and_rows room.now figures.now) }
 {
     let mut page = report_page::page_of(answer);
     for _ in 0..report_page::LINES_MOST {
-        page = line(file, page, room, figures);
+        page = line(rt, file, page, room, figures);
     }
 }
 
 // Prints the page's next line; one that the page does not have is nothing.
-fn line(file: &[u8], page: Page, room: &[u8], figures: &[u32]) -> Page
+fn line(rt: HostRuntime, file: &[u8], page: Page, room: &[u8], figures: &[u32]) -> Page
     requires { ReadOf file.now page.read (log_and_rows room.now figures.now) }
     ensures { result.read ≡ page.read }
 {
@@ -71,22 +104,22 @@ fn line(file: &[u8], page: Page, room: &[u8], figures: &[u32]) -> Page
     let next = report_page::put_next_line(page, room, figures, &mut text);
     let answer = next.answer;
     if let TextAnswer::Done(n) = answer {
-        say(line_of(file, page.next, &text, n));
+        say(rt, line_of(file, page.next, &text, n));
     }
     next.after
 }
 
-fn strips(file: &[u8], answer: ReadAnswer, room: &[u8], figures: &[u32])
+fn strips(rt: HostRuntime, file: &[u8], answer: ReadAnswer, room: &[u8], figures: &[u32])
     requires { ReadOf file.now answer (log_and_rows room.now figures.now) }
 {
     let mut page = report_page::page_of(answer);
     for _ in 0..report_page::DAYS_MOST {
-        page = strip(file, page, room, figures);
+        page = strip(rt, file, page, room, figures);
     }
 }
 
 // Prints the next day's strip; a day that the log does not have is nothing.
-fn strip(file: &[u8], page: Page, room: &[u8], figures: &[u32]) -> Page
+fn strip(rt: HostRuntime, file: &[u8], page: Page, room: &[u8], figures: &[u32]) -> Page
     requires { ReadOf file.now page.read (log_and_rows room.now figures.now) }
     ensures { result.read ≡ page.read }
 {
@@ -94,7 +127,7 @@ fn strip(file: &[u8], page: Page, room: &[u8], figures: &[u32]) -> Page
     let next = report_page::put_next_strip(page, room, &mut text);
     let answer = next.answer;
     if let TextAnswer::Done(n) = answer {
-        io::write_all(STDERR_FILENO, strip_of(file, page.next, &text, n));
+        let _ = rt.stderr().write_all(strip_of(file, page.next, &text, n));
     }
     next.after
 }
@@ -125,6 +158,7 @@ fn front(bytes: &[u8], n: usize) -> &[u8]
     bytes
 }
 
-fn say(bytes: &[u8]) {
-    io::write_all(STDOUT_FILENO, bytes);
+// What cannot be written is left out.
+fn say(rt: HostRuntime, bytes: &[u8]) {
+    let _ = rt.stdout().write_all(bytes);
 }

@@ -10,7 +10,6 @@ ghost use Rattle.std.specs.Prelude.{◌≡◌, take};
 
 use day_report::{LINE_MOST, STRIP_MOST, TextAnswer};
 use day_rows::FIGURES_MOST;
-use libc::STDOUT_FILENO;
 use log_header::IMAGE_MOST;
 use report_page::Page;
 
@@ -38,37 +37,61 @@ const LAST_CRC: usize = SLOT_0 + 48 * ROW;
 
 const LAST_FILE: usize = LAST_CRC + frame::layout::CRC_BYTES;
 
-fn main() {
-    first_version();
-    second_version();
-    third_version();
+fn main(rt: HostRuntime) {
+    first_version(rt);
+    second_version(rt);
+    third_version(rt);
 }
 
-fn first_version() {
-    show(may());
-    show(with(may(), VERSION, b"\x04"));
-    show(with(may(), CRC, b"\x00\x00"));
+fn first_version(rt: HostRuntime) {
+    show(rt, may());
+    show(rt, with(may(), VERSION, b"\x04"));
+    show(rt, with(may(), CRC, b"\x00\x00"));
 }
 
 fn may() -> [u8; FILE] {
     file(b"GEL\x01\x00\x18\x05\x11\x01\x1E\x64\x00\x00\x00", SLOT_0)
 }
 
-fn second_version() {
-    show(file(b"GEL\x02\x00\x18\x03\x1F\x01\x1E\x64\x00\x01\x00", SLOT_0));
-    show(file(b"GEL\x02\x00\x18\x0A\x1B\x01\x1E\x64\x00\x01\x00", SLOT_4));
-    show(file(b"GEL\x02\x00\x18\x03\x1F\x01\x1E\x64\x00\x01\x00", SLOT_4));
-    show(file(b"GEL\x02\x00\x18\x03\x1F\x01\x1E\x64\x00\x00\x00", SLOT_4));
+fn second_version(rt: HostRuntime) {
+    show(
+        rt,
+        file(b"GEL\x02\x00\x18\x03\x1F\x01\x1E\x64\x00\x01\x00", SLOT_0),
+    );
+    show(
+        rt,
+        file(b"GEL\x02\x00\x18\x0A\x1B\x01\x1E\x64\x00\x01\x00", SLOT_4),
+    );
+    show(
+        rt,
+        file(b"GEL\x02\x00\x18\x03\x1F\x01\x1E\x64\x00\x01\x00", SLOT_4),
+    );
+    show(
+        rt,
+        file(b"GEL\x02\x00\x18\x03\x1F\x01\x1E\x64\x00\x00\x00", SLOT_4),
+    );
 }
 
-fn third_version() {
-    show_last(b"GEL\x03\x00\x18\x05\x11\x01\x1E\x64\x00\x00\x00", LAPSES_4);
-    show_last(b"GEL\x03\x00\x18\x03\x1F\x01\x1E\x64\x00\x01\x00", LAPSES_6);
-    show_last(b"GEL\x03\x00\x18\x03\x1F\x01\x1E\x64\x00\x01\x00", LAPSES_4);
+fn third_version(rt: HostRuntime) {
+    show_last(
+        rt,
+        b"GEL\x03\x00\x18\x05\x11\x01\x1E\x64\x00\x00\x00",
+        LAPSES_4,
+    );
+    show_last(
+        rt,
+        b"GEL\x03\x00\x18\x03\x1F\x01\x1E\x64\x00\x01\x00",
+        LAPSES_6,
+    );
+    show_last(
+        rt,
+        b"GEL\x03\x00\x18\x03\x1F\x01\x1E\x64\x00\x01\x00",
+        LAPSES_4,
+    );
 }
 
 // The file of version 3 with this header, measured in the first row, with 7 lapses, empty in the next, and 255 lapses at a place.
-fn show_last(header: &[u8], lapses: usize) {
+fn show_last(rt: HostRuntime, header: &[u8], lapses: usize) {
     let mut file = [0u8; LAST_FILE];
     byte_numbers::put_bytes(&mut file, 0, header);
     byte_numbers::put_bytes(
@@ -78,7 +101,7 @@ fn show_last(header: &[u8], lapses: usize) {
     );
     byte_numbers::put_bytes(&mut file, lapses, b"\xFF");
     frame::seal(&mut file, LAST_CRC);
-    shown(&file);
+    shown(rt, &file);
 }
 
 // The file with this header, measured in the row at a place and empty in the next.
@@ -96,45 +119,45 @@ fn with(mut file: [u8; FILE], at: usize, bytes: &[u8]) -> [u8; FILE] {
     file
 }
 
-fn show(file: [u8; FILE]) {
-    shown(&file);
+fn show(rt: HostRuntime, file: [u8; FILE]) {
+    shown(rt, &file);
 }
 
 // The file is read once: its page and, where it was not refused, the strip of its one day.
-fn shown(file: &[u8]) {
+fn shown(rt: HostRuntime, file: &[u8]) {
     let mut room = [0u8; IMAGE_MOST];
     let mut figures = [0u32; FIGURES_MOST];
     let read = log_file::read_file(file, &mut room, &mut figures);
-    lines(report_page::page_of(read), &room, &figures);
-    strip(report_page::page_of(read), &room);
+    lines(rt, report_page::page_of(read), &room, &figures);
+    strip(rt, report_page::page_of(read), &room);
 }
 
-fn lines(first: Page, room: &[u8], figures: &[u32]) {
+fn lines(rt: HostRuntime, first: Page, room: &[u8], figures: &[u32]) {
     let mut page = first;
     for _ in 0..report_page::LINES_MOST {
-        page = line(page, room, figures);
+        page = line(rt, page, room, figures);
     }
 }
 
-fn line(page: Page, room: &[u8], figures: &[u32]) -> Page {
+fn line(rt: HostRuntime, page: Page, room: &[u8], figures: &[u32]) -> Page {
     let mut text = [0u8; LINE_MOST];
     let next = report_page::put_next_line(page, room, figures, &mut text);
     let answer = next.answer;
-    put(answer, &text);
+    put(rt, answer, &text);
     next.after
 }
 
-fn strip(first: Page, room: &[u8]) {
+fn strip(rt: HostRuntime, first: Page, room: &[u8]) {
     let mut text = [0u8; STRIP_MOST];
     let next = report_page::put_next_strip(first, room, &mut text);
     let answer = next.answer;
-    put(answer, &text);
+    put(rt, answer, &text);
 }
 
 // A line that there is.
-fn put(answer: TextAnswer, text: &[u8]) {
+fn put(rt: HostRuntime, answer: TextAnswer, text: &[u8]) {
     if let TextAnswer::Done(n) = answer {
-        say(front(text, n));
+        say(rt, front(text, n));
     }
 }
 
@@ -148,6 +171,6 @@ fn front(bytes: &[u8], n: usize) -> &[u8]
     bytes
 }
 
-fn say(bytes: &[u8]) {
-    io::write_all(STDOUT_FILENO, bytes);
+fn say(rt: HostRuntime, bytes: &[u8]) {
+    let _ = rt.stdout().write_all(bytes);
 }

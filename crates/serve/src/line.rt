@@ -8,6 +8,8 @@ use crate::say;
 use frame::layout::LONGEST;
 use mercury_bench::{Answered, Meter};
 use meter_record::Record;
+use std::fs::File;
+use std::io::{IsTerminal, Read, Write};
 
 // The meter and the wall clock as they stand, and the frames so far.
 #[derive(Clone, Copy)]
@@ -29,71 +31,78 @@ const METER_REPLY: usize = LONGEST;
 const MERCURY_REPLY: usize = LONGEST;
 
 // Until the device is closed, or so many frames were read. Whatever the line carries, the meter goes on by its answers and its seconds alone.
-pub fn serve(fd: i32, count: u64, device: &[u8], store: &mut [u8], first: Bench) -> Served
+pub fn serve(
+    rt: HostRuntime,
+    line: &File,
+    count: u64,
+    device: &[u8],
+    store: &mut [u8],
+    first: Bench,
+) -> Served
     ensures { GoesOn first store.old result.bench store.new }
 {
     let mut served = Served {
         bench: first,
-        seen: file_io::seconds(),
+        seen: file_io::seconds(rt),
         read: 0,
         answered: 0,
         open: true,
     };
-    let mut left = count;
-    while 0 < left {
-        served = turn(fd, device, store, served);
-        if served.open {
-            left -= 1;
-        } else {
-            left = 0;
+    for _ in 0..count {
+        served = turn(rt, line, device, store, served);
+        if !served.open {
+            break;
         }
     }
-    say::ended(served.read, served.answered);
+    say::ended(rt, served.read, served.answered);
     served
 }
 
 // One frame, or none where the device is closed.
-fn turn(fd: i32, device: &[u8], store: &mut [u8], s: Served) -> Served
+fn turn(rt: HostRuntime, line: &File, device: &[u8], store: &mut [u8], s: Served) -> Served
     ensures { GoesOn s.bench store.old result.bench store.new }
 {
     let mut frame = [0u8; FRAME_ROOM];
-    let got = libc::read(fd, &mut frame);
-    if got < 1 {
-        nothing_read(fd, device, got);
-        return Served { open: false, ..s };
+    let mut reader = line;
+    match reader.read(&mut frame) {
+        Ok(0) => nothing_read(rt, line, device),
+        Ok(n) => return answer(rt, line, store, &frame[..n], s),
+        Err(why) => say::failed(rt, device, why),
     }
-    let n = io::count(got, &frame);
-    answer(fd, store, &frame[..n], s)
+    Served { open: false, ..s }
 }
 
-// A read that failed has its reason in errno. One that gave nothing is the end of a device that was closed; of a line that is still
-// there it shows a setting which would hand over frames in pieces.
-fn nothing_read(fd: i32, device: &[u8], got: isize) {
-    if got < 0 {
-        say::failed(device);
-        return;
-    }
-    if libc::isatty(fd) == 1 {
-        say::reads_nothing(device);
+// A read that gave nothing is the end of a device that was closed; of a line that is still there it shows a setting which would hand over
+// frames in pieces.
+fn nothing_read(rt: HostRuntime, line: &File, device: &[u8]) {
+    if line.is_terminal() {
+        say::reads_nothing(rt, device);
     }
 }
 
 // What the meter answers to a frame, each meter from a buffer of its own replies' length.
-fn answer(fd: i32, store: &mut [u8], frame: &[u8], s: Served) -> Served
+fn answer(rt: HostRuntime, line: &File, store: &mut [u8], frame: &[u8], s: Served) -> Served
     ensures { GoesOn s.bench store.old result.bench store.new }
 {
     let bench = s.bench;
     match bench {
-        Bench::Meter(record) => by_meter(fd, store, frame, s, record),
-        Bench::Mercury(m) => by_mercury(fd, frame, s, m),
+        Bench::Meter(record) => by_meter(rt, line, store, frame, s, record),
+        Bench::Mercury(m) => by_mercury(line, frame, s, m),
     }
 }
 
 // The seconds since the last look, and then the frame.
-fn by_meter(fd: i32, store: &mut [u8], frame: &[u8], s: Served, before: Record) -> Served
+fn by_meter(
+    rt: HostRuntime,
+    line: &File,
+    store: &mut [u8],
+    frame: &[u8],
+    s: Served,
+    before: Record,
+) -> Served
     ensures { GoesOn (bench.Meter before) store.old result.bench store.new }
 {
-    let now = file_io::seconds();
+    let now = file_io::seconds(rt);
     let later = console_meter::seconds_later(before, console_meter::seconds_between(s.seen, now));
     let mut out = [0u8; METER_REPLY];
     let a = meter::answer(later, store, frame, &mut out);
@@ -103,13 +112,13 @@ fn by_meter(fd: i32, store: &mut [u8], frame: &[u8], s: Served, before: Record) 
         bench: Bench::Meter(after),
         seen: now,
         read: next(s.read),
-        answered: replied(fd, console::part(&out, length), s.answered),
+        answered: replied(line, console::part(&out, length), s.answered),
         open: true,
     }
 }
 
 // Its figures stay as the script says.
-fn by_mercury(fd: i32, frame: &[u8], s: Served, m: Meter) -> Served
+fn by_mercury(line: &File, frame: &[u8], s: Served, m: Meter) -> Served
     ensures { result.bench ≡ bench.Mercury m }
 {
     let mut out = [0u8; MERCURY_REPLY];
@@ -118,7 +127,7 @@ fn by_mercury(fd: i32, frame: &[u8], s: Served, m: Meter) -> Served
         bench: Bench::Mercury(m),
         seen: s.seen,
         read: next(s.read),
-        answered: replied(fd, console::part(&out, length), s.answered),
+        answered: replied(line, console::part(&out, length), s.answered),
         open: true,
     }
 }
@@ -134,11 +143,12 @@ fn mercury_length(answered: Answered) -> usize {
 }
 
 // How many were answered, this one among them unless it is met with silence.
-fn replied(fd: i32, reply: &[u8], answered: u64) -> u64 {
+fn replied(line: &File, reply: &[u8], answered: u64) -> u64 {
     if reply.len() == 0 {
         return answered;
     }
-    io::write_all(fd, reply);
+    let mut writer = line;
+    let _ = writer.write_all(reply);
     next(answered)
 }
 

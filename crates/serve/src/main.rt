@@ -9,7 +9,10 @@ mod say;
 mod script;
 
 use bench::Bench;
+use file_io::PATH_ROOM;
 use script::Ready;
+use std::fs::{File, OpenOptions};
+use std::io;
 use text::NumberAnswer;
 
 // Where the words of `serve DEVICE SCRIPT COUNT` stand.
@@ -25,53 +28,59 @@ const LEAST_WORDS: usize = 3;
 // And COUNT.
 const MOST_WORDS: usize = 4;
 
-fn main() {
-    let words = os::arg_count();
+fn main(rt: HostRuntime) {
+    let words = file_io::word_count(rt);
     if words < LEAST_WORDS {
-        help::say();
+        help::say(rt);
         return;
     }
     if MOST_WORDS < words {
-        help::say();
+        help::say(rt);
         return;
     }
     if words == MOST_WORDS {
-        counted();
+        counted(rt);
     } else {
         // Nothing says that a device is closed: this many frames no run has.
-        made(u64::MAX);
+        made(rt, u64::MAX);
     }
 }
 
-fn counted() {
-    let mut word = io::buffer();
-    let n = os::arg(COUNT, &mut word);
-    match text::number_of(&word[..n]) {
-        NumberAnswer::Number(count) => made(count),
-        NumberAnswer::NotANumber => say::wrong_count(),
+fn counted(rt: HostRuntime) {
+    let mut room = [0u8; PATH_ROOM];
+    match text::number_of(file_io::word(rt, COUNT, &mut room)) {
+        NumberAnswer::Number(count) => made(rt, count),
+        NumberAnswer::NotANumber => say::wrong_count(rt),
     }
 }
 
 // The meter is made first, so that a script that stops leaves the device alone.
-fn made(count: u64) {
+fn made(rt: HostRuntime, count: u64) {
     let mut store = [0u8; meter_store::STORE_BYTES];
-    let mut path = io::buffer();
-    let n = os::arg(SCRIPT, &mut path);
-    match script::made_by(&path[..n], &mut store) {
-        Ready::Made(bench) => opened(count, &mut store, bench),
+    let mut room = [0u8; PATH_ROOM];
+    let path = file_io::word(rt, SCRIPT, &mut room);
+    match script::made_by(rt, path, &mut store) {
+        Ready::Made(bench) => opened(rt, count, &mut store, bench),
         Ready::Stopped => {}
     }
 }
 
-fn opened(count: u64, store: &mut [u8], bench: Bench) {
-    let mut path = io::buffer();
-    let n = os::arg(DEVICE, &mut path);
-    let fd = os::open_update(&path[..n]);
-    if fd < 0 {
-        say::failed(&path[..n]);
-        return;
+fn opened(rt: HostRuntime, count: u64, store: &mut [u8], bench: Bench) {
+    let mut room = [0u8; PATH_ROOM];
+    let path = file_io::word(rt, DEVICE, &mut room);
+    match device(rt, path) {
+        Ok(line) => {
+            say::waiting(rt, path, bench);
+            line::serve(rt, &line, count, path, store, bench);
+        }
+        Err(why) => say::failed(rt, path, why),
     }
-    say::waiting(&path[..n], bench);
-    line::serve(fd, count, &path[..n], store, bench);
-    libc::close(fd);
+}
+
+// The serial line, for reading and writing.
+fn device(rt: HostRuntime, path: &[u8]) -> io::Result<File> {
+    OpenOptions::new()
+        .read(true)
+        .write(true)
+        .open(&rt, file_io::as_text(path)?)
 }

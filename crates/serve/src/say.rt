@@ -1,82 +1,90 @@
 // Messages, on standard error, by the program's name.
 use crate::bench::Bench;
-use libc::STDERR_FILENO;
+use std::io;
 
-// A file or the device failed, and why, by errno.
-pub fn failed(path: &[u8]) {
-    put(b"serve: ");
-    os::fail(path);
+// A file or the device failed, and why.
+pub fn failed(rt: HostRuntime, path: &[u8], why: io::Error) {
+    put(rt, b"serve: ");
+    file_io::fail(rt.stderr(), path, why);
 }
 
-pub fn wrong_count() {
-    put(b"serve: COUNT is a number of frames\n");
+pub fn wrong_count(rt: HostRuntime) {
+    put(rt, b"serve: COUNT is a number of frames\n");
 }
 
 // What it waits for.
-pub fn waiting(device: &[u8], bench: Bench) {
+pub fn waiting(rt: HostRuntime, device: &[u8], bench: Bench) {
     match bench {
         Bench::Meter(record) => {
-            put(b"serve: answering as meter ");
-            io::print_decimal(STDERR_FILENO, record.address as u64);
+            put(rt, b"serve: answering as meter ");
+            decimal(rt, record.address as u64);
         }
         Bench::Mercury(m) => {
-            put(b"serve: answering as Mercury 206 ");
-            io::print_decimal(STDERR_FILENO, m.address as u64);
+            put(rt, b"serve: answering as Mercury 206 ");
+            decimal(rt, m.address as u64);
         }
     }
-    on(device);
+    on(rt, device);
 }
 
-fn on(device: &[u8]) {
-    put(b" on ");
-    put(device);
-    put(b"; a frame is what one read gives: ");
-    setting(device);
+fn on(rt: HostRuntime, device: &[u8]) {
+    put(rt, b" on ");
+    put(rt, device);
+    put(rt, b"; a frame is what one read gives: ");
+    setting(rt, device);
 }
 
-pub fn reads_nothing(device: &[u8]) {
-    put(b"serve: ");
-    put(device);
-    put(b": a read gave nothing, as it does on a line set to min 0: ");
-    setting(device);
+pub fn reads_nothing(rt: HostRuntime, device: &[u8]) {
+    put(rt, b"serve: ");
+    put(rt, device);
+    put(
+        rt,
+        b": a read gave nothing, as it does on a line set to min 0: ",
+    );
+    setting(rt, device);
 }
 
 // The line's own timer ends a frame at a pause.
-fn setting(device: &[u8]) {
-    put(b"stty -F ");
-    put(device);
-    put(b" raw -echo min 64 time 1\n");
+fn setting(rt: HostRuntime, device: &[u8]) {
+    put(rt, b"stty -F ");
+    put(rt, device);
+    put(rt, b" raw -echo min 64 time 1\n");
 }
 
-pub fn ended(read: u64, answered: u64) {
-    put(b"serve: ");
-    io::print_decimal(STDERR_FILENO, read);
-    put(b" frames read, ");
-    io::print_decimal(STDERR_FILENO, answered);
-    put(b" answered\n");
+pub fn ended(rt: HostRuntime, read: u64, answered: u64) {
+    put(rt, b"serve: ");
+    decimal(rt, read);
+    put(rt, b" frames read, ");
+    decimal(rt, answered);
+    put(rt, b" answered\n");
 }
 
 // A line of the script that was refused.
-pub fn refused(path: &[u8], number: u64, n: u8) {
-    place(path, number);
-    console_io::say::refused(n);
+pub fn refused(rt: HostRuntime, path: &[u8], number: u64, n: u8) {
+    place(rt, path, number);
+    console_io::say::refused(rt, n);
 }
 
 // One that could not be read.
-pub fn unread(path: &[u8], number: u64) {
-    place(path, number);
-    put(b"not read\n");
+pub fn unread(rt: HostRuntime, path: &[u8], number: u64) {
+    place(rt, path, number);
+    put(rt, b"not read\n");
 }
 
 // serve: SCRIPT:NUMBER:
-fn place(path: &[u8], number: u64) {
-    put(b"serve: ");
-    put(path);
-    put(b":");
-    io::print_decimal(STDERR_FILENO, number);
-    put(b": ");
+fn place(rt: HostRuntime, path: &[u8], number: u64) {
+    put(rt, b"serve: ");
+    put(rt, path);
+    put(rt, b":");
+    decimal(rt, number);
+    put(rt, b": ");
 }
 
-fn put(bytes: &[u8]) {
-    io::write_all(STDERR_FILENO, bytes);
+// What cannot be written is left out.
+fn put(rt: HostRuntime, bytes: &[u8]) {
+    let _ = rt.stderr().write_all(bytes);
+}
+
+fn decimal(rt: HostRuntime, n: u64) {
+    let _ = rt.stderr().print(n);
 }

@@ -6,6 +6,8 @@ use console_meter::{Answer, Called};
 use frame::layout::LONGEST;
 use mercury_bench::Meter;
 use meter_record::{Record, RecordAnswer};
+use std::fs::File;
+use std::io;
 
 #[derive(Clone, Copy)]
 pub enum Ready {
@@ -34,65 +36,57 @@ pub enum Step {
     Unread,
 }
 
-pub fn made_by(path: &[u8], store: &mut [u8]) -> Ready {
+pub fn made_by(rt: HostRuntime, path: &[u8], store: &mut [u8]) -> Ready {
     let RecordAnswer::Done(first) = console_meter::first() else {
         return Ready::Stopped;
     };
-    let fd = os::open_read(path);
-    if fd < 0 {
-        say::failed(path);
-        return Ready::Stopped;
-    }
     let made = Made {
         record: first,
         second: Second::None,
     };
-    let ready = lines(fd, path, store, made);
-    // A read that failed looks like the script's end, and shows in the next.
-    let mut one = [0u8; 1];
-    let after = libc::read(fd, &mut one);
-    libc::close(fd);
-    if after < 0 {
-        say::failed(path);
-        return Ready::Stopped;
+    match lines(rt, path, store, made) {
+        Ok(ready) => ready,
+        Err(why) => {
+            say::failed(rt, path, why);
+            Ready::Stopped
+        }
     }
-    ready
 }
 
-fn lines(fd: i32, path: &[u8], store: &mut [u8], first: Made) -> Ready {
+fn lines(rt: HostRuntime, path: &[u8], store: &mut [u8], first: Made) -> io::Result<Ready> {
+    let mut file = File::open(&rt, file_io::as_text(path)?)?;
     let mut line = [0u8; console_io::LINE_ROOM];
     let mut block = [0u8; 4096];
-    walk(fd, path, store, first, &mut line, &mut block)
+    walk(rt, &mut file, path, store, first, &mut line, &mut block)
 }
 
 fn walk(
-    fd: i32,
+    rt: HostRuntime,
+    file: &mut File,
     path: &[u8],
     store: &mut [u8],
     first: Made,
     line: &mut [u8],
     block: &mut [u8],
-) -> Ready {
+) -> io::Result<Ready> {
     let mut made = first;
     let mut rest = Rest { at: 0, end: 0 };
     // Nothing says that a file ends: this many lines none has.
-    let mut number: u64 = 1;
-    while number < u64::MAX {
-        let taken = console_io::next_line(fd, block, rest, line);
+    for number in 1..u64::MAX {
+        let taken = console_io::next_line(file, block, rest, line)?;
         if taken.ended {
-            return ready_of(made);
+            return Ok(ready_of(made));
         }
         rest = taken.rest;
         let n = taken.length;
         let step = set(console::part(line, n), store, made);
-        tell(step, path, number);
+        tell(rt, step, path, number);
         let Step::Made(after) = step else {
-            return Ready::Stopped;
+            return Ok(Ready::Stopped);
         };
         made = after;
-        number += 1;
     }
-    Ready::Stopped
+    Ok(Ready::Stopped)
 }
 
 // A script that says `mercury` makes that one.
@@ -177,10 +171,10 @@ fn numbered(n: u8, after: Made) -> Step {
 }
 
 // One that was not done is named on standard error.
-fn tell(step: Step, path: &[u8], number: u64) {
+fn tell(rt: HostRuntime, step: Step, path: &[u8], number: u64) {
     match step {
         Step::Made(_) => {}
-        Step::Refused(n) => say::refused(path, number, n),
-        Step::Unread => say::unread(path, number),
+        Step::Refused(n) => say::refused(rt, path, number, n),
+        Step::Unread => say::unread(rt, path, number),
     }
 }
