@@ -51,7 +51,7 @@ use Rattle.meter_clock.specs.Protection.{is_protection}
 use Rattle.meter_clock.specs.Season.{is_fitting}
 use Rattle.meter_clock.specs.declared.season.Season.TheVariants.{Winter}
 use Rattle.meter_store.specs.Store.{store_bytes}
-use Rattle.meter_record.proofs.RangeLaws.{Within, is_within}
+use Rattle.meter_record.proofs.RangeLaws.{Within, is_within_lem}
 use Rattle.meter_record.specs.Power.{in_bounds, are_powers}
 use Rattle.meter_record.specs.Ratios.{are_ratios}
 use Rattle.meter_record.specs.Ranges.{is_telemetry}
@@ -234,7 +234,7 @@ meter-fits a h = record {
 
 zeros-sound : (r : Record) (n : ℕ) → n ≡ store_bytes → Within r → is_sound r (replicate n 0) ≡ true
 unfolding is_sound
-zeros-sound r n e w = ap₂ ◌&&◌ (eq-eqb _ _ (length-replicate n 0 ∙ e)) (is_within r w)
+zeros-sound r n e w = ap₂ ◌&&◌ (eq-eqb _ _ (length-replicate n 0 ∙ e)) (is_within_lem r w)
 
 minutes-most : (a : ℕ) → slots_of (meter_at a).minutes ≡ most_slots
 unfolding fresh slots_of is_minutes

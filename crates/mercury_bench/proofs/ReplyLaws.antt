@@ -1,6 +1,6 @@
 -- What follows from the definitions of specs/Reply.antt, for proofs alone: no contract cites it.
 use mathlib.Core.Path.{◌≡◌, refl, sym, ap, ap₂, ◌∙◌}
-use mathlib.Core.List.{List, [], ◌++◌}
+use mathlib.Core.List.{List, ◌++◌}
 use Prim.Native.Nat.{ℕ, ◌+◌, ◌-◌, ◌≤◌}
 use native.Mathlib.Nat.{zero-add}
 use native.Mathlib.Omega.{arith}
@@ -8,7 +8,7 @@ use lib.ListN.{length, take, drop, length-append}
 use Rattle.byte_numbers.specs.Place.{written}
 use Rattle.byte_numbers.proofs.PlaceLaws.{written-append}
 use Rattle.byte_numbers.proofs.Part.{written-rest}
-use Rattle.frame.specs.Sealing.{framed, sealed}
+use Rattle.frame.specs.Sealing.{sealed}
 use Rattle.frame.proofs.SealingLaws.{sealed-written, length-framed}
 use Rattle.mercury.specs.Command.{code_of, data_size}
 use Rattle.mercury.specs.Layout.{head_of, bare_size}
