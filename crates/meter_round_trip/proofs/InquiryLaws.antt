@@ -22,7 +22,6 @@ use Rattle.meter.proofs.ReplyLaws.{answer-short}
 use Rattle.meter.specs.declared.reply.Answered.{Answered}
 use Rattle.reader.specs.Reply.{decoded_of}
 use Rattle.reader.specs.declared.reply.Decoded.{Decoded}
-use Rattle.request.specs.Request as request
 use Rattle.meter.specs.Reply as meter
 use Rattle.meter_round_trip.specs.Inquiry.{is_silent, outcome, told_of, asked}
 use Rattle.meter_round_trip.specs.declared.Inquired.TheVariants.{Silent, Told}
