@@ -6,7 +6,6 @@ use Prim.Native.Nat.{ℕ, ◌+◌}
 use native.Mathlib.Omega.{arith}
 use lib.Dec.{eqb}
 use lib.ListN.{length}
-use Rattle.byte_numbers.specs.Place.{byte_at}
 use Rattle.wire_values.specs.Displayed.{energies_of}
 use Rattle.wire_values.specs.Power.{power_of, powers_of}
 use Rattle.wire_values.specs.declared.displayed.EnergiesAnswer.{EnergiesAnswer}
@@ -32,7 +31,6 @@ use Rattle.wire_values.specs.declared.power.Power.TheVariants as power
 use Rattle.wire_values.specs.declared.power.PowersAnswer.TheVariants as powers
 use Rattle.parameters.specs.declared.code.Parameter.TheVariants as parameter
 use Rattle.request.specs.declared.subject.Subject.TheVariants as subject
-use Rattle.reader.specs.declared.reply.Decoded.TheVariants as decoded
 use Rattle.c_values.specs.Row.{figures_for, figure_row, time_row, powers_row, six_row, counts_row, energies_row}
 
 -- done, and then with the figures that are foretold

@@ -24,8 +24,9 @@ loop-i-preserved c =
     let line = c.args.line.now in
     let read = c.loop-i-test.true in
     elim c.if-line-i-eq-SPACE.branch [
-      then-line-i-eq-SPACE w ↦ (omega arith, omega arith, omega (arith, a-space line c.loop-i.i read w.if-line-i-eq-SPACE.true))
-      | else-line-i-eq-SPACE w ↦ (omega arith, omega arith, omega (arith, no-space line c.loop-i.i read w.if-line-i-eq-SPACE.false)) ]
+      | then-line-i-eq-SPACE w ↦ (omega arith, omega arith, omega (arith, a-space line c.loop-i.i read w.if-line-i-eq-SPACE.true))
+      | else-line-i-eq-SPACE w ↦ (omega arith, omega arith, omega (arith, no-space line c.loop-i.i read w.if-line-i-eq-SPACE.false))
+    ]
 
 pub returns : goal.returns
 returns c =
