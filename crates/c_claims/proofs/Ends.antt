@@ -53,7 +53,7 @@ use Rattle.energy_log.specs.Image.{applied}
 use Rattle.logger.specs.Lapse as lapse-of
 use Rattle.logger.specs.Run.{State, step}
 use Rattle.logger.specs.declared.held.OpenAsk.{OpenAsk}
-use Rattle.logger.specs.declared.held.OpenAsk.TheVariants.{Closed, Open}
+use Rattle.logger.specs.declared.held.OpenAsk.TheVariants.{Closed}
 use Rattle.c_values.specs.Ask.{ask_of, ask_bytes}
 use Rattle.c_values.specs.Row.{figures_for, figure_row}
 use Rattle.c_values.specs.declared.ask.AskRead.{AskRead}

@@ -4,7 +4,7 @@ use mathlib.Core.Path.{◌≡◌, refl, sym, ap, ap₂, subst, ◌∙◌}
 use mathlib.Core.List.{List, [], ◌∷◌}
 use Prim.Native.Nat.{ℕ, ◌<◌}
 use lib.ListN.{length}
-use Rattle.refusal.specs.Outcome.{Outcome, outcome}
+use Rattle.refusal.specs.Outcome.{Outcome}
 use Rattle.byte_numbers.specs.Place.{byte_at}
 use Rattle.energy_log.specs.Pair.{pair_of}
 use Rattle.energy_log.specs.View.{view_of}

@@ -39,7 +39,7 @@ use Rattle.meter_record.specs.declared.record.Record.{Record}
 use Rattle.meter_command.specs.Access.{password_for, level_for, unlock_verdict, lock_verdict}
 use Rattle.meter_command.specs.Judgement.{passed, checked, read_verdict, verdict_by, verdict_of}
 use Rattle.meter_command.proofs.JudgementLaws.{read-accepted}
-use Rattle.meter_command.specs.Command.{function_in, named, parameter_byte, parameter_in, reading_of, request_in, command_of}
+use Rattle.meter_command.specs.Command.{named, parameter_byte, parameter_in, reading_of, request_in, command_of}
 use Rattle.meter_command.specs.Verdict.{result_of, is_done}
 use Rattle.meter_command.specs.declared.access.Met.{Met}
 use Rattle.meter_command.specs.declared.access.Met.TheVariants.{Own, Zero, Neither}
@@ -49,7 +49,6 @@ use Rattle.meter_reply_data.specs.Reading.{figures_of, figures_as, is_read, data
 use Rattle.meter.specs.Effect.{after_by, after_of, clears_by, clears, store_after}
 use Rattle.meter.specs.Reply as reply
 use Rattle.meter.specs.Reply.{is_sound, met, is_heard, heard, function_for, head_of, replied, answer_of}
-use Rattle.meter.specs.declared.reply.Answered.{Answered}
 use Rattle.claims.specs.Demand2ByZero.{changes, frame_by, Alike}
 use Rattle.claims.proofs.Wire.{OfBytes, bytes-cons}
 

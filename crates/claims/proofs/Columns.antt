@@ -2,27 +2,27 @@
 use mathlib.Core.Path.{◌≡◌, refl, sym, ap, ap₂, subst, ◌∙◌}
 use mathlib.Core.Bool.{Bool, true, false, cond, not}
 use mathlib.Core.List.{List, [], ◌∷◌, ◌++◌, map}
-use Prim.Native.Nat.{ℕ, zero, suc, ◌+◌, ◌*◌, ◌/◌, ◌%◌, ◌^◌, ◌≤◌, ◌<◌}
+use Prim.Native.Nat.{ℕ, zero, suc, ◌+◌, ◌*◌, ◌/◌, ◌≤◌, ◌<◌}
 use native.Mathlib.Nat.{add-zero, add-suc}
 use native.Mathlib.Omega.{arith}
-use borrow.Author.Tests.{ltb-true, lt-ltb}
+use borrow.Author.Tests.{lt-ltb}
 use lib.Dec.{ltb}
 use lib.ListN.{length, take, drop, get_or}
 use lib.Seq.{ext_get_or}
-use Rattle.refusal.specs.Outcome.{Outcome, outcome}
+use Rattle.refusal.specs.Outcome.{outcome}
 use Rattle.test_laws.proofs.Test.{chosen}
 use Rattle.byte_numbers.specs.Number.{Bytes, bytes_of}
-use Rattle.byte_numbers.specs.Place.{byte_at, number_at, written}
+use Rattle.byte_numbers.specs.Place.{number_at, written}
 use Rattle.frame.specs.Sealing.{framed}
 use Rattle.calendar.specs.Date.{is_date}
 use Rattle.calendar.specs.declared.date.Date.{Date}
 use Rattle.slots.specs.Day.{slots_of}
 use Rattle.byte_numbers.proofs.ByteLaws.{two}
-use Rattle.log_cell.proofs.CellLaws.{bad≢good, Kind, kind-of}
+use Rattle.log_cell.proofs.CellLaws.{bad≢good, kind-of}
 use Rattle.log_header.proofs.HeaderLaws.{header-ranges, sound-front, sound-log}
 use Rattle.energy_log.proofs.ImageLaws.{cells_at_lem}
 use Rattle.log_header.proofs.IntervalLaws.{exists-index, twice-index}
-use Rattle.energy_log.proofs.ViewLaws.{view_by, cell_in_lem}
+use Rattle.energy_log.proofs.ViewLaws.{cell_in_lem}
 use Rattle.log_cell.specs.Cell.{kind_of, e_plus_of, e_minus_of, r_plus_of, r_minus_of, kind_bytes, counts_bytes, kind_cell}
 use Rattle.log_header.specs.Header.{cells_of, date_bytes, header_bytes_as, header_bytes, sound_of}
 use Rattle.energy_log.specs.Image as image
@@ -53,7 +53,6 @@ use Rattle.log_file.specs.Read.{read_file}
 use Rattle.log_file.specs.Row.{has_lapses, row_size_of, row_bytes, row_start, rows_bytes}
 use Rattle.log_file.specs.Write.{written_file}
 use Rattle.log_file.specs.declared.read.ReadAnswer.TheVariants as read
-use Rattle.log_file.specs.declared.write.WriteAnswer.{WriteAnswer}
 use Rattle.log_file.specs.declared.write.WriteAnswer.TheVariants as write
 use Rattle.claims.specs.Columns.{Numbers, numbers_of, two_at, head_in, InImage, row_in, rows_in, file_in, AreCells, sum_where, of_cell, gap, empty, measured, row_on}
 use Rattle.claims.specs.Demand3.{Start}

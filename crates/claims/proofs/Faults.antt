@@ -35,7 +35,7 @@ use Rattle.reader.proofs.FormLaws.{length-told, by-reply}
 use Rattle.log_header.specs.Interval.{comes_twice}
 use Rattle.energy_log.specs.View.{view_of}
 use Rattle.day_rows.specs.LogAndRows.{LogAndRows}
-use Rattle.logger.specs.Reply.{slice_form, row_of}
+use Rattle.logger.specs.Reply.{row_of}
 use Rattle.logger.specs.Take as Take
 use Rattle.logger.specs.declared.held.OpenAsk.{OpenAsk}
 use Rattle.logger.specs.declared.take.TakeAnswer.{TakeAnswer}

@@ -22,9 +22,7 @@ use Rattle.request.proofs.RequestLaws as request
 use Rattle.request.specs.Request.{request_frame}
 use Rattle.request.specs.Subject.{subject_for, subject_of, askable}
 use Rattle.request.specs.declared.request.Request.{Request}
-use Rattle.reader.specs.declared.reply.Decoded.{Decoded}
 use Rattle.reader.specs.declared.reply.Decoded.TheVariants as decoded
-use Rattle.wire_values.specs.declared.telemetry.Telemetry.{Telemetry}
 use Rattle.meter_store.specs.Store.{store_bytes, slice_of}
 use Rattle.meter_record.specs.Ranges.{is_within}
 use Rattle.meter_record.specs.Ratios.{are_ratios}
@@ -33,10 +31,10 @@ use Rattle.meter_record.specs.Widths.{FitsRecord}
 use Rattle.meter_record.specs.declared.record.Ratios.{Ratios}
 use Rattle.meter_record.specs.declared.record.Record.{Record}
 use Rattle.meter_record.specs.declared.record.RecordAnswer.{RecordAnswer}
-use Rattle.meter_record.specs.declared.record.RecordAnswer.TheVariants.{Done, OutOfRange, Unsound}
+use Rattle.meter_record.specs.declared.record.RecordAnswer.TheVariants.{Done}
 use Rattle.meter_record.proofs.RangeLaws as ranges
 use Rattle.meter_command.specs.Judgement.{checked, read_verdict, verdict_by, verdict_of}
-use Rattle.meter_command.specs.Command.{function_in, parameter_byte, parameter_in, request_in, command_of}
+use Rattle.meter_command.specs.Command.{function_in, parameter_byte, parameter_in, command_of}
 use Rattle.meter_command.specs.declared.access.Met.{Met}
 use Rattle.meter_command.specs.declared.verdict.Verdict.TheVariants.{UnknownParameter, NotOpen}
 use Rattle.meter.specs.Reply.{is_sound}

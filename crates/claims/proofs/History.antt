@@ -2,7 +2,7 @@
 use mathlib.Core.Path.{◌≡◌, refl, sym, ap, ap₂, subst, ◌∙◌}
 use mathlib.Core.Bool.{Bool, true, false, cond, not, ◌||◌, false≢true}
 use mathlib.Core.List.{List, [], ◌∷◌, ◌++◌}
-use Prim.Native.Nat.{ℕ, ◌+◌, ◌<◌, ◌≤◌}
+use Prim.Native.Nat.{ℕ, ◌<◌, ◌≤◌}
 use native.Mathlib.Nat.{zero-add}
 use native.Mathlib.Omega.{arith}
 use borrow.Author.Tests.{ltb-true, ltb-false, le-leb, leb-false, eq-eqb}
@@ -18,7 +18,7 @@ use Rattle.energy_log.specs.Fresh.{fresh_image, gaps, no_lapses}
 use Rattle.energy_log.specs.declared.fresh.FreshAnswer.{FreshAnswer}
 use Rattle.energy_log.specs.declared.fresh.FreshAnswer.TheVariants as made
 use Rattle.energy_log.proofs.FreshLaws.{length-gaps, gap_at}
-use Rattle.log_header.specs.Header.{version, is_header, cells_of, length_of, sound_of}
+use Rattle.log_header.specs.Header.{version, is_header, cells_of, length_of}
 use Rattle.energy_log.specs.Image.{applied, image_of, cell_at, AllCells, LapsesFit}
 use Rattle.energy_log.proofs.ImageLaws.{image-alike, sound-image, bytes-image}
 use Rattle.energy_log.specs.declared.image.Change.{Change}
@@ -31,7 +31,6 @@ use Rattle.log_cell.specs.declared.cell.Cell.{Cell}
 use Rattle.log_cell.specs.declared.cell.Cell.TheVariants.{Gap, Empty, Measured}
 use Rattle.log_cell.specs.declared.cell.CellAnswer.{CellAnswer}
 use Rattle.log_header.specs.declared.header.Header.{Header}
-use Rattle.log_header.specs.declared.header.LogHeader.TheVariants.{Sound}
 use Rattle.day_rows.specs.LogAndRows.{LogAndRows, log_and_rows}
 use Rattle.wire_values.specs.Row.{row}
 use Rattle.day_rows.specs.Fresh.{fresh_with}
@@ -48,7 +47,6 @@ use Rattle.logger.proofs.BookLaws.{Fitting, length-worked_out, worked_out-at}
 use Rattle.logger.specs.Run.{State, step, run}
 use Rattle.logger.proofs.StepLaws.{state_of, Sane, step-agrees, step-sane}
 use Rattle.logger.proofs.FigureLaws.{Faithful, step-faithful}
-use Rattle.logger.specs.declared.held.OpenAsk.{OpenAsk}
 use Rattle.log_file.specs.File.{is_version, seasons_fit, file_bytes, file_bytes_as}
 use Rattle.log_file.specs.Row.{has_lapses}
 use Rattle.log_file.specs.Read.{read_file}

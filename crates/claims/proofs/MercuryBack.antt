@@ -2,14 +2,14 @@
 use mathlib.Core.Path.{◌≡◌, refl, sym, ap, ap₂, ◌∙◌}
 use mathlib.Core.Bool.{true, ◌&&◌}
 use mathlib.Core.List.{List}
-use Prim.Native.Nat.{ℕ, ◌+◌, ◌^◌, ◌≤◌, ◌<◌}
+use Prim.Native.Nat.{ℕ, ◌^◌, ◌≤◌, ◌<◌}
 use native.Mathlib.Omega.{arith}
 use lib.ListN.{length, take, drop, length-drop}
 use borrow.Author.Tests.{le-leb}
 use Rattle.test_laws.proofs.Test.{both}
 use Rattle.byte_numbers.specs.Number.{Bytes}
 use Rattle.mercury.specs.Command.{command_of, code_of, data_size}
-use Rattle.mercury.specs.Data.{tariffs_bytes, load_bytes, frequency_bytes, tariffs_of, load_of, frequency_of}
+use Rattle.mercury.specs.Data.{tariffs_bytes, load_bytes, frequency_bytes}
 use Rattle.mercury.specs.Form.{reply_form}
 use Rattle.mercury.specs.Reply.{reply_frame, figures_of, formed, decoded_of, number_of}
 use Rattle.mercury.specs.declared.command.Command.{Command}
@@ -17,12 +17,11 @@ use Rattle.mercury.specs.declared.command.Command.TheVariants as command
 use Rattle.mercury.specs.declared.form.Form.{Form}
 use Rattle.mercury.specs.declared.form.Form.TheVariants.{WellFormed, Faulty}
 use Rattle.mercury.specs.declared.reply.Decoded.{Decoded}
-use Rattle.mercury.specs.declared.reply.Decoded.TheVariants.{Tariffs, Load, Frequency}
 use Rattle.mercury.specs.declared.units.Tariffs.{Tariffs as FourTariffs}
 use Rattle.mercury.specs.declared.units.Load.{Load as LoadFigures}
 use Rattle.mercury.specs.declared.units.Frequency.{Frequency as FrequencyFigures}
 use Rattle.mercury.proofs.CommandLaws.{code-command}
-use Rattle.mercury.proofs.DataLaws.{FitsTariffs, FitsLoad, ReadTariffs, ReadLoad, ReadFrequency, tariffs-back, load-back, frequency-back, tariffs-cases, load-cases, frequency-cases}
+use Rattle.mercury.proofs.DataLaws.{FitsTariffs, FitsLoad, tariffs-back, load-back, frequency-back, tariffs-cases, load-cases, frequency-cases}
 use Rattle.mercury.proofs.ReplyLaws.{Accepted, accepted, reply-back}
 use Rattle.mercury_bench.specs.Meter.{tariffs_fit, load_fits, frequency_fits, is_within}
 use Rattle.mercury_bench.specs.Reply.{data_of, reply_of}

@@ -1,6 +1,6 @@
 -- Demand 1 for the Mercury 206: each check that fails leaves the output as it stood, and each number is the table's.
 use mathlib.Core.Path.{◌≡◌, refl}
-use mathlib.Core.Bool.{Bool, true}
+use mathlib.Core.Bool.{true}
 use mathlib.Core.List.{List}
 use Prim.Native.Nat.{ℕ}
 use lib.Dec.{leb}

@@ -1,12 +1,11 @@
 -- A well-formed reply is taken exactly where every half-byte of its figures is a digit.
-use mathlib.Core.Path.{◌≡◌, refl, sym, ap, ap₂, ◌∙◌}
+use mathlib.Core.Path.{◌≡◌, refl, ap, ◌∙◌}
 use mathlib.Core.Bool.{Bool, true, false, cond, ◌&&◌, false≢true}
 use mathlib.Core.List.{List, ◌++◌}
 use Prim.Native.Nat.{ℕ}
-use native.Mathlib.Omega.{arith}
 use lib.Dec.{lit≤}
 use lib.ListN.{take, drop}
-use Rattle.packed_decimal.specs.Packed.{is_packed, value_of, decimal_at}
+use Rattle.packed_decimal.specs.Packed.{is_packed, value_of}
 use Rattle.packed_decimal.specs.declared.Decimal.{Decimal}
 use Rattle.packed_decimal.specs.declared.Decimal.TheVariants as decimal
 use Rattle.packed_decimal.proofs.PackedLaws.{packed-append, decimal-kind}

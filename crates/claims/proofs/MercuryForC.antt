@@ -1,13 +1,11 @@
 -- Demand 1 of the Mercury 206's functions for C: each hands over its call's number, and a refusal leaves count and length with the memory.
-use mathlib.Core.Path.{◌≡◌, refl, ap₂, ◌∙◌}
-use mathlib.Core.Bool.{Bool, true}
-use mathlib.Core.List.{List, []}
+use mathlib.Core.Path.{refl, ap₂}
+use mathlib.Core.List.{List}
 use Prim.Native.Nat.{ℕ}
-use native.Mathlib.Omega.{arith}
 use lib.Dec.{ltb}
 use lib.ListN.{length}
 use Rattle.test_laws.proofs.Test.{either}
-use Rattle.refusal.specs.Outcome.{Outcome, outcome}
+use Rattle.refusal.specs.Outcome.{Outcome}
 use Rattle.byte_numbers.specs.Place.{written}
 use Rattle.mercury.specs.Command.{command_of}
 use Rattle.mercury.specs.Reply as reply
@@ -18,7 +16,7 @@ use Rattle.mercury_bench.specs.declared.meter.Meter.{Meter}
 use Rattle.mercury_bench.specs.declared.reply.Answered.{Answered}
 use Rattle.mercury_bench.specs.declared.reply.Answered.TheVariants.{Done, TooShort, OutOfRange, Silent}
 use Rattle.c_mercury.specs.Calls as c
-use Rattle.claims.specs.Demand1.{in_table, Ends, EndsBy}
+use Rattle.claims.specs.Demand1.{in_table, Ends}
 use Rattle.claims.proofs.MercuryCalls as calls
 
 -- demand 1 of the request for C: a refused one leaves the output

@@ -1,32 +1,29 @@
 -- The bench's reply to a request is well formed, and its data are those of the figures, which read back.
 use mathlib.Core.Path.{◌≡◌, refl, sym, ap, ap₂, ◌∙◌}
-use mathlib.Core.Bool.{Bool, true, false, cond, ◌&&◌, false≢true}
+use mathlib.Core.Bool.{Bool, true, false, cond, false≢true}
 use mathlib.Core.List.{List, ◌++◌}
-use Prim.Native.Nat.{ℕ, ◌+◌, ◌^◌, ◌≤◌, ◌<◌}
-use native.Mathlib.Nat.{zero-add}
+use Prim.Native.Nat.{ℕ, ◌^◌, ◌≤◌, ◌<◌}
 use native.Mathlib.Omega.{arith}
-use lib.Dec.{leb, ltb, lit≤}
-use lib.ListN.{length, take, drop}
+use lib.Dec.{leb}
+use lib.ListN.{length, take}
 use borrow.Author.Tests.{le-leb, leb-true}
 use Rattle.test_laws.proofs.Test.{both}
 use Rattle.byte_numbers.specs.Number.{Bytes}
 use Rattle.byte_numbers.specs.Place.{byte_at, written}
 use Rattle.byte_numbers.proofs.PlaceLaws.{part-written}
-use Rattle.refusal.specs.Outcome.{Outcome, outcome}
+use Rattle.refusal.specs.Outcome.{outcome}
 use Rattle.packed_decimal.specs.Packed.{packed_of}
 use Rattle.packed_decimal.proofs.PackedLaws.{bytes-append, bytes-packed_of}
-use Rattle.frame.specs.Layout.{longest}
 use Rattle.mercury.specs.Command.{command_of, code_of, is_known, data_size}
 use Rattle.mercury.specs.Data.{tariffs_bytes, load_bytes, frequency_bytes, rest_bytes}
 use Rattle.mercury.specs.Form.{request_form, reply_form}
 use Rattle.mercury.specs.Layout.{command_place}
-use Rattle.mercury.specs.Reply.{reply_frame, figures_of, formed, decoded_of}
+use Rattle.mercury.specs.Reply.{reply_frame, figures_of, decoded_of}
 use Rattle.mercury.specs.Request.{request_frame}
 use Rattle.mercury.specs.declared.command.Command.{Command}
 use Rattle.mercury.specs.declared.command.Command.TheVariants.{Tariffs, Load, Frequency, Unknown}
 use Rattle.mercury.specs.declared.form.Form.{Form}
 use Rattle.mercury.specs.declared.form.Form.TheVariants.{WellFormed, Faulty}
-use Rattle.mercury.specs.declared.reply.Decoded.{Decoded}
 use Rattle.mercury.proofs.CommandLaws.{command-code, code-command, code-byte, data-small}
 use Rattle.mercury.proofs.DataLaws.{FitsTariffs, FitsLoad, tariffs-read, load_read, frequency-read}
 use Rattle.mercury.proofs.ReplyLaws.{request-formed, request-command, reply-formed, data-behind, requested}
@@ -34,8 +31,7 @@ use Rattle.mercury_bench.specs.Meter.{tariffs_fit, load_fits, is_within}
 use Rattle.mercury_bench.specs.Reply as bench
 use Rattle.mercury_bench.specs.Reply.{data_of, reply_of, command_in}
 use Rattle.mercury_bench.specs.declared.meter.Meter.{Meter}
-use Rattle.mercury_bench.specs.declared.reply.Answered.{Answered}
-use Rattle.mercury_bench.specs.declared.reply.Answered.TheVariants.{Done, TooShort, OutOfRange, Silent}
+use Rattle.mercury_bench.specs.declared.reply.Answered.TheVariants.{Done, TooShort, OutOfRange}
 use Rattle.mercury_bench.proofs.ReplyLaws.{length-data, length-reply}
 use Rattle.claims.specs.MercuryInverse.{own_figures, FitsMeter}
 

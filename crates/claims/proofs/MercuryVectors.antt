@@ -1,6 +1,5 @@
 -- The vectors, computed.
-use mathlib.Core.Path.{◌≡◌, refl}
-use mathlib.Core.List.{[], ◌∷◌}
+use mathlib.Core.Path.{refl}
 use Rattle.crc16.specs.Crc.{crc_of, crc_from, byte_step, eight_bits, times, bit_step}
 use Rattle.byte_numbers.specs.Number.{bytes_of, number}
 use Rattle.byte_numbers.specs.Place.{number_at}

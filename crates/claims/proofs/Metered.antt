@@ -3,11 +3,11 @@ use mathlib.Core.Path.{◌≡◌, refl, sym, ap, ap₂, subst, ◌∙◌}
 use mathlib.Core.Bool.{Bool, true, false, cond, not, false≢true}
 use mathlib.Core.List.{List, [], ◌∷◌, ◌++◌, append_assoc, append-nil}
 use mathlib.Core.Logic.{◌⊎◌, inl, inr}
-use Prim.Native.Nat.{ℕ, zero, suc, ◌+◌, ◌*◌, ◌-◌, ◌/◌, ◌%◌, ◌≤◌, ◌<◌}
+use Prim.Native.Nat.{ℕ, zero, suc, ◌+◌, ◌*◌, ◌-◌, ◌/◌, ◌%◌, ◌<◌}
 use native.Mathlib.Nat.{zero-lt-suc}
 use native.Mathlib.Omega.{arith}
 use lib.Dec.{eqb, ltb}
-use lib.ListN.{length, take, drop, get_or}
+use lib.ListN.{length, take, get_or}
 use borrow.Author.Tests.{eqb-true, ltb-false, lt-ltb}
 use Rattle.refusal.specs.Outcome as call
 use Rattle.byte_numbers.specs.Number.{Bytes, bytes_of}
@@ -18,16 +18,14 @@ use Rattle.calendar.specs.declared.date.Date.{Date}
 use Rattle.slots.specs.Day.{slots_of}
 use Rattle.meter_store.specs.Store.{key_of, count_at}
 use Rattle.meter_store.proofs.StoreLaws.{RowFits}
-use Rattle.meter.specs.Reply.{answer_of}
 use Rattle.reader.specs.Form.{length_for, function_for, head_of, form_of}
 use Rattle.reader.specs.declared.form.Fault.{Fault}
 use Rattle.reader.specs.declared.form.Fault.TheVariants as fault
-use Rattle.reader.specs.declared.form.Form.{Form}
 use Rattle.reader.specs.declared.form.Form.TheVariants.{WellFormed, Faulty}
 use Rattle.byte_numbers.proofs.ByteLaws.{run as bytes_from, take-run, low_of, high-of}
-use Rattle.log_cell.specs.Cell.{CountsFit, IsCell}
+use Rattle.log_cell.specs.Cell.{CountsFit}
 use Rattle.log_header.proofs.HeaderLaws.{by-sound, sound-log, header-ranges}
-use Rattle.log_header.specs.Header.{is_header, cells_of, sound_of}
+use Rattle.log_header.specs.Header.{cells_of, sound_of}
 use Rattle.log_header.specs.Interval.{interval_of}
 use Rattle.log_header.proofs.IntervalLaws.{in-log, interval-below, by-at}
 use Rattle.energy_log.specs.View.{View, view_of}
@@ -48,22 +46,19 @@ use Rattle.wire_values.specs.declared.row.Row.{Row}
 use Rattle.logger.specs.Take as Take
 use Rattle.logger.specs.Lapse as Lapse
 use Rattle.logger.specs.Book.{Call, ask, lapse, reply, Book, start_book, book_step, book_run, run_of, worked_out, lapses_out, CallBytes, AllBytes}
-use Rattle.logger.specs.Held.{OpenFor}
 use Rattle.logger.specs.Run.{State, step, run}
 use Rattle.logger.specs.declared.ask.Asked.{Asked}
-use Rattle.logger.specs.declared.ask.AskAnswer.TheVariants as asks
 use Rattle.logger.specs.declared.held.OpenAsk.{OpenAsk}
 use Rattle.logger.specs.declared.held.OpenAsk.TheVariants.{Closed, Open}
 use Rattle.logger.specs.declared.no_reply.LapseDecision.{LapseDecision}
-use Rattle.logger.specs.declared.take.Update.{Update}
 use Rattle.logger.specs.declared.take.Update.TheVariants.{Put, Keep, Conflict}
 use Rattle.logger.proofs.FigureLaws.{Faithful, step-faithful, run-faithful}
 use Rattle.logger.proofs.LapseLaws.{lapsing-ways, lapsed-seen}
 use Rattle.logger.proofs.StepLaws.{Sane, step-sane, whole, seen_here}
-use Rattle.logger.proofs.TakeLaws.{Step, Heard, by-none, by-test, decided-cases, update-cases, decided-ways, taken-seen}
+use Rattle.logger.proofs.TakeLaws.{Step, Heard, by-none, decided-cases, update-cases, decided-ways, taken-seen}
 use Rattle.claims.specs.Demand3.{Start, begin, ran, booked}
-use Rattle.claims.specs.Metered.{Came, Meter, FromMeters}
-use Rattle.claims.specs.RegisterToCell.{all_zero, measured_by, cell_after, slice_frame, slice_answer, slice_on, is_skipped, SlotOn, LogWith, AskedFor}
+use Rattle.claims.specs.Metered.{Came, FromMeters}
+use Rattle.claims.specs.RegisterToCell.{all_zero, measured_by, cell_after, slice_answer, slice_on, is_skipped, SlotOn, LogWith, AskedFor}
 use Rattle.claims.proofs.History.{start-sane, start-faithful, start_seen, log}
 use Rattle.claims.proofs.RegisterToCell.{dated, exists-on, interval-on, asked, counts, answer-row, frame-answered, taken-into}
 use Rattle.claims.proofs.Seasons.{stay_gaps}

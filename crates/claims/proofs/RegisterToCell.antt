@@ -1,7 +1,7 @@
 -- From the register to the cell: an ask's frame, the meter's answer to it, and that reply taken.
 use mathlib.Core.Path.{◌≡◌, refl, sym, ap, ap₂, subst, ◌∙◌}
 use mathlib.Core.Bool.{Bool, true, false, cond, not, ◌&&◌, ◌||◌, false≢true}
-use mathlib.Core.List.{List, [], ◌∷◌, ◌++◌}
+use mathlib.Core.List.{List, ◌∷◌}
 use mathlib.Core.Logic.{◌⊎◌, inl, inr}
 use Prim.Native.Nat.{ℕ, ◌+◌, ◌*◌, ◌≤◌, ◌<◌}
 use native.Mathlib.Omega.{arith}
@@ -32,10 +32,10 @@ use Rattle.season_nights.specs.declared.night.Night.TheVariants.{Plain, Spring, 
 use Rattle.request.specs.Request.{request_frame}
 use Rattle.request.specs.Subject.{subject_of, subject_for, askable}
 use Rattle.request.specs.declared.request.Request.{Request}
-use Rattle.meter_store.specs.Store.{key_of, slice_of, count_at, row_bytes}
+use Rattle.meter_store.specs.Store.{key_of, count_at, row_bytes}
 use Rattle.meter_store.proofs.StoreLaws.{RowFits}
 use Rattle.meter_record.specs.declared.record.Record.{Record}
-use Rattle.meter_command.specs.Command.{parameter_byte, request_in, command_of}
+use Rattle.meter_command.specs.Command.{parameter_byte, command_of}
 use Rattle.meter_reply_data.specs.Reading.{data_of}
 use Rattle.meter.specs.Reply.{Outcome, answer_of}
 use Rattle.reader.specs.declared.form.Form.TheVariants.{WellFormed}
@@ -63,11 +63,10 @@ use Rattle.logger.specs.declared.ask.Asked.{Asked}
 use Rattle.logger.specs.declared.ask.AskAnswer.TheVariants as ask
 use Rattle.logger.specs.declared.take.Taken.{Taken}
 use Rattle.logger.specs.declared.take.Update.TheVariants.{Put, Keep, Conflict}
-use Rattle.logger.specs.declared.held.OpenAsk.TheVariants.{Closed, Open}
+use Rattle.logger.specs.declared.held.OpenAsk.TheVariants.{Open}
 use Rattle.logger.proofs.BookLaws.{effect, update_number}
 use Rattle.logger.proofs.SeasonLaws.{ask_refused}
 use Rattle.logger.proofs.HeardLaws.{Hears, heard-number, heard-held, heard-cell, heard-lent}
-use Rattle.claims.specs.Changes.{Leaves}
 use Rattle.claims.specs.Demand1.{answer_number}
 use Rattle.claims.specs.Demand2.{answered, reply_in}
 use Rattle.claims.specs.Demand2Done.{BytesRequest}

@@ -3,7 +3,7 @@
 use Rattle.std.specs.Prelude.{◌≡◌, true, List, [], ◌∷◌, ℕ, ◌-◌, ◌≤◌, ◌<◌, length}
 use Rattle.byte_numbers.specs.Number.{Bytes}
 use Rattle.wire_values.specs.declared.power.Phases.{Phases}
-use Rattle.parameters.specs.Table.{parameter_row, parameter_of}
+use Rattle.parameters.specs.Table.{parameter_of}
 use Rattle.parameters.specs.declared.code.Function.TheVariants as function
 use Rattle.parameters.specs.declared.code.Parameter.TheVariants as parameter
 use Rattle.parameters.specs.declared.code.Reading.TheVariants.{Stored}

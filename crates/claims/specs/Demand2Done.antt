@@ -4,7 +4,7 @@ use Rattle.std.specs.Prelude.{◌≡◌, true, List, ℕ, ◌+◌, ◌≤◌, �
 use Rattle.byte_numbers.specs.Number.{Bytes}
 use Rattle.byte_numbers.specs.Place.{byte_at, number_at}
 use Rattle.frame.specs.Layout.{parameter_place, bare_size, unlock_size}
-use Rattle.parameters.specs.Table.{parameter_row, parameter_of}
+use Rattle.parameters.specs.Table.{parameter_of}
 use Rattle.parameters.specs.declared.code.Function.TheVariants as function
 use Rattle.slots.specs.Day.{slots_of}
 use Rattle.request.specs.Request as making

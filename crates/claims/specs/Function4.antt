@@ -4,7 +4,7 @@
 use Rattle.std.specs.Prelude.{◌≡◌, true, false, List, ℕ, ◌*◌, ◌≤◌, ◌<◌, length}
 use Rattle.byte_numbers.specs.Number.{Bytes}
 use Rattle.frame.specs.Layout.{shortest}
-use Rattle.parameters.specs.Table.{parameter_row, known, parameter_of}
+use Rattle.parameters.specs.Table.{known, parameter_of}
 use Rattle.parameters.specs.declared.code.Function.TheVariants as function
 use Rattle.parameters.specs.declared.code.Parameter.TheVariants as parameter
 use Rattle.parameters.specs.declared.code.Reading.TheVariants.{Displayed}

@@ -2,7 +2,7 @@
 --
 -- The bench answers by `answered` and `reply_of` (mercury_bench/specs/Reply.antt), the reader decodes by `decoded_of` (mercury/specs/Reply.antt):
 -- the definitions that the contracts of `answer` and `decode` cite. Proofs: `inverse`, proofs/Claims.antt.
-use Rattle.std.specs.Prelude.{◌≡◌, Bool, true, cond, List, ℕ, ◌^◌, ◌≤◌, ◌<◌, length, take, drop}
+use Rattle.std.specs.Prelude.{◌≡◌, true, cond, List, ℕ, ◌^◌, ◌≤◌, ◌<◌, length, take, drop}
 use Rattle.byte_numbers.specs.Number.{Bytes}
 use Rattle.byte_numbers.specs.Place.{byte_at, written}
 use Rattle.refusal.specs.Outcome.{outcome}

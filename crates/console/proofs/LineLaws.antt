@@ -41,7 +41,7 @@ pub at_end : (s : List ℕ) (i : ℕ) → length s ≤ i → index_of 32 (drop i
 unfolding index_of
 at_end s i h = rw (drop_of_length-le s h)
 
--- `first_word` cuts at the place that the kit's search finds
+-- `first_word` cuts at the place that `first_space` finds
 pub first_found : (s : List ℕ) (r : ℕ) → r ≡ index_of 32 s → take r s ≡ first_word s
 unfolding first_word
 first_found s r h = ap (λ (k : ℕ). take k s) h

@@ -78,8 +78,7 @@ pub fn tick(p: &mut Protection)
     *p = quiet_second(*p);
 }
 
-// The step in place for whoever holds the record as a value: a copy is lent to `tick`. Proved by hand, as no function that lends a struct is
-// covered; those that call this one are.
+// The step in place for whoever holds the record as a value: a copy is lent to `tick`.
 pub fn ticked(p: Protection) -> Protection
     ensures { result ≡ quiet_second p }
 {
