@@ -308,7 +308,11 @@ pub fn cell(rt: HostRuntime, line: &[u8], image: &[u8]) {
 fn cell_of(rt: HostRuntime, image: &[u8], day: u8, slot: u8) {
     match log_header::sound(image) {
         LogHeader::Sound(h) => match log_header::interval_of(h, day, slot) {
-            Interval::At(i) => say_cell(rt, energy_log::cell_at(image, i), energy_log::lapses_at(image, i)),
+            Interval::At(i) => say_cell(
+                rt,
+                energy_log::cell_at(image, i),
+                energy_log::lapses_at(image, i),
+            ),
             Interval::Outside => say::number_line(rt, refusal::NOT_IN_LOG),
         },
         LogHeader::Unsound => say::number_line(rt, refusal::UNSOUND),

@@ -1,8 +1,8 @@
 -- The laws of the old layout: what is seen after a change is what was seen, so changed, and what is seen of an image is its header, cells and lapses.
-use Prim.Native.Nat.{ℕ, zero, suc, ◌+◌, ◌*◌, ◌-◌, ◌≤◌, ◌<◌}
+use Prim.Native.Nat.{ℕ, zero, suc, ◌+◌, ◌*◌, ◌≤◌, ◌<◌}
 use native.Mathlib.Nat.{add-zero, zero-add}
 use native.Mathlib.Omega.{arith}
-use mathlib.Core.Path.{◌≡◌, refl, sym, ap, ap₂, fun_ext, ◌∙◌}
+use mathlib.Core.Path.{◌≡◌, refl, sym, ap, ap₂, ◌∙◌}
 use mathlib.Core.Bool.{Bool, true, false, cond, ◌&&◌}
 use mathlib.Core.List.{List, [], ◌∷◌, ◌++◌, append_assoc}
 use mathlib.Core.Logic.{inl, inr}
@@ -10,7 +10,7 @@ use lib.Dec.{ltb, eqb}
 use lib.ListN.{length, get_or, take, drop, length-append, length-take, length-drop, get_or-eq_default}
 use lib.Seq.{take_at, drop-nil, drop-cons, drop-append-add, get_or-drop, get_or-append_seam}
 use borrow.Author.Tests.{ltb-true, ltb-false, eqb-true, eqb-false, eq-eqb, ne_eqb}
-use Rattle.test_laws.proofs.Test.{both, chosen}
+use Rattle.test_laws.proofs.Test.{chosen}
 use Rattle.byte_numbers.specs.Place.{byte_at, number_at, written}
 use Rattle.byte_numbers.proofs.PlaceLaws.{length-written, part-kept, part-written, byte_at-kept, byte_at-written, number_at-kept}
 use Rattle.log_header.specs.Header.{header_size, version, cells_of, is_header, header_bytes, header_at, mark_right, version_right, fields_right, header_of}
@@ -19,15 +19,13 @@ use Rattle.log_cell.specs.Cell.{counts_size, cell_size, cell_of, counts_bytes, c
 use Rattle.log_cell.proofs.CellLaws.{length-counts_bytes, length-cell_bytes, cell_of-bytes}
 use Rattle.energy_log.specs.Image.{AllCells}
 use Rattle.energy_log.specs.View.{View}
-use Rattle.energy_log.proofs.ViewLaws.{changed, Within, Holds, cell_in, cell_in_lem, cell_in_lem, none_in, view_by, same_view, within}
+use Rattle.energy_log.proofs.ViewLaws.{changed, Holds, cell_in, cell_in_lem, none_in, view_by, same_view, within}
 use Rattle.old_log.specs.OldRows.{length_of, fitted_to, sound_of, cell_start, lapses_place, cell_at, lapses_at, view_of, put_cell, put_lapses, applied, cells_bytes, image_of}
 use Rattle.log_header.specs.declared.header.Header.{Header}
 use Rattle.log_header.specs.declared.header.HeaderAnswer.TheVariants.{Right, Wrong}
-use Rattle.log_header.specs.declared.header.LogHeader.{LogHeader}
 use Rattle.log_header.specs.declared.header.LogHeader.TheVariants.{Sound, Unsound}
 use Rattle.log_cell.specs.declared.cell.Cell.{Cell}
 use Rattle.log_cell.specs.declared.cell.Cell.TheVariants.{Gap}
-use Rattle.log_cell.specs.declared.cell.CellAnswer.{CellAnswer}
 use Rattle.log_cell.specs.declared.cell.CellAnswer.TheVariants.{Good, Bad}
 use Rattle.energy_log.specs.declared.image.Change.{Change}
 use Rattle.energy_log.specs.declared.image.Change.TheVariants.{None, Put, Lapses}

@@ -1,7 +1,7 @@
 -- An old and a new log in which the same is seen get the same answer from every call that goes by what is seen, and the same is seen of them after it.
 use mathlib.Core.Path.{◌≡◌, refl, sym, ap, ap₂, subst, ◌∙◌}
-use mathlib.Core.Bool.{Bool, true, false, cond, ◌&&◌}
-use mathlib.Core.List.{List, [], ◌∷◌, ◌++◌}
+use mathlib.Core.Bool.{Bool, true, false, ◌&&◌}
+use mathlib.Core.List.{List, [], ◌∷◌}
 use Prim.Native.Nat.{ℕ, ◌+◌, ◌≤◌, ◌<◌}
 use native.Mathlib.Omega.{arith}
 use lib.Dec.{leb, eqb}
@@ -18,7 +18,7 @@ use Rattle.energy_log.specs.View.{View, view_of}
 use Rattle.energy_log.specs.Fresh.{gaps, no_lapses, fresh_number}
 use Rattle.log_cell.proofs.CellLaws.{gap-is-cell}
 use Rattle.energy_log.proofs.FreshLaws.{length-gaps, gap_at}
-use Rattle.energy_log.proofs.ImageLaws.{length-image_of, sound-image}
+use Rattle.energy_log.proofs.ImageLaws.{sound-image}
 use Rattle.energy_log.proofs.ViewLaws as new
 use Rattle.energy_log.proofs.ViewLaws.{changed, Holds}
 use Rattle.log_header.specs.declared.header.Header.{Header}
@@ -46,7 +46,7 @@ use Rattle.logger.specs.Run.{State, take_answer}
 use Rattle.logger.specs.declared.held.OpenAsk.{OpenAsk}
 use Rattle.polling.specs.Fate.{fate_of, fate_lapsed}
 use Rattle.old_log.specs.OldRows as old
-use Rattle.old_log.specs.Layout.{Layout, rows, columns, lapsed_in, taken_in, heard_in, settled_in, fresh_in, read_cells_in, read_fields_in, read_in, step_in, run_in}
+use Rattle.old_log.specs.Layout.{rows, columns, lapsed_in, taken_in, heard_in, settled_in, fresh_in, read_cells_in, read_fields_in, read_in, step_in, run_in}
 use Rattle.old_log.specs.Same.{Alike, SameLog, SameBoth, Made, SameMade, SameState, SameRun, Rooms, FileRooms}
 use Rattle.old_log.proofs.OldRowLaws as laws
 

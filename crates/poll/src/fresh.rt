@@ -2,8 +2,8 @@
 use crate::arguments;
 use crate::arguments::Start;
 use day_rows::FIGURES_MOST;
-use file_io::PATH_ROOM;
 use energy_log::FreshAnswer;
+use file_io::PATH_ROOM;
 use log_header::{Header, IMAGE_MOST};
 use paths_and_locks::front;
 use poll_days::{SaveAnswer, Way};

@@ -1,5 +1,5 @@
 -- How the meter on a line goes on, turn by turn, whichever it is. Assumes nothing.
-use mathlib.Core.Path.{◌≡◌, refl, ◌∙◌}
+use mathlib.Core.Path.{refl, ◌∙◌}
 use mathlib.Core.List.{List}
 use Prim.Native.Nat.{ℕ}
 use Rattle.console_meter.specs.Served.{standing, Reached}

@@ -18,6 +18,6 @@ loop-preserved c =
 pub returns : goal.returns
 returns c =
     elim c.loop-test.branch [
-      else-loop-test w ↦ rw (w.served-is, w.store-is) c.loop.invariant.1
+      | else-loop-test w ↦ rw (w.served-is, w.store-is) c.loop.invariant.1
       | then-loop-test+then-not-served w ↦ rw (w.served-is, w.store-is) (then _ _ _ _ _ _ c.loop.invariant.1 w.turn-served.ensures)
     ]
