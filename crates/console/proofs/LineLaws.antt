@@ -7,7 +7,8 @@ use mathlib.Core.List.{List, []}
 use lib.ListN.{take, drop, length, get_or, length-drop, drop_of_length-le}
 use lib.Seq.{drop-cons, take_all}
 use borrow.Author.Tests.{eq-eqb, ne_eqb}
-use Rattle.console.specs.Line.{spaces_in, index_of, first_word, after_first, word_at}
+use Rattle.text.specs.Search.{index_of}
+use Rattle.console.specs.Line.{spaces_in, first_word, after_first, word_at}
 
 -- ---- laws for the walks
 
@@ -26,22 +27,7 @@ pub none_left : (s : List ℕ) (i : ℕ) → length s ≤ i → spaces_in (drop 
 unfolding spaces_in
 none_left s i h = rw (drop_of_length-le s h)
 
--- a search for the first space: another byte is passed
-pub other_byte : (s : List ℕ) (i : ℕ) → i < length s → (get_or s i 0 ≡ 32 → ⊥) → index_of 32 (drop i s) ≡ suc (index_of 32 (drop (i + 1) s))
-unfolding index_of
-other_byte s i h e = rw (add-one, drop-cons s i 0 h, ne_eqb (get_or s i 0) 32 e)
-
--- a space is where it ends
-pub space_here : (s : List ℕ) (i : ℕ) → i < length s → get_or s i 0 ≡ 32 → index_of 32 (drop i s) ≡ 0
-unfolding index_of
-space_here s i h e = rw (drop-cons s i 0 h, eq-eqb (get_or s i 0) 32 e)
-
--- or the line's end
-pub at_end : (s : List ℕ) (i : ℕ) → length s ≤ i → index_of 32 (drop i s) ≡ 0
-unfolding index_of
-at_end s i h = rw (drop_of_length-le s h)
-
--- `first_word` cuts at the place that `first_space` finds
+-- `first_word` cuts at the place that the search finds
 pub first_found : (s : List ℕ) (r : ℕ) → r ≡ index_of 32 s → take r s ≡ first_word s
 unfolding first_word
 first_found s r h = ap (λ (k : ℕ). take k s) h

@@ -1,5 +1,6 @@
 -- A line's words: what stands between single spaces.
 use Rattle.std.specs.Prelude.{ℕ, zero, suc, ◌+◌, ◌-◌, Bool, true, cond, List, [], ◌∷◌, take, drop, length, get_or, eqb, leb}
+use Rattle.text.specs.Search.{index_of}
 
 -- the first n bytes, nothing where there are fewer
 unfoldable pub part_of : ℕ → List ℕ → List ℕ
@@ -13,11 +14,6 @@ without_return s = cond (eqb (length s) 0) s (cond (eqb (get_or s (length s - 1)
 unfoldable pub spaces_in : List ℕ → ℕ
 spaces_in [] = zero
 spaces_in (b ∷ s) = cond (eqb b 32) (suc (spaces_in s)) (spaces_in s)
-
--- the place of the first byte b: the length where there is none
-unfoldable pub index_of : ℕ → List ℕ → ℕ
-index_of b [] = zero
-index_of b (x ∷ s) = cond (eqb x b) zero (suc (index_of b s))
 
 -- what stands before the first space
 unfoldable pub first_word : List ℕ → List ℕ

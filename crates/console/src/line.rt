@@ -1,6 +1,6 @@
 // A line and its words.
-ghost use Rattle.std.specs.Prelude.{◌≡◌, ◌≤◌, length};
-ghost use Rattle.console.specs.Line.{part_of, without_return, spaces_in, index_of, first_word, after_first, word_at, is_passed_over};
+ghost use Rattle.std.specs.Prelude.{◌≡◌};
+ghost use Rattle.console.specs.Line.{part_of, without_return, spaces_in, first_word, after_first, word_at, is_passed_over};
 
 const SPACE: u8 = 32;
 
@@ -48,24 +48,11 @@ pub fn spaces(line: &[u8]) -> usize
     n
 }
 
-// The place of the first space: the line's end where there is none.
-fn first_space(line: &[u8]) -> usize
-    ensures place { result ≡ index_of 32 line.now }
-    ensures within { result ≤ length line.now }
-{
-    for i in 0..line.len() {
-        if line[i] == SPACE {
-            return i;
-        }
-    }
-    line.len()
-}
-
 // What stands before the first space.
 fn first_word(line: &[u8]) -> &[u8]
     ensures { result.now ≡ first_word line.now }
 {
-    let n = first_space(line);
+    let n = text::index_of(line, SPACE);
     &line[..n]
 }
 
@@ -73,7 +60,7 @@ fn first_word(line: &[u8]) -> &[u8]
 fn after_first(line: &[u8]) -> &[u8]
     ensures { result.now ≡ after_first line.now }
 {
-    let n = first_space(line);
+    let n = text::index_of(line, SPACE);
     if n < line.len() {
         let next = n + 1;
         return &line[next..];

@@ -14,10 +14,11 @@ use Rattle.byte_numbers.specs.Place.{written}
 use Rattle.byte_numbers.proofs.PlaceLaws.{onward}
 use Rattle.text.specs.Decimal.{decimal, is_digit, are_digits}
 use Rattle.text.specs.Reading.{number_of_text}
+use Rattle.text.specs.Search.{index_of}
 use Rattle.text.specs.declared.reading.NumberAnswer.{NumberAnswer}
 use Rattle.text.proofs.DecimalLaws.{are_digits-decimal, decimal-least, decimal-most-u32}
 use Rattle.text.proofs.ReadingLaws.{read-decimal}
-use Rattle.paths_and_locks.specs.Lock.{index_of, pad_of, holder_text, after_spaces, up_to, process_of, holder_in, holder_of}
+use Rattle.paths_and_locks.specs.Lock.{pad_of, holder_text, after_spaces, up_to, process_of, holder_in, holder_of}
 use Rattle.paths_and_locks.specs.declared.holder.Holder.TheVariants.{Process}
 
 abbrev spaces : ℕ → List ℕ

@@ -1,9 +1,9 @@
 -- What a lock file holds. Source: Filesystem Hierarchy Standard 3.0, "/var/lock": "to store the process identifier (PID) as a ten byte ASCII
 -- decimal number, with a trailing newline"; the example there has spaces before the digits.
 use Rattle.std.specs.Prelude.{ℕ, ◌&&◌, cond, List, [], ◌∷◌, ◌++◌, eqb, leb, length, take, drop}
-use Rattle.std.specs.List.{position_or_len}
 use Rattle.text.specs.Decimal.{decimal}
 use Rattle.text.specs.Reading.{number_of_text}
+use Rattle.text.specs.Search.{index_of}
 use Rattle.text.specs.declared.reading.NumberAnswer.{NumberAnswer}
 use Rattle.text.specs.declared.reading.NumberAnswer.TheVariants.{Number, NotANumber}
 use Rattle.paths_and_locks.specs.declared.holder.Holder.{Holder}
@@ -21,10 +21,6 @@ holder_text p = pad_of p ++ (decimal p ++ (10 ∷ []))
 unfoldable pub after_spaces : List ℕ → List ℕ
 after_spaces [] = []
 after_spaces (b ∷ s) = cond (eqb b 32) (after_spaces s) (b ∷ s)
-
--- the first place at which b stands: the length where it stands nowhere
-abbrev pub index_of : ℕ → List ℕ → ℕ
-index_of b s = position_or_len (λ x. eqb x b) s
 
 -- what stands before the first b
 unfoldable pub up_to : ℕ → List ℕ → List ℕ

@@ -1,7 +1,7 @@
 // The text of a lock.
 ghost use Rattle.std.specs.Prelude.{◌≡◌};
 ghost use Rattle.byte_numbers.specs.Place.{written};
-ghost use Rattle.paths_and_locks.specs.Lock.{index_of, holder_text, after_spaces, up_to, process_of, holder_of};
+ghost use Rattle.paths_and_locks.specs.Lock.{holder_text, after_spaces, up_to, process_of, holder_of};
 
 use text::NumberAnswer;
 
@@ -44,23 +44,11 @@ fn after_spaces(s: &[u8]) -> &[u8]
     &s[..0]
 }
 
-// The first place of a byte: the length where it stands nowhere.
-fn place_of(s: &[u8], byte: u8) -> usize
-    ensures { result ≡ index_of byte s.now }
-{
-    for (i, b) in s.iter().enumerate() {
-        if *b == byte {
-            return i;
-        }
-    }
-    s.len()
-}
-
 // What stands before a byte.
 fn up_to(s: &[u8], byte: u8) -> &[u8]
     ensures { result.now ≡ up_to byte s.now }
 {
-    crate::path::front(s, place_of(s, byte))
+    crate::path::front(s, text::index_of(s, byte))
 }
 
 fn process_of(n: u64) -> Holder

@@ -2,3 +2,4 @@ pub mod DecimalLaws
 pub mod DateTextLaws
 pub mod HexLaws
 pub mod ReadingLaws
+pub mod SearchLaws

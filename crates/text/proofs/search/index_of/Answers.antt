@@ -1,7 +1,7 @@
--- `place_of` meets its contract: where the byte stands at no place before this one, this is its first.
+-- `index_of` meets its contract: where the byte stands at no place before this one, this is its first.
 use Rattle.std.proofs.Common.{sym, arith, length, get_or, eq-eqb, ne_eqb, eqb}
 use Rattle.std.proofs.lemmas.List.Sums.{position_or_len_is}
-use Rattle.paths_and_locks.proofs.holder.place_of.Goals as goal
+use Rattle.text.proofs.search.index_of.Goals as goal
 
 pub returns-then-b-byte : goal.returns-then-b-byte
 returns-then-b-byte c =
