@@ -15,8 +15,10 @@ pub struct Beside {
     pub length: usize,
 }
 
-// What a name of its own ends in, after a dot.
+// What a name of its own ends in: a dot, and then letters.
 const LETTERS: usize = 6;
+
+const ENDING: usize = 1 + LETTERS;
 
 const LETTER: [u8; 62] = *b"ABCDEFGHIJKLMNOPQRSTUVWXYZabcdefghijklmnopqrstuvwxyz0123456789";
 
@@ -46,7 +48,7 @@ pub fn new_beside(rt: HostRuntime, path: &[u8], name: &mut [u8]) -> io::Result<B
 }
 
 // A dot and letters by chance.
-fn own_ending(rt: HostRuntime) -> io::Result<[u8; 7]> {
+fn own_ending(rt: HostRuntime) -> io::Result<[u8; ENDING]> {
     let mut b = [0u8; LETTERS];
     rt.fill_bytes(&mut b)?;
     Ok([
@@ -61,7 +63,7 @@ fn own_ending(rt: HostRuntime) -> io::Result<[u8; 7]> {
 }
 
 fn letter(b: u8) -> u8 {
-    LETTER[b as usize % 62]
+    LETTER[b as usize % LETTER.len()]
 }
 
 // Makes a file that was not there, with the rights of any file that is made.

@@ -1,7 +1,8 @@
 // Paths behind symbolic links, and the names of locks.
-use crate::path::{LINKS, PATH_ROOM, as_text, put_joined};
+use crate::path::{CHARACTERS, LINKS, PATH_ROOM, as_text, put_joined};
 use paths_and_locks::{base_of, front, start_of};
 use std::fs::File;
+use std::io::ErrorKind;
 use std::{fs, io};
 
 #[derive(Clone, Copy)]
@@ -49,12 +50,20 @@ fn followed(rt: HostRuntime, path: &[u8], next: &mut [u8]) -> io::Result<Step> {
             as_text(front(next, m))?;
             Ok(Step::To(m))
         }
-        // The system does not follow it. Other errors are no answer.
-        Err(e) => match e.raw_os_error() {
-            Some(_) => Ok(Step::End),
-            None => Err(e),
-        },
+        Err(e) => not_followed(e),
     }
+}
+
+// One that the system does not follow is the end. Other errors are no answer of the system's: a link's text that is none is refused as a
+// path is.
+fn not_followed(why: io::Error) -> io::Result<Step> {
+    if why.raw_os_error().is_some() {
+        return Ok(Step::End);
+    }
+    if why.kind() == ErrorKind::InvalidFilename {
+        return Err(io::Error::from_raw_os_error(CHARACTERS));
+    }
+    Err(why)
 }
 
 // The name of a serial line's lock, by the custom of the programs that use one: LCK.. and the device's own name.

@@ -58,8 +58,14 @@ const RIGHTS: u32 = 0o644;
 // Where the system shows each process that lives, by its number.
 const PROCESSES: &[u8] = b"/proc/";
 
+// Longer than that and any number.
+const PROCESS_ROOM: usize = 16;
+
 // The process that always lives.
 const FIRST: u32 = 1;
+
+// A process's number has the system's 32 bits with a sign.
+const LARGEST: u32 = 2147483647;
 
 // Takes a lock for this process. One of a process that lives no more is taken over. A lock that names this process is such a one, too:
 // it was another's, that had its number.
@@ -151,17 +157,16 @@ fn lives(rt: HostRuntime, pid: u32) -> bool {
     if pid == own_number(rt) {
         return false;
     }
-    if 2147483647 < pid {
+    if LARGEST < pid {
         return false;
     }
     is_shown(rt, pid) || !is_shown(rt, FIRST)
 }
 
 fn is_shown(rt: HostRuntime, pid: u32) -> bool {
-    let mut name = [0u8; 16];
-    let digits = text::decimal_length(pid as u64);
+    let mut name = [0u8; PROCESS_ROOM];
     byte_numbers::put_bytes(&mut name, 0, PROCESSES);
-    text::put_decimal(&mut name, PROCESSES.len(), pid as u64);
+    let digits = text::put_decimal(&mut name, PROCESSES.len(), pid as u64);
     let length = PROCESSES.len().saturating_add(digits);
     match known(rt, front(&name, length)) {
         Ok(()) => true,

@@ -11,7 +11,7 @@ pub const INVALID: i32 = 22;
 
 const TOO_LONG: i32 = 36;
 
-const CHARACTERS: i32 = 84;
+pub const CHARACTERS: i32 = 84;
 
 pub const LINKS: i32 = 40;
 

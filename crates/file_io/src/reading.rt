@@ -8,18 +8,18 @@ use std::io::Read;
 // on: one byte more than the longest file that is taken shows a longer one by its length.
 pub fn contents(rt: HostRuntime, path: &[u8], bytes: &mut [u8]) -> io::Result<usize> {
     let mut file = File::open(&rt, as_text(path)?)?;
-    filled(&mut file, bytes)
+    read_full(&mut file, bytes)
 }
 
-// Reads until the buffer is full or the file ends.
-fn filled(file: &mut File, bytes: &mut [u8]) -> io::Result<usize> {
+// Reads until the buffer is full or there is no more.
+pub fn read_full<R: Read>(reader: &mut R, bytes: &mut [u8]) -> io::Result<usize> {
     let mut done = 0;
     // A read that gives nothing is the end.
     for _ in 0..bytes.len() {
         if bytes.len() <= done {
             return Ok(done);
         }
-        let n = file.read(&mut bytes[done..])?;
+        let n = reader.read(&mut bytes[done..])?;
         if n == 0 {
             return Ok(done);
         }

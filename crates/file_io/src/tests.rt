@@ -1,10 +1,19 @@
 // What no clause says: files of the system, written, read, kept and locked.
-use crate::{Lock, contents, file_lock_name, line_lock_name, locked, made, stored, unlocked};
+use crate::{
+    Lock, PATH_ROOM, contents, file_lock_name, line_lock_name, locked, made, stored, unlocked,
+};
 use paths_and_locks::front;
 use std::fs::Permissions;
 use std::os::unix::fs::{MetadataExt, PermissionsExt, symlink};
 use std::test::Fail;
 use std::{fs, io};
+
+// What a run that was cut off may have left.
+fn cleared(rt: HostRuntime, names: &[&str]) {
+    for name in names {
+        let _ = fs::remove_file(&rt, *name);
+    }
+}
 
 fn read(rt: HostRuntime, path: &[u8], room: &mut [u8; 16]) -> io::Result<usize> {
     contents(rt, path, room)
@@ -13,6 +22,7 @@ fn read(rt: HostRuntime, path: &[u8], room: &mut [u8; 16]) -> io::Result<usize> 
 // A file is made where there was none, and written anew under its rights; a link to it stays one.
 #[test]
 fn files(rt: HostRuntime) -> Result<(), Fail> {
+    cleared(rt, &["link.tmp", "new.tmp", "one.tmp"]);
     let mut room = [0u8; 16];
     made(rt, b"one.tmp", b"first")?;
     let again = made(rt, b"one.tmp", b"second").is_err();
@@ -42,7 +52,8 @@ fn files(rt: HostRuntime) -> Result<(), Fail> {
 // A lock is held until it is given up, one of a process that lives is not taken, and one of a process that does not is.
 #[test]
 fn locks(rt: HostRuntime) -> Result<(), Fail> {
-    let mut name = [0u8; 4096];
+    cleared(rt, &["log.tmp.lock"]);
+    let mut name = [0u8; PATH_ROOM];
     let n = file_lock_name(rt, b"log.tmp", &mut name)?;
     let lock = front(&name, n);
     assert_eq!(rt; lock, b"log.tmp.lock".as_slice());

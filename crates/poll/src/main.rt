@@ -3,7 +3,6 @@
 #![tactic(auto)]
 
 mod arguments;
-mod device;
 mod fresh;
 mod help;
 mod locks;

@@ -1,7 +1,7 @@
 // `poll mercury DEVICE ADDRESS`: the three readings of a Mercury 206, in units that a person reads. They enter no log.
 use crate::arguments::LongArgument;
 use crate::locks::{Kind, Taken};
-use crate::{arguments, device, locks, reading};
+use crate::{arguments, locks, reading};
 use file_io::PATH_ROOM;
 use mercury::command;
 use paths_and_locks::front;
@@ -33,7 +33,7 @@ fn on_line(rt: HostRuntime, device: &[u8], address: u32) -> bool {
 
 // Nothing is written to what is no terminal line.
 fn on_device(rt: HostRuntime, device: &[u8], address: u32) -> bool {
-    match device::opened(rt, device) {
+    match file_io::open_device(rt, device) {
         Ok(line) => {
             if !line.is_terminal() {
                 return say::no_line(rt, device);

@@ -2,7 +2,7 @@
 use crate::arguments::{ByteArgument, Chosen, Options};
 use crate::locks::{Kind, Taken};
 use crate::meter::Known;
-use crate::{arguments, device, locks, meter, report};
+use crate::{arguments, locks, meter, report};
 use day_rows::FIGURES_MOST;
 use file_io::PATH_ROOM;
 use log_file::ReadAnswer;
@@ -156,7 +156,7 @@ fn on_device(
     span: Span,
     options: Options,
 ) -> bool {
-    match device::opened(rt, device) {
+    match file_io::open_device(rt, device) {
         Ok(line) => {
             if !line.is_terminal() {
                 return say::no_line(rt, device);

@@ -13,19 +13,17 @@ use day_rows::FIGURES_MOST;
 use log_file::ReadAnswer;
 use log_header::IMAGE_MOST;
 use report_page::Page;
-use std::env::FillError;
 use std::io;
-use std::io::{IsTerminal, Read};
-use std::rt::Env;
+use std::io::IsTerminal;
 
 // One byte more than the longest file has, so that a longer one shows.
 const FILE_ROOM: usize = log_file::FILE_MOST + 1;
 
-// The word behind the program's own name.
+// The program's own name.
 const ITS_WORDS: usize = 1;
 
 fn main(rt: HostRuntime) -> io::Result<()> {
-    if is_said(rt, ITS_WORDS) {
+    if ITS_WORDS < file_io::word_count(rt) {
         say(
             rt,
             b"report < LOGFILE: prints the day report of the log's file on its standard input\n",
@@ -35,37 +33,11 @@ fn main(rt: HostRuntime) -> io::Result<()> {
     begin(rt)
 }
 
-// Whether the program was called with so many words behind its name.
-fn is_said(rt: HostRuntime, i: usize) -> bool {
-    match rt.arg(i, &mut []) {
-        Ok(_) => true,
-        Err(FillError::TooLong) => true,
-        Err(FillError::NotPresent) => false,
-    }
-}
-
 fn begin(rt: HostRuntime) -> io::Result<()> {
     let mut file = [0u8; FILE_ROOM];
-    let n = filled(rt, &mut file)?;
+    let n = file_io::read_full(&mut rt.stdin(), &mut file)?;
     read(rt, front(&file, n));
     Ok(())
-}
-
-// Reads until the buffer is full or the input ends.
-fn filled(rt: HostRuntime, bytes: &mut [u8]) -> io::Result<usize> {
-    let mut done = 0;
-    // A read that gives nothing is the end.
-    for _ in 0..bytes.len() {
-        if bytes.len() <= done {
-            return Ok(done);
-        }
-        let n = rt.stdin().read(&mut bytes[done..])?;
-        if n == 0 {
-            return Ok(done);
-        }
-        done += n;
-    }
-    Ok(done)
 }
 
 fn read(rt: HostRuntime, file: &[u8]) {

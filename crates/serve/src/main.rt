@@ -11,8 +11,6 @@ mod script;
 use bench::Bench;
 use file_io::PATH_ROOM;
 use script::Ready;
-use std::fs::{File, OpenOptions};
-use std::io;
 use text::NumberAnswer;
 
 // Where the words of `serve DEVICE SCRIPT COUNT` stand.
@@ -68,19 +66,11 @@ fn made(rt: HostRuntime, count: u64) {
 fn opened(rt: HostRuntime, count: u64, store: &mut [u8], bench: Bench) {
     let mut room = [0u8; PATH_ROOM];
     let path = file_io::word(rt, DEVICE, &mut room);
-    match device(rt, path) {
+    match file_io::open_device(rt, path) {
         Ok(line) => {
             say::waiting(rt, path, bench);
             line::serve(rt, &line, count, path, store, bench);
         }
         Err(why) => say::failed(rt, path, why),
     }
-}
-
-// The serial line, for reading and writing.
-fn device(rt: HostRuntime, path: &[u8]) -> io::Result<File> {
-    OpenOptions::new()
-        .read(true)
-        .write(true)
-        .open(&rt, file_io::as_text(path)?)
 }
