@@ -1,4 +1,8 @@
 // Paths as the system takes them.
+ghost use Rattle.std.specs.Prelude.{◌≡◌, IfOk, IfErr, Some, pos};
+ghost use Rattle.std.specs.IoError.{raw_os_error};
+ghost use Rattle.file_io.specs.Path.{IsPath, path_fault};
+
 use paths_and_locks::{PathAnswer, joined};
 use std::io;
 use std::str::from_utf8;
@@ -16,7 +20,12 @@ pub const CHARACTERS: i32 = 84;
 pub const LINKS: i32 = 40;
 
 // A path as the system takes it, as text.
-pub fn as_text(path: &[u8]) -> io::Result<&str> {
+pub fn as_text(path: &[u8]) -> io::Result<&str>
+    ensures taken { IfOk result (λ text. text.now ≡ path.now) }
+    ensures path { IfOk result (λ text. IsPath path.now) }
+    ensures fault { IfErr result (λ e. raw_os_error e ≡ Some (pos (path_fault path.now))) }
+    ensures refused { IfErr result (λ e. ¬ (IsPath path.now)) }
+{
     if PATH_ROOM <= path.len() {
         return Err(io::Error::from_raw_os_error(TOO_LONG));
     }

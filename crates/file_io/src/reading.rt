@@ -1,4 +1,6 @@
 // Reading.
+ghost use Rattle.std.specs.Prelude.{◌≤◌, length, IfOk};
+
 use crate::path::as_text;
 use std::fs::File;
 use std::io;
@@ -12,7 +14,9 @@ pub fn contents(rt: HostRuntime, path: &[u8], bytes: &mut [u8]) -> io::Result<us
 }
 
 // Reads until the buffer is full or there is no more.
-pub fn read_full<R: Read>(reader: &mut R, bytes: &mut [u8]) -> io::Result<usize> {
+pub fn read_full<R: Read>(reader: &mut R, bytes: &mut [u8]) -> io::Result<usize>
+    ensures { IfOk result (λ n. n ≤ length bytes.new) }
+{
     let mut done = 0;
     // A read that gives nothing is the end.
     for _ in 0..bytes.len() {
