@@ -1,7 +1,8 @@
 // The log's file.
 use console_io::say;
 use console_log::ConsoleLog;
-use log_file::{FILE_MOST, WriteAnswer};
+use log_file::FILE_MOST;
+use refusal::Numbered;
 use std::io;
 
 // One byte more than the longest file, so that a longer one shows by its length.
@@ -34,10 +35,9 @@ pub fn save(rt: HostRuntime, line: &[u8], image: &[u8]) {
         return;
     }
     let mut bytes = [0u8; FILE_MOST];
-    let answer = log_file::write_file(image, &mut bytes);
-    let WriteAnswer::Done(n) = answer else {
-        say::number_line(rt, answer.number());
-        return;
+    let n = match log_file::write_file(image, &mut bytes) {
+        Ok(n) => n,
+        Err(error) => return say::number_line(rt, error.number()),
     };
     match file_io::stored(rt, console::word(line, 1), console::part(&bytes, n)) {
         Ok(()) => say::number_line(rt, refusal::DONE),

@@ -16,7 +16,7 @@ use console_log::ConsoleLog;
 use frame::layout::LONGEST;
 use logger::OpenAsk;
 use mercury_bench::Meter;
-use meter_record::{Record, RecordAnswer};
+use meter_record::Record;
 use parameters::code::Reading;
 use std::io;
 
@@ -38,7 +38,7 @@ fn begin(rt: HostRuntime) -> io::Result<()> {
     let mut store = [0u8; 32736];
     let mut line = [0u8; console_io::LINE_ROOM];
     let mut block = [0u8; 4096];
-    let RecordAnswer::Done(record) = console_meter::first() else {
+    let Ok(record) = console_meter::first() else {
         return Ok(());
     };
     typing::greet(rt);
@@ -64,7 +64,7 @@ fn session(
 ) -> io::Result<()> {
     let mut kept = ConsoleLog {
         length: 0,
-        held: OpenAsk::Closed,
+        held: None,
     };
     let mut record = first;
     let mut mercury = console_mercury::first();
@@ -76,12 +76,12 @@ fn session(
             return Ok(());
         }
         rest = taken.rest;
-        let n = taken.length;
-        let verb = verb::verb_of(console::part(line, n));
+        let call = console::part(line, taken.length);
+        let verb = verb::verb_of(call);
         // A verb is the log's or one of the two meters': the others leave all as it stands.
-        kept = on_log(rt, verb, console::part(line, n), image, figures, kept);
-        record = on_meter(rt, verb, console::part(line, n), store, record);
-        mercury = on_mercury(rt, verb, console::part(line, n), mercury);
+        kept = on_log(rt, verb, call, image, figures, kept);
+        record = on_meter(rt, verb, call, store, record);
+        mercury = on_mercury(rt, verb, call, mercury);
     }
     Ok(())
 }
@@ -101,22 +101,22 @@ fn on_log(
         verb::LAPSE => console_log::lapse(rt, line, image, kept),
         verb::REPLY => console_log::reply(rt, line, image, figures, kept),
         _ => {
-            let held = kept.held;
-            read(
-                rt,
-                verb,
-                line,
-                console::part(image, kept.length),
-                figures,
-                held,
-            );
+            let log = console::part(image, kept.length);
+            read(rt, verb, line, log, figures, kept.held);
             kept
         }
     }
 }
 
 // What changes neither the log, nor its figures, nor the open ask.
-fn read(rt: HostRuntime, verb: usize, line: &[u8], image: &[u8], figures: &[u32], held: OpenAsk) {
+fn read(
+    rt: HostRuntime,
+    verb: usize,
+    line: &[u8],
+    image: &[u8],
+    figures: &[u32],
+    held: Option<OpenAsk>,
+) {
     match verb {
         verb::SAVE => files::save(rt, line, image),
         verb::OPEN => console_log::open_ask(rt, line, held),
@@ -132,6 +132,7 @@ fn read(rt: HostRuntime, verb: usize, line: &[u8], image: &[u8], figures: &[u32]
 }
 
 // Record and store are those that the line's call leaves.
+#[tactic(auto, unfolding(console_meter::specs::Lines::meter_after))]
 fn on_meter(rt: HostRuntime, verb: usize, line: &[u8], store: &mut [u8], r: Record) -> Record
     ensures { outcome result store.new
         ≡ cond (leb verb 15) (outcome r store.old) (meter_after r line.now store.old) }
@@ -148,18 +149,18 @@ fn on_meter(rt: HostRuntime, verb: usize, line: &[u8], store: &mut [u8], r: Reco
 fn on_mercury(rt: HostRuntime, verb: usize, line: &[u8], m: Meter) -> Meter
     ensures { result ≡ cond (eqb verb 15) (mercury_after m line.now) m }
 {
-    if verb == verb::MERCURY {
-        return mercury_called(rt, line, m);
+    if verb != verb::MERCURY {
+        return m;
     }
-    m
+    mercury_called(rt, line, m)
 }
 
+#[tactic(auto, unfolding(console_mercury::specs::Lines::mercury_after))]
 fn mercury_called(rt: HostRuntime, line: &[u8], m: Meter) -> Meter
     ensures { result ≡ mercury_after m line.now }
 {
     let mut out = [0u8; LONGEST];
     let called = console_mercury::called(line, m, &mut out);
-    let answer = called.answer;
-    console_mercury::print(rt, answer, &out);
+    console_mercury::print(rt, called.answer, &out);
     called.after
 }

@@ -2,10 +2,14 @@
 use mathlib.Core.Path.{◌≡◌, refl, sym, ap, ap₂, ◌∙◌}
 use mathlib.Core.List.{List, [], ◌∷◌, ◌++◌, append_assoc}
 use mathlib.Core.Logic.{◌⊎◌, inl, inr}
-use Prim.Native.Nat.{ℕ, zero, suc, ◌+◌, ◌*◌, ◌/◌, ◌%◌, ◌^◌, ◌≤◌, ◌<◌}
+use Prim.Native.Nat.{ℕ, zero, suc, min, ◌+◌, ◌-◌, ◌*◌, ◌/◌, ◌%◌, ◌^◌, ◌≤◌, ◌<◌}
+use mathlib.Core.Bool.{Bool, true, false}
+use lib.Dec.{ltb}
+use borrow.Author.Tests.{ltb-true, ltb-false}
 use native.Mathlib.Nat.{add-zero, add-suc, suc-add, zero-add, not-suc-le-zero}
 use native.Mathlib.Omega.{arith}
-use lib.ListN.{length, take, drop, set, length-set, drop_of_length-le}
+use borrow.Rule.Slice.PartMut.{put_mid}
+use lib.ListN.{length, take, drop, set, length-set, drop_of_length-le, take-append-drop}
 use lib.Seq.{sets, sets-eq, take-set-le, drop-set-lt, take-nil, take_at, drop_at, drop-drop, drop-append-add, length-take-le, get_or-set_same, get_or-set_other, set_out}
 use Rattle.byte_numbers.specs.Number.{number, bytes_of}
 use Rattle.byte_numbers.proofs.NumberLaws.{length-bytes_of, number-bytes_of, bytes_of-low, bytes_of-split, number-split}
@@ -14,13 +18,13 @@ use Rattle.byte_numbers.specs.Place.{byte_at, number_at, written}
 -- ---- what is written
 
 -- a store never changes how long a buffer is
-pub length-written : (s : List ℕ) (i : ℕ) (bs : List ℕ) → length (written s i bs) ≡ length s
+pub length-written : {A : Type 0} (s : List A) (i : ℕ) (bs : List A) → length (written s i bs) ≡ length s
 unfolding written
 length-written s i [] = refl
 length-written s i (b ∷ bs) = length-written (set s i b) (suc i) bs ∙ length-set s i b
 
 -- two stores side by side are one: how the parts of a frame or of a line come together
-pub written-append : (s : List ℕ) (i : ℕ) (xs ys : List ℕ) → written s i (xs ++ ys) ≡ written (written s i xs) (i + length xs) ys
+pub written-append : {A : Type 0} (s : List A) (i : ℕ) (xs ys : List A) → written s i (xs ++ ys) ≡ written (written s i xs) (i + length xs) ys
 unfolding written
 written-append s i [] ys = rw add-zero
 written-append s i (x ∷ xs) ys =
@@ -28,8 +32,8 @@ written-append s i (x ∷ xs) ys =
     ∙ ap (λ (k : ℕ). written (written (set s i x) (suc i) xs) k ys) (suc-add i (length xs) ∙ sym (add-suc i (length xs)))
 
 -- bytes put one behind the other by two stores
-pub onward : (s t u : List ℕ) (i j : ℕ) (xs ys : List ℕ) → t ≡ written s i xs → u ≡ written t j ys → i + length xs ≡ j → u ≡ written s i (xs ++ ys)
-onward s t u i j xs ys p q e = q ∙ ap₂ (λ (x : List ℕ) (k : ℕ). written x k ys) p (sym e) ∙ sym (written-append s i xs ys)
+pub onward : {A : Type 0} (s t u : List A) (i j : ℕ) (xs ys : List A) → t ≡ written s i xs → u ≡ written t j ys → i + length xs ≡ j → u ≡ written s i (xs ++ ys)
+onward {A = A} s t u i j xs ys p q e = q ∙ ap₂ (λ (x : List A) (k : ℕ). written x k ys) p (sym e) ∙ sym (written-append s i xs ys)
 
 -- the same for a writer that stores byte by byte
 pub written-cons : (s : List ℕ) (i a b : ℕ) (bs : List ℕ)
@@ -37,13 +41,13 @@ pub written-cons : (s : List ℕ) (i a b : ℕ) (bs : List ℕ)
 written-cons s i a b bs = written-append s i (a ∷ []) (b ∷ bs)
 
 -- written bytes are those of the kit's run of stores
-pub written-sets : (s : List ℕ) (i : ℕ) (bs : List ℕ) → written s i bs ≡ sets s i bs
+pub written-sets : {A : Type 0} (s : List A) (i : ℕ) (bs : List A) → written s i bs ≡ sets s i bs
 unfolding written
 written-sets s i [] = refl
 written-sets s i (b ∷ bs) = written-sets (set s i b) (suc i) bs
 
 -- where there is room a store is the front, the bytes and the rest: for output seen as a whole
-pub written-fits : (s : List ℕ) (i : ℕ) (bs : List ℕ) → i + length bs ≤ length s
+pub written-fits : {A : Type 0} (s : List A) (i : ℕ) (bs : List A) → i + length bs ≤ length s
     → written s i bs ≡ take i s ++ (bs ++ drop (i + length bs) s)
 written-fits s i bs h = written-sets s i bs ∙ sets-eq bs s i h ∙ append_assoc (take i s) bs (drop (i + length bs) s)
 
@@ -54,13 +58,13 @@ abbrev pub Apart : ℕ → ℕ → ℕ → ℕ → Type 0
 Apart j k i n = (j + k ≤ i) ⊎ (i + n ≤ j)
 
 -- what stands before a store, for `part-kept`
-pub take-written : (n : ℕ) (s : List ℕ) (i : ℕ) (bs : List ℕ) → n ≤ i → take n (written s i bs) ≡ take n s
+pub take-written : {A : Type 0} (n : ℕ) (s : List A) (i : ℕ) (bs : List A) → n ≤ i → take n (written s i bs) ≡ take n s
 unfolding written
 take-written n s i [] h = refl
 take-written n s i (b ∷ bs) h = take-written n (set s i b) (suc i) bs (omega arith) ∙ take-set-le n s i b h
 
 -- what stands behind a store, for `part-kept` and for output past a frame
-pub drop-written : (n : ℕ) (s : List ℕ) (i : ℕ) (bs : List ℕ) → i + length bs ≤ n → drop n (written s i bs) ≡ drop n s
+pub drop-written : {A : Type 0} (n : ℕ) (s : List A) (i : ℕ) (bs : List A) → i + length bs ≤ n → drop n (written s i bs) ≡ drop n s
 unfolding written
 drop-written n s i [] h = refl
 drop-written n s i (b ∷ bs) h = drop-written n (set s i b) (suc i) bs (omega arith) ∙ drop-set-lt n s i b (omega arith)
@@ -171,7 +175,29 @@ unfolding number_at number
 number_at-past s i k h = ap (λ (l : List ℕ). number (take k l)) (drop_of_length-le s h) ∙ ap number (take-nil {A = ℕ} k)
 
 -- nothing is stored past the end, in every writer that is total
-pub written-past : (s : List ℕ) (i : ℕ) (bs : List ℕ) → length s ≤ i → written s i bs ≡ s
+pub written-past : {A : Type 0} (s : List A) (i : ℕ) (bs : List A) → length s ≤ i → written s i bs ≡ s
 unfolding written
 written-past s i [] h = refl
 written-past s i (b ∷ bs) h = written-past (set s i b) (suc i) bs (simp length-set (omega arith)) ∙ set_out s i b h
+
+-- what the end leaves of the bytes is stored at once: for `put_bytes`, which copies it
+pub written-cut : {A : Type 0} (s : List A) (i n : ℕ) (bs : List A) → i ≤ length s → n ≡ min (length bs) (length s - i)
+    → written s i bs ≡ put_mid i (i + n - i) s (take n bs)
+unfolding written
+written-cut s i n bs h m =
+    let k : length (take n bs) ≡ n = length-take-le n bs (omega arith) in
+    let e : i + n - i ≡ n = omega arith in
+    ap (written s i) (sym (take-append-drop n bs))
+    ∙ written-append s i (take n bs) (drop n bs)
+    ∙ rest (ltb n (length bs)) refl
+    ∙ written-fits s i (take n bs) (omega arith)
+    ∙ rw (k, e, drop-drop) refl
+  where
+    rest : (b : Bool) → ltb n (length bs) ≡ b
+        → written (written s i (take n bs)) (i + length (take n bs)) (drop n bs) ≡ written s i (take n bs)
+    rest true t =
+        let k : length (take n bs) ≡ n = length-take-le n bs (omega arith) in
+        let l : n < length bs = ltb-true _ _ t in
+        written-past (written s i (take n bs)) (i + length (take n bs)) (drop n bs) (simp length-written (omega arith))
+    rest false t =
+        ap (written (written s i (take n bs)) (i + length (take n bs))) (drop_of_length-le bs (ltb-false _ _ t))

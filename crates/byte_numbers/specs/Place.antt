@@ -10,7 +10,7 @@ byte_at s i = get_or s i 0
 unfoldable pub number_at : List ℕ → ℕ → ℕ → ℕ
 number_at s i k = number (take k (drop i s))
 
--- the slice with the bytes bs stored one after the other from place i on
-unfoldable pub written : List ℕ → ℕ → List ℕ → List ℕ
+-- the slice with bs stored one after the other from place i on
+unfoldable pub written : {A : Type 0} → List A → ℕ → List A → List A
 written s i [] = s
 written s i (b ∷ bs) = written (set s i b) (suc i) bs

@@ -14,6 +14,7 @@ pub fn byte_at(s: &[u8], at: usize) -> u8
     if at < s.len() { s[at] } else { 0 }
 }
 
+// A function for each width, of reading and of storing: each puts its halves together by its own type, and a caller names the width.
 pub fn u16_at(s: &[u8], at: usize) -> u16
     ensures { result ≡ number_at s.now at 2 }
 {
@@ -54,10 +55,7 @@ pub fn u64_at(s: &[u8], at: usize) -> u64
 pub fn tail(s: &[u8], at: usize) -> &[u8]
     ensures { result.now ≡ drop at s.now }
 {
-    if at < s.len() {
-        return &s[at..];
-    }
-    &s[..0]
+    if at < s.len() { &s[at..] } else { &[] }
 }
 
 pub fn put_byte(out: &mut [u8], at: usize, byte: u8)
@@ -95,19 +93,18 @@ pub fn put_u64(out: &mut [u8], at: usize, n: u64)
     }
 }
 
-// What of the bytes lies past the end of the buffer is not stored.
+// What of the items lies past the end of the buffer is not stored.
+pub fn put_all<T: Copy>(out: &mut [T], at: usize, items: &[T])
+    ensures { out.new ≡ written out.old at items.now }
+{
+    if at < out.len() {
+        let n = items.len().min(out.len() - at);
+        out[at..at + n].copy_from_slice(&items[..n]);
+    }
+}
+
 pub fn put_bytes(out: &mut [u8], at: usize, bytes: &[u8])
     ensures { out.new ≡ written out.old at bytes.now }
 {
-    if at < out.len() {
-        let room = out.len() - at;
-        let mut i = 0;
-        while i < bytes.len() {
-            if room <= i {
-                return;
-            }
-            out[at + i] = bytes[i];
-            i += 1;
-        }
-    }
+    put_all(out, at, bytes);
 }

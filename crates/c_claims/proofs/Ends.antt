@@ -7,6 +7,7 @@ use native.Mathlib.Omega.{arith}
 use borrow.Author.Tests.{ne_eqb}
 use lib.Dec.{ltb}
 use lib.ListN.{length}
+use Rattle.std.specs.Prelude.{Err, None, Ok, Option, Result, Some}
 use Rattle.test_laws.proofs.Test.{either}
 use Rattle.byte_numbers.specs.Place.{written}
 use Rattle.refusal.specs.Outcome.{Outcome, outcome}
@@ -17,17 +18,14 @@ use Rattle.request.specs.Subject.{subject_of, most_slots}
 use Rattle.request.specs.declared.request.Request.{Request}
 use Rattle.reader.specs.Reply as reader
 use Rattle.reader.specs.declared.reply.Decoded.{Decoded}
-use Rattle.reader.specs.declared.reply.Decoded.TheVariants as decoded
+use Rattle.reader.specs.declared.reply.DecodeError.{DecodeError}
 use Rattle.meter_record.specs.Record as answer_record
 use Rattle.meter_record.specs.declared.record.Record.{Record}
-use Rattle.meter_record.specs.declared.record.RecordAnswer.{RecordAnswer}
-use Rattle.meter_record.specs.declared.record.RecordAnswer.TheVariants as given
+use Rattle.meter_record.specs.declared.record.RecordError.{RecordError}
 use Rattle.meter_record_bytes.specs.Record.{record_of, record_size}
-use Rattle.meter_record_bytes.specs.declared.record.RecordRead.{RecordRead}
-use Rattle.meter_record_bytes.specs.declared.record.RecordRead.TheVariants as of-record
 use Rattle.meter_command.specs.Verdict.{number_of, is_done}
-use Rattle.meter_command.specs.declared.verdict.Verdict.{Verdict}
-use Rattle.meter_command.specs.declared.verdict.Verdict.TheVariants as verdict
+use Rattle.meter_command.specs.declared.verdict.Refusal.{Refusal}
+use Rattle.meter_command.specs.declared.verdict.Refusal.TheVariants as verdict
 use Rattle.meter.specs.Reply as reply
 use Rattle.meter.specs.Reply.{is_sound, heard, verdict_on, replied, answer_of}
 use Rattle.slots.specs.declared.key.Key.{Key}
@@ -35,29 +33,23 @@ use Rattle.energy_log.specs.View.{View}
 use Rattle.log_header.specs.Interval.{interval_of}
 use Rattle.log_header.proofs.HeaderLaws.{by-sound}
 use Rattle.log_header.proofs.IntervalLaws.{by-at}
+use Rattle.log_header.specs.declared.header.Header.{Header}
 use Rattle.log_cell.proofs.CellLaws.{by-good}
 use Rattle.energy_log.specs.Fresh.{fresh_number}
-use Rattle.energy_log.specs.declared.fresh.FreshAnswer.{FreshAnswer}
-use Rattle.energy_log.specs.declared.fresh.FreshAnswer.TheVariants as made
-use Rattle.log_header.specs.declared.header.LogHeader.{LogHeader}
 use Rattle.day_rows.specs.LogAndRows.{LogAndRows, log_and_rows}
 use Rattle.day_rows.specs.Fresh.{fresh_with}
 use Rattle.day_report.specs.Report.{report_of, report_number}
 use Rattle.log_file.specs.Read.{if_read, read_file, read_number}
 use Rattle.log_file.specs.Write.{written_file, write_number}
-use Rattle.log_file.specs.declared.read.ReadAnswer.{ReadAnswer}
-use Rattle.log_file.specs.declared.read.ReadAnswer.TheVariants as file
-use Rattle.log_file.specs.declared.write.WriteAnswer.{WriteAnswer}
-use Rattle.log_file.specs.declared.write.WriteAnswer.TheVariants as wrote
+use Rattle.log_file.specs.declared.read.ReadError.{ReadError}
+use Rattle.log_file.specs.declared.write.WriteError.{WriteError}
 use Rattle.energy_log.specs.Image.{applied}
+use Rattle.energy_log.specs.declared.fresh.FreshError.{FreshError}
 use Rattle.logger.specs.Lapse as lapse-of
 use Rattle.logger.specs.Run.{State, step}
 use Rattle.logger.specs.declared.held.OpenAsk.{OpenAsk}
-use Rattle.logger.specs.declared.held.OpenAsk.TheVariants.{Closed}
 use Rattle.c_values.specs.Ask.{ask_of, ask_bytes}
 use Rattle.c_values.specs.Row.{figures_for, figure_row}
-use Rattle.c_values.specs.declared.ask.AskRead.{AskRead}
-use Rattle.c_values.specs.declared.ask.AskRead.TheVariants.{Read, Unreadable}
 use Rattle.claims.specs.Demand1.{in_table, Ends, EndsBy, closes_ask, gives_frame}
 use Rattle.claims.proofs.Calls.{done, stays}
 use Rattle.claims.proofs.Claims as claims
@@ -83,33 +75,26 @@ sized-ends number size left o out n e =
     record { in-table = e.in-table; unchanged = λ r. rw (left o.result n r, e.unchanged r) }
 
 -- a refused log leaves the word behind `length`
-pub image-kept : (a : FreshAnswer) (n : ℕ) → (fresh_number a ≡ 0 → ⊥) → image_length a n ≡ n
+pub image-kept : (a : Result ℕ FreshError) (n : ℕ) → (fresh_number a ≡ 0 → ⊥) → image_length a n ≡ n
 unfolding image_length
-image-kept (made.Done k) n r = absurd (r refl)
-image-kept made.OutOfRange n r = refl
-image-kept made.TooShort n r = refl
+image-kept (Ok k) n r = absurd (r refl)
+image-kept (Err refusal) n r = refl
 
-file-kept : (a : WriteAnswer) (n : ℕ) → (write_number a ≡ 0 → ⊥) → file_length a n ≡ n
+file-kept : (a : Result ℕ WriteError) (n : ℕ) → (write_number a ≡ 0 → ⊥) → file_length a n ≡ n
 unfolding file_length
-file-kept (wrote.Done k) n r = absurd (r refl)
-file-kept wrote.Unsound n r = refl
-file-kept wrote.TooShort n r = refl
+file-kept (Ok k) n r = absurd (r refl)
+file-kept (Err refusal) n r = refl
 
 -- a file that is refused gives nothing
-pub read-refused : {A : Type 0} (a : ReadAnswer) (other : A) (f : ℕ → A) → (read_number a ≡ 0 → ⊥) → if_read a other f ≡ other
-read-refused (file.Done k) other f r = absurd (r refl)
-read-refused file.WrongMark other f r = refl
-read-refused file.WrongVersion other f r = refl
-read-refused file.WrongHeader other f r = refl
-read-refused file.WrongLength other f r = refl
-read-refused file.WrongCrc other f r = refl
-read-refused file.WrongCell other f r = refl
-read-refused file.TooShort other f r = refl
+pub read-refused : {A : Type 0} (a : Result ℕ ReadError) (other : A) (f : ℕ → A) → (read_number a ≡ 0 → ⊥) → if_read a other f ≡ other
+read-refused (Ok k) other f r = absurd (r refl)
+read-refused (Err refusal) other f r = refl
 
 -- and so does a refused file
-pub length-kept : (a : ReadAnswer) (n : ℕ) → (read_number a ≡ 0 → ⊥) → length_after a n ≡ n
+pub length-kept : (a : Result ℕ ReadError) (n : ℕ) → (read_number a ≡ 0 → ⊥) → length_after a n ≡ n
 unfolding length_after
-length-kept a n r = read-refused a n (λ k. k) r
+length-kept (Ok k) n r = absurd (r refl)
+length-kept (Err refusal) n r = refl
 
 -- demand 1 of `metlazuel_log_fresh`: a refused one leaves the length, the log and the figures
 pub log_fresh : (year month day days minutes ke seasons : ℕ) (log figs : List ℕ) (n : ℕ)
@@ -119,7 +104,7 @@ log_fresh year month day days minutes ke seasons log figs n =
     sized-ends fresh_number image_length image-kept (fresh_with h log figs) (log_and_rows log figs) n ((claims.demand-1).fresh_log h log figs)
 
 -- demand 1 of `metlazuel_day_report`: a refused one leaves the row
-pub day_report : (lent : LogHeader) (figs : List ℕ) (day : ℕ) (row : List ℕ) → EndsForC row (numbered report_number (report_of lent figs day row))
+pub day_report : (lent : Option Header) (figs : List ℕ) (day : ℕ) (row : List ℕ) → EndsForC row (numbered report_number (report_of lent figs day row))
 day_report lent figs day row = (claims.demand-1).day_report lent figs day row
 
 -- demand 1 of `metlazuel_write_file`: a refused one leaves the length and the lent output
@@ -151,62 +136,62 @@ next-gap v day from slot =
 
 -- ---- asks, lapses and replies
 
-ask-read : (a : AskRead) (v : View) (bs : List ℕ) (address day slot : ℕ) (out : List ℕ) → EndsForC (bs, out) (ask_for_c a v bs address day slot out)
+ask-read : (a : Option (Option OpenAsk)) (v : View) (bs : List ℕ) (address day slot : ℕ) (out : List ℕ) → EndsForC (bs, out) (ask_for_c a v bs address day slot out)
 unfolding ask_for_c
-ask-read (Read held) v bs address day slot out =
+ask-read (Some held) v bs address day slot out =
     let e = (claims.demand-1).put_ask v held address day slot out in
     record {
       in-table = e.in-table;
       unchanged = λ n.
-          ap (λ (p : OpenAsk × List ℕ). (ask_left held p.0 bs, p.1)) (e.unchanged n) ∙ ap (λ (x : List ℕ). (x, out)) (kept-bytes bs held);
+          ap (λ (p : Option OpenAsk × List ℕ). (ask_left held p.0 bs, p.1)) (e.unchanged n) ∙ ap (λ (x : List ℕ). (x, out)) (kept-bytes bs held);
     }
-ask-read Unreadable v bs address day slot out = unread (length out) read_size (bs, out)
+ask-read None v bs address day slot out = unread (length out) read_size (bs, out)
 
 -- demand 1 of `metlazuel_ask`: a refused one leaves the ask's bytes and the output
 pub ask : (v : View) (bs : List ℕ) (address day slot : ℕ) (out : List ℕ) → EndsForC (bs, out) (ask_for_c (ask_of bs) v bs address day slot out)
 ask v bs address day slot out = ask-read (ask_of bs) v bs address day slot out
 
-lapse-read : (a : AskRead) (log bs : List ℕ) → EndsForC (log, bs) (lapse_for_c a log bs)
+lapse-read : (a : Option (Option OpenAsk)) (log bs : List ℕ) → EndsForC (log, bs) (lapse_for_c a log bs)
 unfolding lapse_for_c step in_table
-lapse-read (Read held) log bs =
+lapse-read (Some held) log bs =
     let e = (claims.demand-1).lapse (record { log = log; figures = []; held = held }) in
     record {
       in-table = e.in-table;
       unchanged = λ n.
           ap (λ (s : State). (s.log, ask_left held s.held bs)) (e.unchanged n) ∙ ap (λ (x : List ℕ). (log, x)) (kept-bytes bs held);
     }
-lapse-read Unreadable log bs = stays 28 (log, bs) refl
+lapse-read None log bs = stays 28 (log, bs) refl
 
 -- demand 1 of `metlazuel_lapse`: a refused one leaves the log and the ask's bytes
 pub lapse : (log bs : List ℕ) → EndsForC (log, bs) (lapse_for_c (ask_of bs) log bs)
 lapse log bs = lapse-read (ask_of bs) log bs
 
 -- demand 1 of `metlazuel_lapse`, "with nothing open a lapse does nothing and answers 0", over any log
-pub lapse_none : (log bs : List ℕ) → ask_of bs ≡ Read Closed → lapse_for_c (ask_of bs) log bs ≡ outcome 0 (log, bs)
+pub lapse_none : (log bs : List ℕ) → ask_of bs ≡ Some None → lapse_for_c (ask_of bs) log bs ≡ outcome 0 (log, bs)
 unfolding lapse_for_c ask_left lapse-of.lapsed lapse-of.lapsing applied
 lapse_none log bs e = rw e
 
-take-read : (a : AskRead) (b : LogAndRows) (bs reply : List ℕ) (result size : ℕ) → let o = take_for_c a b bs reply result size in let n = o.result in
+take-read : (a : Option (Option OpenAsk)) (b : LogAndRows) (bs reply : List ℕ) (result size : ℕ) → let o = take_for_c a b bs reply result size in let n = o.result in
     Ends {A = ℕ × ℕ × LogAndRows × List ℕ} n
-    (result_after n reply result, received_after n reply size, b, cond (closes_ask n) (written bs 0 (ask_bytes Closed)) bs) o.left
+    (result_after n reply result, received_after n reply size, b, cond (closes_ask n) (written bs 0 (ask_bytes None)) bs) o.left
 unfolding take_for_c result_after received_after in_table
-take-read (Read held) b bs reply result size =
+take-read (Some held) b bs reply result size =
     let e = (claims.demand-1).take_reply b held reply in
     let g = taken-given held reply bs result size b in
     record { in-table = e.in-table; unchanged = λ n. rw (e.unchanged n, g.result-is, g.length-is, g.ask-is) refl }
-take-read Unreadable b bs reply result size = record { in-table = refl; unchanged = λ n. refl }
+take-read None b bs reply result size = record { in-table = refl; unchanged = λ n. refl }
 
 -- demand 1 of `metlazuel_take`: a refused one keeps log and figures, 24 and 25 close the ask, 24 gives the result and 50 the length
 pub take : (b : LogAndRows) (bs reply : List ℕ) (result size : ℕ) → let o = take_for_c (ask_of bs) b bs reply result size in let n = o.result in
     Ends {A = ℕ × ℕ × LogAndRows × List ℕ} n
-    (result_after n reply result, received_after n reply size, b, cond (closes_ask n) (written bs 0 (ask_bytes Closed)) bs) o.left
+    (result_after n reply result, received_after n reply size, b, cond (closes_ask n) (written bs 0 (ask_bytes None)) bs) o.left
 take b bs reply result size = take-read (ask_of bs) b bs reply result size
 
-read_length : (a : AskRead) (b : LogAndRows) (bs reply : List ℕ) (result size : ℕ) → let o = take_for_c a b bs reply result size in
+read_length : (a : Option (Option OpenAsk)) (b : LogAndRows) (bs reply : List ℕ) (result size : ℕ) → let o = take_for_c a b bs reply result size in
     o.left.1 ≡ received_after o.result reply size
 unfolding take_for_c received_after
-read_length (Read held) b bs reply result size = (taken-given held reply bs result size b).length-is
-read_length Unreadable b bs reply result size = refl
+read_length (Some held) b bs reply result size = (taken-given held reply bs result size b).length-is
+read_length None b bs reply result size = refl
 
 -- demand 1 of `metlazuel_take`: 50 alone gives the length received, and every other answer leaves the lent one
 pub take_length : (b : LogAndRows) (bs reply : List ℕ) (result size : ℕ) → let o = take_for_c (ask_of bs) b bs reply result size in
@@ -221,27 +206,16 @@ pub request : (reading : Reading) (address parameter offset tariff detail : ℕ)
 request reading address parameter offset tariff detail out =
     (claims.demand-1).put_request (request_from reading address parameter offset tariff detail) out
 
-row_kept : (d : Decoded) (reply row : List ℕ) → (reader.number_of d ≡ 0 → ⊥) → written row 0 (figure_row d reply) ≡ row
+row_kept : (d : Result Decoded DecodeError) (reply row : List ℕ) → (reader.number_of d ≡ 0 → ⊥) → written row 0 (figure_row d reply) ≡ row
 unfolding figure_row written
-row_kept decoded.OutOfRange reply row n = refl
-row_kept (decoded.Malformed fault) reply row n = refl
-row_kept (decoded.MeterRefused result) reply row n = refl
-row_kept decoded.NotFinite reply row n = refl
-row_kept (decoded.Address a) reply row n = absurd (n refl)
-row_kept (decoded.Telemetry t) reply row n = absurd (n refl)
-row_kept (decoded.DateTime t) reply row n = absurd (n refl)
-row_kept (decoded.DisplayMask m) reply row n = absurd (n refl)
-row_kept (decoded.Powers p) reply row n = absurd (n refl)
-row_kept (decoded.OnePower p) reply row n = absurd (n refl)
-row_kept (decoded.Slice c) reply row n = absurd (n refl)
-row_kept decoded.SixSlices reply row n = absurd (n refl)
-row_kept (decoded.Displayed e) reply row n = absurd (n refl)
+row_kept (Err refusal) reply row n = refl
+row_kept (Ok figures) reply row n = absurd (n refl)
 
 module _ (q : Request) (reply row : List ℕ) (count result size : ℕ) where
   abbrev Told : Outcome ℕ (ℕ × ℕ × ℕ × List ℕ) → Type 0
   Told o = Ends {A = ℕ × ℕ × ℕ × List ℕ} o.result (count, result_after o.result reply result, received_after o.result reply size, row) o.left
 
-  decoded-ends : (d : Decoded) → Told (decoded_for_c d reply row count result size)
+  decoded-ends : (d : Result Decoded DecodeError) → Told (decoded_for_c d reply row count result size)
   unfolding count_after
   decoded-ends d = record { in-table = (claims.demand-1).decode d; unchanged = λ n. rw (ne_eqb _ _ n, row_kept d reply row n) }
 
@@ -261,13 +235,12 @@ module _ (q : Request) (reply row : List ℕ) (count result size : ℕ) where
 
 -- ---- the bench meter
 
-bytes-kept : (a : RecordAnswer) (bs : List ℕ) → (answer_record.number_of a ≡ 0 → ⊥) → bytes_after a bs ≡ bs
+bytes-kept : (a : Result Record RecordError) (bs : List ℕ) → (answer_record.number_of a ≡ 0 → ⊥) → bytes_after a bs ≡ bs
 unfolding bytes_after
-bytes-kept (given.Done r) bs n = absurd (n refl)
-bytes-kept given.OutOfRange bs n = refl
-bytes-kept given.Unsound bs n = refl
+bytes-kept (Ok r) bs n = absurd (n refl)
+bytes-kept (Err refusal) bs n = refl
 
-bench : (a : RecordAnswer) (bs : List ℕ) → EndsForC bs (bench_for_c a bs)
+bench : (a : Result Record RecordError) (bs : List ℕ) → EndsForC bs (bench_for_c a bs)
 bench a bs = record { in-table = (claims.demand-1).record_given a; unchanged = bytes-kept a bs }
 
 -- demand 1 of `metlazuel_meter_make`: a refused one leaves the record's bytes
@@ -290,12 +263,12 @@ meter_powers bs parameter a b c = bench (powers_in (record_of bs) parameter (pha
 pub meter_ratios : (bs : List ℕ) (ki ku : ℕ) → EndsForC bs (bench_for_c (ratios_in (record_of bs) (ratios_from ki ku)) bs)
 meter_ratios bs ki ku = bench (ratios_in (record_of bs) (ratios_from ki ku)) bs
 
-slice-ends : (read : RecordRead) (bs s : List ℕ) (k : Key) (counts : List ℕ) → EndsForC (bs, s) (put_for_c (slice_in read s k counts) bs)
+slice-ends : (read : Option Record) (bs s : List ℕ) (k : Key) (counts : List ℕ) → EndsForC (bs, s) (put_for_c (slice_in read s k counts) bs)
 unfolding slice_in bytes_after in_table
-slice-ends (of-record.Read r) bs s k counts =
+slice-ends (Some r) bs s k counts =
     let e = (claims.demand-1).put_slice r s k counts in
     record { in-table = e.in-table; unchanged = λ n. rw (bytes-kept _ bs n, e.unchanged n) }
-slice-ends of-record.Unreadable bs s k counts = stays 28 (bs, s) refl
+slice-ends None bs s k counts = stays 28 (bs, s) refl
 
 -- demand 1 of `metlazuel_meter_slice`: a refused one leaves the record's bytes and the store
 pub meter_slice : (bs s : List ℕ) (month day number e+ e- r+ r- : ℕ)
@@ -309,18 +282,18 @@ unfolding sent_length
 sent true n = refl
 sent false n = refl
 
-not_done : (v : Verdict) → (number_of v ≡ 0 → ⊥) → is_done v ≡ false
-not_done verdict.Done n = absurd (n refl)
-not_done verdict.TooShort n = refl
-not_done verdict.Unsound n = refl
-not_done verdict.Silent n = refl
-not_done verdict.UnknownFunction n = refl
-not_done verdict.UnknownParameter n = refl
-not_done verdict.NotOpen n = refl
-not_done verdict.WrongLength n = refl
-not_done verdict.ByAddressZero n = refl
-not_done verdict.NoAccess n = refl
-not_done verdict.WrongArgument n = refl
+not_done : (v : Result Unit Refusal) → (number_of v ≡ 0 → ⊥) → is_done v ≡ false
+not_done (Ok tt) n = absurd (n refl)
+not_done (Err verdict.TooShort) n = refl
+not_done (Err verdict.Unsound) n = refl
+not_done (Err verdict.Silent) n = refl
+not_done (Err verdict.UnknownFunction) n = refl
+not_done (Err verdict.UnknownParameter) n = refl
+not_done (Err verdict.NotOpen) n = refl
+not_done (Err verdict.WrongLength) n = refl
+not_done (Err verdict.ByAddressZero) n = refl
+not_done (Err verdict.NoAccess) n = refl
+not_done (Err verdict.WrongArgument) n = refl
 
 module _ (n : ℕ) (bs s f out : List ℕ) where
   abbrev Answers : Outcome ℕ (ℕ × List ℕ × List ℕ × List ℕ) → Type 0
@@ -331,30 +304,30 @@ module _ (n : ℕ) (bs s f out : List ℕ) where
   unread-answers true = record { in-table = refl; unchanged = λ r. refl }
   unread-answers false = record { in-table = refl; unchanged = λ r. refl }
 
-  read-answers : (read : RecordRead) → Answers (answer_for_c read n bs s f out)
+  read-answers : (read : Option Record) → Answers (answer_for_c read n bs s f out)
   unfolding answer_for_c bytes_left unread_number
-  read-answers (of-record.Read r) =
+  read-answers (Some r) =
       let e = (claims.demand-1).answer r s f out in
       record {
         in-table = e.in-table;
         unchanged = λ k.
             rw ((claims.demand-1).answer_length r s f out k, sent _ n, not_done _ k, ap (λ (p : Record × List ℕ). p.1) (e.unchanged k));
       }
-  read-answers of-record.Unreadable = unread-answers (ltb (length out) longest)
+  read-answers None = unread-answers (ltb (length out) longest)
 
   -- demand 1 of `metlazuel_meter_answer`: a refused frame leaves record and store, and the length unless a refusal frame is sent
   pub meter_answer : Answers (answer_for_c (record_of bs) n bs s f out)
   meter_answer = read-answers (record_of bs)
 
   unread-output : (b : Bool) → RefusedOutput (cond b 1 28) f out out
-  unread-output true = record { verdict = verdict.TooShort; its_number = refl; output = refl }
-  unread-output false = record { verdict = verdict.Unsound; its_number = refl; output = refl }
+  unread-output true = record { verdict = Err verdict.TooShort; its_number = refl; output = refl }
+  unread-output false = record { verdict = Err verdict.Unsound; its_number = refl; output = refl }
 
-  read-output : (read : RecordRead) → let o = answer_for_c read n bs s f out in (o.result ≡ 0 → ⊥) → RefusedOutput o.result f out o.left.3
+  read-output : (read : Option Record) → let o = answer_for_c read n bs s f out in (o.result ≡ 0 → ⊥) → RefusedOutput o.result f out o.left.3
   unfolding answer_for_c unread_number
-  read-output (of-record.Read r) k =
+  read-output (Some r) k =
       record { verdict = (answer_of r s f out).answer.verdict; its_number = refl; output = (claims.demand-1).answer_output r s f out k }
-  read-output of-record.Unreadable k = unread-output (ltb (length out) longest)
+  read-output None k = unread-output (ltb (length out) longest)
 
   -- demand 1 of `metlazuel_meter_answer`: a refused frame leaves "the short refusal frame where the table gives one" in the output
   pub meter_output : let o = answer_for_c (record_of bs) n bs s f out in (o.result ≡ 0 → ⊥) → RefusedOutput o.result f out o.left.3
@@ -380,7 +353,7 @@ module _ (r : Record) (n : ℕ) (s f out : List ℕ) where
       (λ e. absurd (omega arith)))
 
 -- demand 1 of `metlazuel_meter_answer`: with 0 the length of the reply is told
-pub meter_length : (r : Record) (n : ℕ) (bs s f out : List ℕ) → record_of bs ≡ of-record.Read r
+pub meter_length : (r : Record) (n : ℕ) (bs s f out : List ℕ) → record_of bs ≡ Some r
     → let o = answer_for_c (record_of bs) n bs s f out in o.result ≡ 0 → o.left.0 ≡ (answer_of r s f out).answer.length
 unfolding answer_for_c
 meter_length r n bs s f out e = rw e (stored r n s f out)

@@ -4,6 +4,7 @@ use mathlib.Core.Path.{◌≡◌, refl, sym, ap, ap₂, subst, ◌∙◌}
 use mathlib.Core.List.{List, [], ◌∷◌}
 use Prim.Native.Nat.{ℕ, ◌<◌}
 use lib.ListN.{length}
+use Rattle.std.specs.Prelude.{Err, None, Ok, Option, Result, Some}
 use Rattle.refusal.specs.Outcome.{Outcome}
 use Rattle.byte_numbers.specs.Place.{byte_at}
 use Rattle.energy_log.specs.Pair.{pair_of}
@@ -16,16 +17,14 @@ use Rattle.reader.specs.declared.form.Fault.TheVariants as fault
 use Rattle.logger.specs.Book.{Call, ask, lapse, reply, Answer, plain, run_of, CallBytes, AllBytes}
 use Rattle.logger.specs.Run.{State, take_answer, step, run}
 use Rattle.logger.specs.Lapse as lapse-of
-use Rattle.logger.specs.declared.ask.AskAnswer.{AskAnswer}
-use Rattle.logger.specs.declared.ask.AskAnswer.TheVariants as asked
-use Rattle.logger.specs.declared.no_reply.LapseAnswer.{LapseAnswer}
-use Rattle.logger.specs.declared.no_reply.LapseAnswer.TheVariants as lapsed
-use Rattle.logger.specs.declared.take.TakeAnswer.{TakeAnswer}
-use Rattle.logger.specs.declared.take.TakeAnswer.TheVariants.{Done, TooShort, NoAskOpen, NotInLog, Malformed, MeterRefused, OtherCounts, Unsound}
 use Rattle.logger.specs.declared.held.OpenAsk.{OpenAsk}
+use Rattle.logger.specs.declared.ask.AskError.{AskError}
+use Rattle.logger.specs.declared.no_reply.LapseError.{LapseError}
+use Rattle.logger.specs.declared.take.TakeError.{TakeError}
+use Rattle.logger.specs.declared.ask.AskError.TheVariants as asked
+use Rattle.logger.specs.declared.no_reply.LapseError.TheVariants as lapsed
+use Rattle.logger.specs.declared.take.TakeError.TheVariants.{TooShort, NoAskOpen, NotInLog, Malformed, MeterRefused, OtherCounts, Unsound}
 use Rattle.c_values.specs.Ask.{ask_of}
-use Rattle.c_values.specs.declared.ask.AskRead.{AskRead}
-use Rattle.c_values.specs.declared.ask.AskRead.TheVariants.{Read, Unreadable}
 use Rattle.claims.specs.Demand3.{OtherCell, Elsewhere, SameCell, begin, booked, log_afresh}
 use Rattle.claims.specs.DayFigures.{OtherDay}
 use Rattle.claims.proofs.Claims as claims
@@ -35,34 +34,34 @@ use Rattle.c_claims.proofs.LogLaws as left
 
 -- ---- what C is told is the call's answer
 
-asked-told : (a : AskAnswer) (word size : ℕ) → told (ask-of.number_of a) word size ≡ plain (ask-of.number_of a)
+asked-told : (a : Result Unit AskError) (word size : ℕ) → told (ask-of.number_of a) word size ≡ plain (ask-of.number_of a)
 unfolding told
-asked-told asked.Done word size = refl
-asked-told asked.TooShort word size = refl
-asked-told asked.Unsound word size = refl
-asked-told asked.AlreadyOpen word size = refl
-asked-told asked.NotInLog word size = refl
+asked-told (Ok tt) word size = refl
+asked-told (Err asked.TooShort) word size = refl
+asked-told (Err asked.Unsound) word size = refl
+asked-told (Err asked.AlreadyOpen) word size = refl
+asked-told (Err asked.NotInLog) word size = refl
 
-lapsed-told : (a : LapseAnswer) (word size : ℕ) → told (lapse-of.number_of a) word size ≡ plain (lapse-of.number_of a)
+lapsed-told : (a : Result Unit LapseError) (word size : ℕ) → told (lapse-of.number_of a) word size ≡ plain (lapse-of.number_of a)
 unfolding told
-lapsed-told lapsed.Done word size = refl
-lapsed-told lapsed.NotInLog word size = refl
-lapsed-told lapsed.Unsound word size = refl
+lapsed-told (Ok tt) word size = refl
+lapsed-told (Err lapsed.NotInLog) word size = refl
+lapsed-told (Err lapsed.Unsound) word size = refl
 
-taken-told : (a : TakeAnswer) (word size : ℕ) → told (take.number_of a) (take.result_or a word) (take.length_or a size) ≡ take_answer a
+taken-told : (a : Result Unit TakeError) (word size : ℕ) → told (take.number_of a) (take.result_or a word) (take.length_or a size) ≡ take_answer a
 unfolding told
-taken-told Done word size = refl
-taken-told TooShort word size = refl
-taken-told NoAskOpen word size = refl
-taken-told NotInLog word size = refl
-taken-told (Malformed (fault.Length n)) word size = refl
-taken-told (Malformed fault.Crc) word size = refl
-taken-told (Malformed fault.Address) word size = refl
-taken-told (Malformed fault.Function) word size = refl
-taken-told (Malformed fault.Parameter) word size = refl
-taken-told (MeterRefused result) word size = refl
-taken-told OtherCounts word size = refl
-taken-told Unsound word size = refl
+taken-told (Ok tt) word size = refl
+taken-told (Err TooShort) word size = refl
+taken-told (Err NoAskOpen) word size = refl
+taken-told (Err NotInLog) word size = refl
+taken-told (Err (Malformed (fault.Length n))) word size = refl
+taken-told (Err (Malformed fault.Crc)) word size = refl
+taken-told (Err (Malformed fault.Address)) word size = refl
+taken-told (Err (Malformed fault.Function)) word size = refl
+taken-told (Err (Malformed fault.Parameter)) word size = refl
+taken-told (Err (MeterRefused result)) word size = refl
+taken-told (Err OtherCounts) word size = refl
+taken-told (Err Unsound) word size = refl
 
 -- ---- one call
 
@@ -70,14 +69,14 @@ taken-told Unsound word size = refl
 pub record Holds (m : Lent) (s : State) : Type 0 where
   pub log : m.log ≡ s.log
   pub figures : m.figures ≡ s.figures
-  pub ask : ask_of m.ask ≡ Read s.held
+  pub ask : ask_of m.ask ≡ Some s.held
 
 -- an outcome for C is that of the call below
 pub record Alike (o : Outcome Answer Lent) (p : Outcome Answer State) : Type 0 where
   pub answer : o.result ≡ p.result
   pub holds : Holds o.left p.left
 
-step-alike : (m : Lent) (held : OpenAsk) (c : Call) → ask_of m.ask ≡ Read held → Alike (step_for_c m c) (step (state_of m held) c)
+step-alike : (m : Lent) (held : Option OpenAsk) (c : Call) → ask_of m.ask ≡ Some held → Alike (step_for_c m c) (step (state_of m held) c)
 unfolding step_for_c step ask_for_c lapse_for_c take_for_c take.taken
 step-alike m held (ask address day slot out) e = record {
   answer = rw e (asked-told (ask-of.asked (view_of m.log) held address day slot out).result.answer m.result m.size);
@@ -91,7 +90,7 @@ step-alike m held (reply y) e = record {
   answer = rw e (taken-told (take.taken (log_and_rows m.log m.figures) held y).result.answer m.result m.size);
   holds = record {
     log = rw e refl;
-    figures = ap (λ (a : AskRead). (take_for_c a (log_and_rows m.log m.figures) m.ask y m.result m.size).left.2.figures) e;
+    figures = ap (λ (a : Option (Option OpenAsk)). (take_for_c a (log_and_rows m.log m.figures) m.ask y m.result m.size).left.2.figures) e;
     ask = left.take_left m.ask (log_and_rows m.log m.figures) held y m.result m.size e;
   };
 }
@@ -130,8 +129,8 @@ module _ (m : Lent) (b : Begins m) (calls : List Call) (k : AllBytes calls) wher
   answers = whole.1 ∙ (claims.demand-3).answers first b.start calls k
 
   -- demand 3's `ask-left`: the ask's bytes are read as the ask that the plain book leaves open
-  pub ask-left : ask_of (ran_for_c m calls).left.ask ≡ Read (booked b.start calls).left.held
-  ask-left = whole.0.ask ∙ ap Read ((claims.demand-3).ask-left first b.start calls k)
+  pub ask-left : ask_of (ran_for_c m calls).left.ask ≡ Some (booked b.start calls).left.held
+  ask-left = whole.0.ask ∙ ap Some ((claims.demand-3).ask-left first b.start calls k)
 
   -- demand 3's `figures`: "the figures must be those that a walk over the cells gives" (CR 8)
   pub figures : let after = (ran_for_c m calls).left in Right b.start.header (view_of after.log).cell after.figures
@@ -140,36 +139,36 @@ module _ (m : Lent) (b : Begins m) (calls : List Call) (k : AllBytes calls) wher
 -- ---- what a call leaves alone
 
 -- demand 3's `others`: a call leaves every cell but the one whose ask was open before it
-pub others : (m : Lent) (held : OpenAsk) (c : Call) (j : ℕ) → CallBytes c → ask_of m.ask ≡ Read held → OtherCell (state_of m held) j
+pub others : (m : Lent) (held : Option OpenAsk) (c : Call) (j : ℕ) → CallBytes c → ask_of m.ask ≡ Some held → OtherCell (state_of m held) j
     → SameCell (step_for_c m c).left.log m.log j
 others m held c j b e k = rw (step-alike m held c e).holds.log ((claims.demand-3).others (state_of m held) c j b k)
 
 -- demand 3's `elsewhere`: a call leaves every pair of the log's bits that is none of the open ask's cell (CR 9)
-pub elsewhere : (m : Lent) (held : OpenAsk) (c : Call) (q j : ℕ) → j < 4 → ask_of m.ask ≡ Read held → Elsewhere (state_of m held) q j
+pub elsewhere : (m : Lent) (held : Option OpenAsk) (c : Call) (q j : ℕ) → j < 4 → ask_of m.ask ≡ Some held → Elsewhere (state_of m held) q j
     → pair_of (byte_at (step_for_c m c).left.log q) j ≡ pair_of (byte_at m.log q) j
 elsewhere m held c q j l e k =
     ap (λ (s : List ℕ). pair_of (byte_at s q) j) (step-alike m held c e).holds.log ∙ (claims.demand-3).elsewhere (state_of m held) c q j l k
 
 -- demand 3's `other_days`: a call leaves the figures of every day but the open ask's
-pub other_days : (m : Lent) (held : OpenAsk) (c : Call) (d : ℕ) → ask_of m.ask ≡ Read held → OtherDay (state_of m held) d
+pub other_days : (m : Lent) (held : Option OpenAsk) (c : Call) (d : ℕ) → ask_of m.ask ≡ Some held → OtherDay (state_of m held) d
     → row_at (step_for_c m c).left.figures d ≡ row_at m.figures d
 other_days m held c d e k =
     ap (λ (l : List ℕ). row_at l d) (step-alike m held c e).holds.figures ∙ (claims.day-figures).other_days (state_of m held) c d k
 
 -- demand 3's `unread`: bytes that are read as no ask leave all that is lent
-pub unread : (m : Lent) (c : Call) → ask_of m.ask ≡ Unreadable → (step_for_c m c).left ≡ m
+pub unread : (m : Lent) (c : Call) → ask_of m.ask ≡ None → (step_for_c m c).left ≡ m
 unfolding step_for_c ask_for_c lapse_for_c take_for_c
 unread m (ask address day slot out) e = rw e refl
 unread m lapse e = rw e refl
 unread m (reply y) e = rw e refl
 
 -- what holds of the memory before a call, and after one over bytes that are read as an ask, holds after every call
-by_read : (P : Lent → Type 0) (m : Lent) (c : Call) → P m → ((held : OpenAsk) → ask_of m.ask ≡ Read held → P (step_for_c m c).left) → P (step_for_c m c).left
+by_read : (P : Lent → Type 0) (m : Lent) (c : Call) → P m → ((held : Option OpenAsk) → ask_of m.ask ≡ Some held → P (step_for_c m c).left) → P (step_for_c m c).left
 by_read P m c before after = go (ask_of m.ask) refl
   where
-    go : (a : AskRead) → ask_of m.ask ≡ a → P (step_for_c m c).left
-    go (Read held) e = after held e
-    go Unreadable e = subst P (sym (unread m c e)) before
+    go : (a : Option (Option OpenAsk)) → ask_of m.ask ≡ a → P (step_for_c m c).left
+    go (Some held) e = after held e
+    go None e = subst P (sym (unread m c e)) before
 
 -- demand 3's `as_long`: a call leaves the log its length
 pub as_long : (m : Lent) (c : Call) → length (step_for_c m c).left.log ≡ length m.log

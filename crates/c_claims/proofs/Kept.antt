@@ -5,6 +5,7 @@ use mathlib.Core.List.{List, [], ◌∷◌}
 use Prim.Native.Nat.{ℕ, ◌^◌, ◌<◌}
 use lib.Dec.{eqb, ltb}
 use lib.ListN.{length}
+use Rattle.std.specs.Prelude.{None, Err, Ok, Option, Result, Some}
 use Rattle.test_laws.proofs.Test.{both, either}
 use Rattle.refusal.specs.Outcome.{Outcome}
 use Rattle.byte_numbers.specs.Number.{Bytes}
@@ -17,25 +18,23 @@ use Rattle.parameters.specs.declared.code.Function.TheVariants as function
 use Rattle.slots.specs.Day.{slots_of}
 use Rattle.slots.specs.Key.{is_legal}
 use Rattle.slots.specs.declared.key.Key.{Key}
+use Rattle.meter_clock.specs.declared.season.Season.{Season}
 use Rattle.meter_record.specs.Power.{are_powers}
 use Rattle.meter_record.specs.Ranges.{is_within}
 use Rattle.meter_record.specs.Ratios.{are_ratios}
 use Rattle.meter_record.specs.Record.{fresh, made, second_of, powers_set, set_powers, set_ratios}
 use Rattle.meter_record.specs.Widths.{FitsRecord}
 use Rattle.meter_record.specs.declared.record.Record.{Record}
-use Rattle.meter_record.specs.declared.record.RecordAnswer.{RecordAnswer}
-use Rattle.meter_record.specs.declared.record.RecordAnswer.TheVariants as given
+use Rattle.meter_record.specs.declared.record.RecordError.{RecordError}
+use Rattle.meter_record.specs.declared.record.RecordError.TheVariants as given
 use Rattle.meter_record.proofs.RangeLaws.{hands_back, made-within, second-within, powers-within, ratios-within}
 use Rattle.meter_record_bytes.specs.Record.{record_size, record_of}
 use Rattle.meter_record_bytes.specs.Time.{season_of}
-use Rattle.meter_record_bytes.specs.declared.time.SeasonRead.{SeasonRead}
-use Rattle.meter_record_bytes.specs.declared.time.SeasonRead.TheVariants as season-of
 use Rattle.meter_record_bytes.proofs.RecordLaws.{read-size}
-use Rattle.meter_record_bytes.specs.declared.record.RecordRead.TheVariants.{Read}
 use Rattle.meter_command.specs.Access.{change_allowed}
 use Rattle.meter_command.specs.Command.{function_in, parameter_in, command_of}
 use Rattle.meter_command.specs.Verdict.{is_done}
-use Rattle.meter_command.specs.declared.verdict.Verdict.TheVariants.{Silent, Unsound}
+use Rattle.meter_command.specs.declared.verdict.Refusal.TheVariants.{Silent, Unsound}
 use Rattle.meter_reply_data.specs.Reading.{is_read}
 use Rattle.meter.specs.Bench.{slice_put}
 use Rattle.meter.specs.Effect.{after_by, after_of}
@@ -52,38 +51,36 @@ use Rattle.c_claims.proofs.WidthLaws.{fresh-fits, later-fits, from-fits, powers-
 
 -- bytes that are read as a record whose numbers fit
 abbrev Reads : List ℕ → Record → Type 0
-Reads bs r = (record_of bs ≡ Read r) × FitsRecord r
+Reads bs r = (record_of bs ≡ Some r) × FitsRecord r
 
 -- ---- the bench's calls
 
 -- a record that is handed back has its widths
-abbrev FitsAnswer : RecordAnswer → Type 0
-FitsAnswer (given.Done x) = FitsRecord x
-FitsAnswer given.OutOfRange = Unit
-FitsAnswer given.Unsound = Unit
+abbrev FitsAnswer : Result Record RecordError → Type 0
+FitsAnswer (Ok x) = FitsRecord x
+FitsAnswer (Err refusal) = Unit
 
-bench-reads : (a : RecordAnswer) (bs : List ℕ) (r : Record) → Reads bs r → FitsAnswer a → hands_back a ≡ true → Reads (bytes_after a bs) (record_after a r)
+bench-reads : (a : Result Record RecordError) (bs : List ℕ) (r : Record) → Reads bs r → FitsAnswer a → hands_back a ≡ true → Reads (bytes_after a bs) (record_after a r)
 unfolding bytes_after
-bench-reads (given.Done x) bs r e f h = (read_again bs r x e.0 f h, f)
-bench-reads given.OutOfRange bs r e f h = e
-bench-reads given.Unsound bs r e f h = e
+bench-reads (Ok x) bs r e f h = (read_again bs r x e.0 f h, f)
+bench-reads (Err refusal) bs r e f h = e
 
 module _ (address minutes : ℕ) (t : Telemetry) (c : DateTime) (season : ℕ) where
   made-fits : address < 256 → FitsTelemetry t → FitsAnswer (made_in address minutes t c season)
   unfolding made_in made
   made-fits a f = go (season_of season) refl
     where
-      go : (x : SeasonRead) → season_of season ≡ x → FitsAnswer (made_in address minutes t c season)
-      go (season-of.Read s) e = rw e (either FitsAnswer (is_within (fresh address minutes t c s)) (fresh-fits address minutes t c s a f) tt)
-      go season-of.Unreadable e = rw e tt
+      go : (x : Option Season) → season_of season ≡ x → FitsAnswer (made_in address minutes t c season)
+      go (Some s) e = rw e (either FitsAnswer (is_within (fresh address minutes t c s)) (fresh-fits address minutes t c s a f) tt)
+      go None e = rw e tt
 
   made-back : hands_back (made_in address minutes t c season) ≡ true
   unfolding made_in
   made-back = go (season_of season) refl
     where
-      go : (x : SeasonRead) → season_of season ≡ x → hands_back (made_in address minutes t c season) ≡ true
-      go (season-of.Read s) e = rw e (made-within address minutes t c s)
-      go season-of.Unreadable e = rw e refl
+      go : (x : Option Season) → season_of season ≡ x → hands_back (made_in address minutes t c season) ≡ true
+      go (Some s) e = rw e (made-within address minutes t c s)
+      go None e = rw e refl
 
 second_fits : (r : Record) → FitsRecord r → FitsAnswer (second_of r)
 unfolding second_of
@@ -109,12 +106,12 @@ sound-within : (r : Record) (s : List ℕ) → is_sound r s ≡ true → is_with
 unfolding is_sound
 sound-within r s h = (both (eqb (length s) _) (is_within r) h).1
 
-within-back : (a : RecordAnswer) (s : List ℕ) → keep.hands_back a s ≡ true → hands_back a ≡ true
-within-back (given.Done x) s h = sound-within x s h
-within-back given.OutOfRange s h = refl
-within-back given.Unsound s h = refl
+within-back : (a : Result Record RecordError) (s : List ℕ) → keep.hands_back a s ≡ true → hands_back a ≡ true
+within-back (Ok x) s h = sound-within x s h
+within-back (Err given.OutOfRange) s h = refl
+within-back (Err given.Unsound) s h = refl
 
-abbrev PutFits : Outcome RecordAnswer (List ℕ) → Type 0
+abbrev PutFits : Outcome (Result Record RecordError) (List ℕ) → Type 0
 PutFits o = keep.hands_back o.result o.left ≡ true → FitsAnswer o.result
 
 put-fits : (r : Record) (s : List ℕ) (k : Key) (row : List ℕ) → FitsRecord r → PutFits (slice_put r s k row)
@@ -165,7 +162,7 @@ module _ (bs : List ℕ) (r : Record) (s f out : List ℕ) (e : Reads bs r) (b :
   unfolding answer_of bytes_left
   answer-left = either Left (ltb (length out) longest) (λ k. e) (go (is_sound r s) refl)
     where
-      go : (q : Bool) → is_sound r s ≡ q → Left (cond q (cond (heard r f) (replied (verdict_on r f) r s f out) (reply.unheard Silent r s out)) (reply.unheard Unsound r s out))
+      go : (q : Bool) → is_sound r s ≡ q → Left (cond q (cond (heard r f) (replied (verdict_on r f) r s f out) (reply.unheard (Err Silent) r s out)) (reply.unheard (Err Unsound) r s out))
       go true q = either Left (heard r f) (heard-reads q) (λ k. e)
       go false q = λ k. e
 
@@ -201,18 +198,18 @@ step-alike bs s r (frame f out word) e b =
     record { told = rw e.0 refl; left = record { bytes = rw e.0 o.0; widths = o.1; store = rw e.0 refl } }
 
 -- demand 2's `start`: any bytes that are read as a record hold that meter
-pub start : (bs s : List ℕ) (r : Record) → Bytes bs → record_of bs ≡ Read r → Holds (meter bs s) (meter r s)
+pub start : (bs s : List ℕ) (r : Record) → Bytes bs → record_of bs ≡ Some r → Holds (meter bs s) (meter r s)
 start bs s r b e = record { bytes = e; widths = read_fits bs b r e; store = refl }
 
 -- demand 2's `make_start`: a meter made over 89 bytes is held by them, whatever they held before
 pub make_start : (address minutes : ℕ) (t : Telemetry) (c : DateTime) (season : ℕ) (bs s : List ℕ) (r : Record) → address < 256 → FitsTelemetry t
-    → length bs ≡ record_size → made_in address minutes t c season ≡ given.Done r → let o = make_for_c (made_in address minutes t c season) bs in
+    → length bs ≡ record_size → made_in address minutes t c season ≡ Ok r → let o = make_for_c (made_in address minutes t c season) bs in
     (o.result ≡ 0) × Holds (meter o.left s) (meter r s)
 unfolding make_for_c bytes_after
 make_start address minutes t c season bs s r a f l e =
     let whole : ltb (length bs) record_size ≡ false = rw l refl in
     let fits = subst FitsAnswer e (made-fits address minutes t c season a f) in
-    let back = subst (λ (x : RecordAnswer). hands_back x ≡ true) e (made-back address minutes t c season) in
+    let back = subst (λ (x : Result Record RecordError). hands_back x ≡ true) e (made-back address minutes t c season) in
     rw (whole, e) (refl, record { bytes = read_back bs r l fits back; widths = fits; store = refl })
 
 -- demand 2's `call`: what one call leaves is what the next one reads, and it tells what the call on the record tells
@@ -234,7 +231,7 @@ list m x (c ∷ cs) h b =
 -- demand 2's `change`, "changes the named parameter alone": the bytes after one are read as the record of which demand 2 says it
 pub change : (m : Meter (List ℕ)) (x : Meter Record) (f out : List ℕ) (word : ℕ) → Holds m x → Bytes f → function_in f ≡ function.Change
     → (bytes_step m (frame f out word)).result.number ≡ 0 → let o = answer_of x.kept x.store f out in
-    (record_of (bytes_step m (frame f out word)).left.kept ≡ Read o.answer.after)
+    (record_of (bytes_step m (frame f out word)).left.kept ≡ Some o.answer.after)
     × Permitted (change_allowed (parameter_in f) x.kept.protection.level) f x.kept x.store o
 unfolding record_step
 change m x f out word h b e z =

@@ -8,6 +8,7 @@ use native.Mathlib.Omega.{arith}
 use lib.Dec.{eqb}
 use lib.ListN.{length, take}
 use borrow.Author.Tests.{le-ltb, eq-eqb, ne_eqb}
+use Rattle.std.specs.Prelude.{Ok, Result, Some}
 use Rattle.refusal.specs.Outcome.{outcome}
 use Rattle.byte_numbers.specs.Number.{Bytes}
 use Rattle.byte_numbers.specs.Place.{written}
@@ -24,16 +25,15 @@ use Rattle.parameters.specs.declared.code.Reading.TheVariants.{Stored, Displayed
 use Rattle.request.specs.Request.{request_frame, requested}
 use Rattle.request.specs.Subject.{key_of, subject_of, most_slots, askable}
 use Rattle.request.specs.declared.request.Request.{Request}
-use Rattle.request.specs.declared.request.RequestAnswer.TheVariants.{Done}
 use Rattle.request.proofs.RequestLaws as request
 use Rattle.reader.specs.Reply.{decoded_of, number_of}
 use Rattle.reader.specs.Rows as rows
 use Rattle.reader.specs.declared.reply.Decoded.{Decoded}
+use Rattle.reader.specs.declared.reply.DecodeError.{DecodeError}
 use Rattle.meter_store.specs.Store.{six_of}
 use Rattle.meter_record.specs.Widths.{FitsRecord}
 use Rattle.meter_record.specs.declared.record.Record.{Record}
 use Rattle.meter_record_bytes.specs.Record.{record_of}
-use Rattle.meter_record_bytes.specs.declared.record.RecordRead.TheVariants.{Read}
 use Rattle.meter_command.specs.Command.{function_in}
 use Rattle.meter_command.specs.Verdict.{is_done}
 use Rattle.meter_reply_data.specs.Reading.{phase}
@@ -132,7 +132,7 @@ read-leaves a f bs x e = rw e (both_ways (is_done a.verdict))
     both_ways true = refl
     both_ways false = refl
 
-module _ (bs s : List ℕ) (r : Record) (q : Request) (out : List ℕ) (word : ℕ) (e : record_of bs ≡ Read r)
+module _ (bs s : List ℕ) (r : Record) (q : Request) (out : List ℕ) (word : ℕ) (e : record_of bs ≡ Some r)
     (z : answer_number (answered r s q out) ≡ 0) where
   abbrev o : reply.Outcome
   o = answered r s q out
@@ -171,7 +171,7 @@ module _ (bs s : List ℕ) (r : Record) (q : Request) (out : List ℕ) (word : �
 
     row-own : figure_row (decoded_of q y) y ≡ own_numbers r s q
     row-own =
-        ap (λ (d : Decoded). figure_row d y) decoded-own
+        ap (λ (d : Result Decoded DecodeError). figure_row d y) decoded-own
         ∙ own_row q.reading (parameter_of q.parameter) r s q y (λ six. (claims.demand-2).six_slices r s q out bytes six z)
 
     told : (row : List ℕ) (count result size : ℕ) → length (own_numbers r s q) ≤ length row
@@ -181,7 +181,7 @@ module _ (bs s : List ℕ) (r : Record) (q : Request) (out : List ℕ) (word : �
         ∙ decoded-for-c q y (own_numbers r s q) row count result size decoded-done row-own room
 
 -- `reading`: whatever request the meter answers with 0 is decoded for C to the record's own figures
-pub read : (bs s : List ℕ) (r : Record) (q : Request) (out row : List ℕ) (word count result size : ℕ) → Bytes bs → record_of bs ≡ Read r → Bytes s → FitsRequest q
+pub read : (bs s : List ℕ) (r : Record) (q : Request) (out row : List ℕ) (word count result size : ℕ) → Bytes bs → record_of bs ≡ Some r → Bytes s → FitsRequest q
     → let o = answering bs s (request_frame q) out word in let figures = own_numbers r s q in
     o.result ≡ 0 → length figures ≤ length row → Tells figures row result size (decoding q o row count result size)
 unfolding answer_for_c
@@ -208,7 +208,7 @@ unfolding requested request_frame
 inquired bs s r q room out row word count result size a asks hears many =
     let slots = slots_of r.minutes in
     let most : askable (subject_of q most_slots) ≡ true = rw (request.subject-wider q slots (slots-at-most r.minutes) a.there) a.there in
-    let made : requested q room ≡ outcome Done (written room 0 (request_frame q)) = rw (le-ltb (length room) 8 asks, most) refl in
+    let made : requested q room ≡ outcome (Ok tt) (written room 0 (request_frame q)) = rw (le-ltb (length room) 8 asks, most) refl in
     let frame : take 8 (written room 0 (request_frame q)) ≡ request_frame q = front-again room (request_frame q) 8 (length-framed _) asks in
     let hear = hears-request r q a.fields (by_address r.address q.address a.by) in
     let zero = (claims.demand-2-done).read_done r s q out (record { room = hears; sound = a.sound; hears = hear }) a.there in

@@ -9,6 +9,7 @@ use native.Mathlib.Nat.{zero-add}
 use native.Mathlib.Omega.{arith}
 use lib.Dec.{eqb}
 use lib.ListN.{length, take, drop, drop_of_length-le}
+use Rattle.std.specs.Prelude.{Option, Some, None}
 use Rattle.refusal.specs.Outcome as call
 use Rattle.refusal.specs.Outcome.{Outcome}
 use Rattle.byte_numbers.specs.Number.{Bytes}
@@ -27,20 +28,15 @@ use Rattle.energy_log.specs.View.{View, view_of}
 use Rattle.log_header.specs.Interval.{interval_of}
 use Rattle.log_cell.specs.declared.cell.Cell.{Cell}
 use Rattle.log_cell.specs.declared.cell.Cell.TheVariants.{Gap, Empty, Measured}
-use Rattle.log_cell.specs.declared.cell.CellAnswer.TheVariants.{Good}
 use Rattle.log_header.specs.declared.header.Header.{Header}
-use Rattle.log_header.specs.declared.header.LogHeader.TheVariants.{Sound}
-use Rattle.log_header.specs.declared.interval.Interval.TheVariants.{At}
 use Rattle.day_rows.specs.LogAndRows.{LogAndRows, log_and_rows}
 use Rattle.logger.specs.Book.{Call, AllBytes}
 use Rattle.logger.specs.Take as take-of
-use Rattle.logger.specs.declared.ask.Asked.{Asked}
-use Rattle.logger.specs.declared.take.Taken.{Taken}
+use Rattle.logger.specs.Ask.{Asked}
+use Rattle.logger.specs.Take.{Taken}
 use Rattle.logger.specs.declared.held.OpenAsk.{OpenAsk}
-use Rattle.logger.specs.declared.held.OpenAsk.TheVariants.{Closed, Open}
+use Rattle.logger.specs.Held.{opened_for}
 use Rattle.c_values.specs.Ask.{ask_of, ask_bytes}
-use Rattle.c_values.specs.declared.ask.AskRead.{AskRead}
-use Rattle.c_values.specs.declared.ask.AskRead.TheVariants.{Read}
 use Rattle.c_values.proofs.AskLaws.{ask-size}
 use Rattle.claims.specs.Demand2.{reply_in}
 use Rattle.claims.specs.RegisterToCell as rattle
@@ -96,8 +92,8 @@ counts-shown Empty = refl
 counts-shown (Measured e+ e- r+ r-) = refl
 
 -- what C is told of a good cell
-cell-told : (v : View) (h : Header) (day slot i : ℕ) (c : Cell) (kind : ℕ) (counts : List ℕ) (lapses : ℕ) → v.lent ≡ Sound h → interval_of h day slot ≡ At i
-    → v.cell i ≡ Good c → cell_for_c v day slot kind counts lapses ≡ call.outcome 0 (kind_of c, counts_of c, v.lapses i)
+cell-told : (v : View) (h : Header) (day slot i : ℕ) (c : Cell) (kind : ℕ) (counts : List ℕ) (lapses : ℕ) → v.lent ≡ Some h → interval_of h day slot ≡ Some i
+    → v.cell i ≡ Some c → cell_for_c v day slot kind counts lapses ≡ call.outcome 0 (kind_of c, counts_of c, v.lapses i)
 unfolding cell_for_c
 cell-told v h day slot i c kind counts lapses p n g = rw (p, n, g) refl
 
@@ -108,7 +104,7 @@ frame-read address d slot rest = refl
 
 module _ (bs : List ℕ) (r : Record) (store : List ℕ) (b : LogAndRows) (h : Header) (ask : List ℕ) (address day slot : ℕ) (date : Date) (c : Cell)
     (room out : List ℕ) (word result size : ℕ) (on : SlotOn h day slot date) (m : MeterBytes bs r store h.minutes address)
-    (l : LogWith b h (day * slots_of h.minutes + slot) c) (closed : ask_of ask ≡ Read Closed) (asks : 8 ≤ length room) (hears : 64 ≤ length out) where
+    (l : LogWith b h (day * slots_of h.minutes + slot) c) (closed : ask_of ask ≡ Some None) (asks : 8 ≤ length room) (hears : 64 ≤ length out) where
   -- the calls in Rattle, and what they come to
   abbrev a : call.Outcome Asked (List ℕ)
   a = rattle.asking b.log address day slot room
@@ -139,7 +135,7 @@ module _ (bs : List ℕ) (r : Record) (store : List ℕ) (b : LogAndRows) (h : H
   unfolding ask_for_c ask_left ask_bytes
   asked-whole =
       rw (closed, below-asked.number, below-asked.held)
-      (ap (λ (x : List ℕ). call.outcome 0 (x, a.left)) (whole ask (1 ∷ address ∷ day ∷ slot ∷ []) (ask-size ask Closed closed) refl))
+      (ap (λ (x : List ℕ). call.outcome 0 (x, a.left)) (whole ask (1 ∷ address ∷ day ∷ slot ∷ []) (ask-size ask None closed) refl))
 
   asked : AskedFor asked-c address day slot date room
   asked = rw asked-whole (record { number = refl; ask = refl; wrote = below-asked.wrote })
@@ -168,7 +164,7 @@ module _ (bs : List ℕ) (r : Record) (store : List ℕ) (b : LogAndRows) (h : H
   abbrev opened : List ℕ
   opened = 1 ∷ address ∷ day ∷ slot ∷ []
 
-  read-open : ask_of opened ≡ Read (Open address day slot)
+  read-open : ask_of opened ≡ Some (opened_for address day slot)
   unfolding ask_of
   read-open = refl
 
@@ -177,8 +173,8 @@ module _ (bs : List ℕ) (r : Record) (store : List ℕ) (b : LogAndRows) (h : H
   unfolding take_for_c
   taken-read =
       ap₂ (λ (x : Outcome ℕ (List ℕ × List ℕ)) (y : Outcome ℕ (ℕ × List ℕ × List ℕ × List ℕ)). taking b x y result size) asked-whole answered-whole
-      ∙ ap₂ (λ (x : AskRead) (y : List ℕ). take_for_c x b opened y result size) read-open reply-whole
-      ∙ ap (λ (x : OpenAsk). taken_for_c x (take-of.taken b x (reply_in o)) result size opened) (sym below-asked.held)
+      ∙ ap₂ (λ (x : Option (Option OpenAsk)) (y : List ℕ). take_for_c x b opened y result size) read-open reply-whole
+      ∙ ap (λ (x : Option OpenAsk). taken_for_c x (take-of.taken b x (reply_in o)) result size opened) (sym below-asked.held)
 
   taken-whole : taken-c ≡ call.outcome (number_after c row) (result, size, t.left, 0 ∷ 0 ∷ 0 ∷ 0 ∷ [])
   unfolding ask_bytes result_after received_after

@@ -11,6 +11,7 @@ use lib.Ieee.Scale.{finite}
 use lib.Ieee.Bits.{of_bits-fits}
 use lib.ListN.{length, drop}
 use lib.Seq.{get_or-drop}
+use Rattle.std.specs.Prelude.{Float, None, Option, Some}
 use Rattle.test_laws.proofs.Test.{either}
 use Rattle.byte_numbers.specs.Number.{Bytes}
 use Rattle.byte_numbers.specs.Place.{number_at, written}
@@ -18,10 +19,6 @@ use Rattle.byte_numbers.proofs.PlaceLaws.{number_at-split, number_at-one}
 use Rattle.calendar.specs.declared.time.DateTime.{DateTime}
 use Rattle.wire_values.specs.Mask.{mask_of}
 use Rattle.wire_values.specs.Power.{float_at, power_of, together as three, phases_of, FitsPhases}
-use Rattle.wire_values.specs.declared.power.Power.{Power}
-use Rattle.wire_values.specs.declared.power.Power.TheVariants as power
-use Rattle.wire_values.specs.declared.power.PhasesAnswer.{PhasesAnswer}
-use Rattle.wire_values.specs.declared.power.PhasesAnswer.TheVariants as phases
 use Rattle.wire_values.specs.Telemetry.{FitsTelemetry, telemetry_of}
 use Rattle.wire_values.specs.declared.mask.DisplayMask.{DisplayMask}
 use Rattle.wire_values.specs.declared.power.Phases.{Phases}
@@ -34,6 +31,7 @@ use Rattle.parameters.specs.declared.code.Parameter.{Parameter}
 use Rattle.meter_clock.specs.declared.protection.Protection.{Protection}
 use Rattle.meter_clock.specs.declared.season.Season.{Season}
 use Rattle.meter_clock.specs.declared.season.Time.{Time}
+use Rattle.meter_clock.specs.declared.protection.Level.{Level}
 use Rattle.meter_record.specs.Power.{are_powers}
 use Rattle.meter_record.specs.Ranges.{is_within}
 use Rattle.meter_record.specs.Record.{fresh, later, with_powers, with_ratios}
@@ -45,12 +43,6 @@ use Rattle.meter_record.proofs.PowerLaws.{bounds-finite, powers-bounds}
 use Rattle.meter_record.proofs.RangeLaws.{within}
 use Rattle.meter_record_bytes.specs.Record.{record_size, record_bytes, record_with, together, record_in, record_of}
 use Rattle.meter_record_bytes.proofs.RecordLaws.{record-whole, record-back, record-renewed}
-use Rattle.meter_record_bytes.specs.declared.level.LevelRead.{LevelRead}
-use Rattle.meter_record_bytes.specs.declared.level.LevelRead.TheVariants as level
-use Rattle.meter_record_bytes.specs.declared.time.TimeRead.{TimeRead}
-use Rattle.meter_record_bytes.specs.declared.time.TimeRead.TheVariants as time
-use Rattle.meter_record_bytes.specs.declared.record.RecordRead.{RecordRead}
-use Rattle.meter_record_bytes.specs.declared.record.RecordRead.TheVariants.{Read, Unreadable}
 use Rattle.meter_command.specs.Change.{passwords_after, changed_to, zeroed_to}
 use Rattle.meter_command.proofs.KeepLaws.{zeroed}
 use Rattle.meter_command.specs.Command.{function_in, parameter_in, detail_in, data_in, command_of}
@@ -252,54 +244,54 @@ finite-phases p e =
     record { a = bounds-finite p.a h.a; b = bounds-finite p.b h.b; c = bounds-finite p.c h.c }
 
 -- a record put over bytes that were read as one is read there
-pub read_again : (bs : List ℕ) (r x : Record) → record_of bs ≡ Read r → FitsRecord x → is_within x ≡ true → record_of (written bs 0 (record_bytes x)) ≡ Read x
+pub read_again : (bs : List ℕ) (r x : Record) → record_of bs ≡ Some r → FitsRecord x → is_within x ≡ true → record_of (written bs 0 (record_bytes x)) ≡ Some x
 read_again bs r x e f h =
     let w = within x h in
     record-renewed bs r x e f (finite-phases x.active w.active) (finite-phases x.reactive w.reactive)
 
 -- and a new meter, what is put over any bytes of a record's length
-pub read_back : (bs : List ℕ) (x : Record) → length bs ≡ record_size → FitsRecord x → is_within x ≡ true → record_of (written bs 0 (record_bytes x)) ≡ Read x
+pub read_back : (bs : List ℕ) (x : Record) → length bs ≡ record_size → FitsRecord x → is_within x ≡ true → record_of (written bs 0 (record_bytes x)) ≡ Some x
 read_back bs x l f h =
     let w = within x h in
     ap record_of (record-whole bs x l) ∙ record-back x f (finite-phases x.active w.active) (finite-phases x.reactive w.reactive)
 
 -- ---- and a record that was read from bytes has its widths
 
-abbrev FitsPower : Power → Type 0
-FitsPower (power.Finite x) = T (fits binary32 x)
-FitsPower power.NotFinite = Unit
+abbrev FitsPower : Option Float → Type 0
+FitsPower (Some x) = T (fits binary32 x)
+FitsPower None = Unit
 
-abbrev FitsThree : PhasesAnswer → Type 0
-FitsThree (phases.Finite p) = FitsPhases p
-FitsThree phases.NotFinite = Unit
+abbrev FitsThree : Option Phases → Type 0
+FitsThree (Some p) = FitsPhases p
+FitsThree None = Unit
 
-abbrev FitsRead : RecordRead → Type 0
-FitsRead (Read r) = FitsRecord r
-FitsRead Unreadable = Unit
+abbrev FitsRead : Option Record → Type 0
+FitsRead (Some r) = FitsRecord r
+FitsRead None = Unit
 
 power-fits : (bs : List ℕ) (i : ℕ) → FitsPower (power_of bs i)
 unfolding power_of float_at
 power-fits bs i = either FitsPower (finite (float_at bs i)) (of_bits-fits binary32 (number_at bs i 4)) tt
 
-three-fit : (a b c : Power) → FitsPower a → FitsPower b → FitsPower c → FitsThree (three a b c)
+three-fit : (a b c : Option Float) → FitsPower a → FitsPower b → FitsPower c → FitsThree (three a b c)
 unfolding three
-three-fit power.NotFinite b c x y z = tt
-three-fit (power.Finite a) power.NotFinite c x y z = tt
-three-fit (power.Finite a) (power.Finite b) power.NotFinite x y z = tt
-three-fit (power.Finite a) (power.Finite b) (power.Finite c) x y z = record { a = x; b = y; c = z }
+three-fit None b c x y z = tt
+three-fit (Some a) None c x y z = tt
+three-fit (Some a) (Some b) None x y z = tt
+three-fit (Some a) (Some b) (Some c) x y z = record { a = x; b = y; c = z }
 
 phases-fit : (bs : List ℕ) → FitsThree (phases_of bs)
 unfolding phases_of
 phases-fit bs = three-fit _ _ _ (power-fits bs 0) (power-fits bs 4) (power-fits bs 8)
 
 module _ (bs : List ℕ) (b : Bytes bs) where
-  parts-fit : (l : LevelRead) (t : TimeRead) (a p : PhasesAnswer) → FitsThree a → FitsThree p → FitsRead (together bs l t a p)
+  parts-fit : (l : Option Level) (t : Option Time) (a p : Option Phases) → FitsThree a → FitsThree p → FitsRead (together bs l t a p)
   unfolding together record_with
-  parts-fit level.Unreadable t a p x y = tt
-  parts-fit (level.Read l) time.Unreadable a p x y = tt
-  parts-fit (level.Read l) (time.Read t) phases.NotFinite p x y = tt
-  parts-fit (level.Read l) (time.Read t) (phases.Finite a) phases.NotFinite x y = tt
-  parts-fit (level.Read l) (time.Read t) (phases.Finite a) (phases.Finite p) x y =
+  parts-fit None t a p x y = tt
+  parts-fit (Some l) None a p x y = tt
+  parts-fit (Some l) (Some t) None p x y = tt
+  parts-fit (Some l) (Some t) (Some a) None x y = tt
+  parts-fit (Some l) (Some t) (Some a) (Some p) x y =
       let mask = mask_fits (drop 48 bs) (bytes-behind 48 bs b) in
       record {
         address = b 0;
@@ -321,5 +313,5 @@ module _ (bs : List ℕ) (b : Bytes bs) where
   bytes_fit = either FitsRead (eqb (length bs) 89) (parts-fit _ _ _ _ (phases-fit (drop 54 bs)) (phases-fit (drop 66 bs))) tt
 
   -- for `start`: a record that was read from bytes has numbers that fit
-  pub read_fits : (r : Record) → record_of bs ≡ Read r → FitsRecord r
+  pub read_fits : (r : Record) → record_of bs ≡ Some r → FitsRecord r
   read_fits r e = subst FitsRead e bytes_fit

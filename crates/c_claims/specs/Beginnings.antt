@@ -1,6 +1,6 @@
 -- Where demand 3 begins for C. "Take a fresh log, or one read from a file, with no ask open": what `metlazuel_log_fresh` and `metlazuel_read_file` leave in the
 -- lent memory, of whose bytes C lends the first on, as many as it was told. From there on specs/Demand3.antt speaks. Proofs: `beginnings`, proofs/Claims.antt.
-use Rattle.std.specs.Prelude.{◌≡◌, true, List, [], ◌∷◌, ℕ, ◌≤◌, length, take}
+use Rattle.std.specs.Prelude.{◌≡◌, true, List, [], ◌∷◌, ℕ, ◌≤◌, length, take, Some, None}
 use Rattle.refusal.specs.Outcome.{Outcome}
 use Rattle.byte_numbers.specs.Number.{Bytes}
 use Rattle.log_header.specs.Header.{is_header, cells_of, length_of}
@@ -12,9 +12,7 @@ use Rattle.day_rows.specs.Fresh.{fresh_with}
 use Rattle.day_rows.specs.Rows.{figures_of}
 use Rattle.log_file.specs.File.{is_version, file_bytes, file_bytes_as}
 use Rattle.log_file.specs.Read.{read_file, read_number}
-use Rattle.logger.specs.declared.held.OpenAsk.TheVariants.{Closed}
 use Rattle.c_values.specs.Ask.{ask_of}
-use Rattle.c_values.specs.declared.ask.AskRead.TheVariants.{Read}
 use Rattle.claims.specs.Demand3.{Start}
 use Rattle.metlazuel.specs.Calls.{sized}
 use Rattle.metlazuel.specs.LogCalls.{header_from, image_length, length_after}
@@ -51,9 +49,9 @@ pub record BeginsFrom (f : List ℕ) (m : Lent) : Type 0 where
 
 pub record Beginnings : Type 0 where
   -- "with no ask open": four zero bytes
-  pub none_open : ask_of (0 ∷ 0 ∷ 0 ∷ 0 ∷ []) ≡ Read Closed
+  pub none_open : ask_of (0 ∷ 0 ∷ 0 ∷ 0 ∷ []) ≡ Some None
   -- a fresh log that was made: of the header that C's numbers are, "all gaps"
-  pub fresh : (year month day days minutes ke seasons : ℕ) (log figs : List ℕ) (word : ℕ) (bs : List ℕ) (result size : ℕ) → ask_of bs ≡ Read Closed
+  pub fresh : (year month day days minutes ke seasons : ℕ) (log figs : List ℕ) (word : ℕ) (bs : List ℕ) (result size : ℕ) → ask_of bs ≡ Some None
       → let h = header_from year month day days minutes ke seasons in let o = fresh_for_c h log figs word in
       o.result ≡ 0 → BeginsAs (lent_after o bs result size) h (gaps (cells_of h)) no_lapses
   -- and with the room for it every right header's is made
@@ -61,7 +59,7 @@ pub record Beginnings : Type 0 where
       → let h = header_from year month day days minutes ke seasons in let o = fresh_for_c h log figs word in
       is_header h ≡ true → length_of h ≤ length log → figures_of h ≤ length figs → (o.result ≡ 0) × (o.left.0 ≡ length_of h)
   -- a log that was read: what stands in the file
-  pub file : (f log figs : List ℕ) (word : ℕ) (bs : List ℕ) (result size : ℕ) → Bytes f → ask_of bs ≡ Read Closed → let o = read_for_c f log figs word in
+  pub file : (f log figs : List ℕ) (word : ℕ) (bs : List ℕ) (result size : ℕ) → Bytes f → ask_of bs ≡ Some None → let o = read_for_c f log figs word in
       o.result ≡ 0 → BeginsFrom f (lent_after o bs result size)
   -- and with the room for it the file of every start is read, and gives that log
   pub file_had : (b : LogAndRows) (start : Start b) (log figs : List ℕ) (word : ℕ)

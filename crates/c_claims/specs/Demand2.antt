@@ -3,7 +3,7 @@
 -- changes the named parameter alone, save that protection's 240 seconds start again."
 --
 -- The calls run by the definitions that their contracts cite (specs/MeterRun.antt). Proofs: `demand-2`, proofs/Claims.antt.
-use Rattle.std.specs.Prelude.{◌≡◌, List, [], ◌∷◌, ℕ, ◌^◌, ◌<◌, length}
+use Rattle.std.specs.Prelude.{◌≡◌, List, [], ◌∷◌, ℕ, ◌^◌, ◌<◌, length, Ok, Some}
 use Rattle.refusal.specs.Outcome.{Outcome}
 use Rattle.byte_numbers.specs.Number.{Bytes}
 use Rattle.calendar.specs.declared.time.DateTime.{DateTime}
@@ -12,9 +12,7 @@ use Rattle.wire_values.specs.declared.telemetry.Telemetry.{Telemetry}
 use Rattle.parameters.specs.declared.code.Function.TheVariants as function
 use Rattle.meter_record.specs.Widths.{FitsRecord}
 use Rattle.meter_record.specs.declared.record.Record.{Record}
-use Rattle.meter_record.specs.declared.record.RecordAnswer.TheVariants.{Done}
 use Rattle.meter_record_bytes.specs.Record.{record_size, record_of}
-use Rattle.meter_record_bytes.specs.declared.record.RecordRead.TheVariants.{Read}
 use Rattle.meter_command.specs.Access.{change_allowed}
 use Rattle.meter_command.specs.Command.{command_of}
 use Rattle.meter.specs.Reply.{answer_of}
@@ -24,7 +22,7 @@ use Rattle.c_claims.specs.MeterRun.{MeterCall, make, second, powers, ratios, sli
 
 -- the lent bytes are read as the record, whose numbers fit their widths, and the stores are the same
 pub record Holds (m : Meter (List ℕ)) (x : Meter Record) : Type 0 where
-  pub bytes : record_of m.kept ≡ Read x.kept
+  pub bytes : record_of m.kept ≡ Some x.kept
   pub widths : FitsRecord x.kept
   pub store : m.store ≡ x.store
 
@@ -48,10 +46,10 @@ AllFit (c ∷ cs) = CallFits c × AllFit cs
 
 pub record Demand2C : Type 0 where
   -- any bytes that are read as a record are its start
-  pub start : (bs s : List ℕ) (r : Record) → Bytes bs → record_of bs ≡ Read r → Holds (meter bs s) (meter r s)
+  pub start : (bs s : List ℕ) (r : Record) → Bytes bs → record_of bs ≡ Some r → Holds (meter bs s) (meter r s)
   -- and so is a meter made over 89 bytes, whatever they held
   pub make_start : (address minutes : ℕ) (t : Telemetry) (c : DateTime) (season : ℕ) (bs s : List ℕ) (r : Record) → address < 256 → FitsTelemetry t
-      → length bs ≡ record_size → made_in address minutes t c season ≡ Done r → let o = make_for_c (made_in address minutes t c season) bs in
+      → length bs ≡ record_size → made_in address minutes t c season ≡ Ok r → let o = make_for_c (made_in address minutes t c season) bs in
       (o.result ≡ 0) × Holds (meter o.left s) (meter r s)
   -- what a call leaves is what the next one reads: one call, and any list of them, whatever is answered
   pub call : (m : Meter (List ℕ)) (x : Meter Record) (c : MeterCall) → Holds m x → CallFits c → EndAlike (bytes_step m c) (record_step x c)
@@ -60,5 +58,5 @@ pub record Demand2C : Type 0 where
   -- "changes the named parameter alone": the bytes after a change that is done are read as the record of which demand 2 says it
   pub change : (m : Meter (List ℕ)) (x : Meter Record) (f out : List ℕ) (word : ℕ) → let c = command_of f in Holds m x → Bytes f → c.function ≡ function.Change
       → (bytes_step m (frame f out word)).result.number ≡ 0 → let o = answer_of x.kept x.store f out in
-      (record_of (bytes_step m (frame f out word)).left.kept ≡ Read o.answer.after)
+      (record_of (bytes_step m (frame f out word)).left.kept ≡ Some o.answer.after)
       × Permitted (change_allowed c.parameter x.kept.protection.level) f x.kept x.store o

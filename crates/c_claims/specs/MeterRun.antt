@@ -1,12 +1,12 @@
 -- The meter's calls in a list, on the record itself and for C on its bytes, by the definitions that their contracts cite.
-use Rattle.std.specs.Prelude.{List, [], ◌∷◌, ℕ}
+use Rattle.std.specs.Prelude.{List, [], ◌∷◌, ℕ, Result}
 use Rattle.refusal.specs.Outcome.{Outcome, outcome}
 use Rattle.calendar.specs.declared.time.DateTime.{DateTime}
 use Rattle.wire_values.specs.declared.telemetry.Telemetry.{Telemetry}
 use Rattle.slots.specs.declared.key.Key.{Key}
 use Rattle.meter_record.specs.Record.{second_of, set_powers, set_ratios, number_of}
 use Rattle.meter_record.specs.declared.record.Record.{Record}
-use Rattle.meter_record.specs.declared.record.RecordAnswer.{RecordAnswer}
+use Rattle.meter_record.specs.declared.record.RecordError.{RecordError}
 use Rattle.meter_record_bytes.specs.Record.{record_of}
 use Rattle.meter_command.specs.Verdict as verdict
 use Rattle.meter.specs.Bench.{slice_put}
@@ -41,7 +41,7 @@ pub record Told : Type 0 where
 abbrev pub plain : ℕ → Told
 plain n = record { number = n; length = 0; output = [] }
 
-abbrev pub benched : RecordAnswer → Record → List ℕ → Outcome Told (Meter Record)
+abbrev pub benched : Result Record RecordError → Record → List ℕ → Outcome Told (Meter Record)
 benched a r s = outcome (plain (number_of a)) (meter (record_after a r) s)
 
 -- one call on the record, and the same for C on its bytes

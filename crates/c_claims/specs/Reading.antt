@@ -4,7 +4,7 @@
 --
 -- The row is written out here from record and store, number by number; none of the reader's and C's own words for figures is cited. Proofs: `reading`,
 -- proofs/Claims.antt.
-use Rattle.std.specs.Prelude.{◌≡◌, true, cond, List, [], ◌∷◌, ◌++◌, ◌⊎◌, ℕ, ◌+◌, ◌*◌, ◌≤◌, eqb, length, take}
+use Rattle.std.specs.Prelude.{◌≡◌, true, cond, List, [], ◌∷◌, ◌++◌, ◌⊎◌, ℕ, ◌+◌, ◌*◌, ◌≤◌, eqb, length, take, Some}
 use Rattle.refusal.specs.Outcome.{Outcome, outcome}
 use Rattle.byte_numbers.specs.Number.{Bytes}
 use Rattle.byte_numbers.specs.Place.{written}
@@ -27,7 +27,6 @@ use Rattle.meter_store.specs.Store.{key_of, slice_of, count_at}
 use Rattle.meter_record.specs.declared.record.Ratios.{Ratios}
 use Rattle.meter_record.specs.declared.record.Record.{Record}
 use Rattle.meter_record_bytes.specs.Record.{record_of}
-use Rattle.meter_record_bytes.specs.declared.record.RecordRead.TheVariants.{Read}
 use Rattle.meter_reply_data.specs.Reading.{summer_shown, winter_shown}
 use Rattle.meter.specs.Reply.{is_sound}
 use Rattle.claims.specs.Demand2.{FitsRequest}
@@ -108,7 +107,7 @@ decoding q o row count result size = decode_for_c q (take o.left.0 o.left.3) row
 -- bytes that are read as a sound meter, of an address that is its own or 0, and a request for figures that a meter of its interval has
 pub record Asks (bs s : List ℕ) (r : Record) (q : Request) : Type 0 where
   pub bytes : Bytes bs
-  pub meter : record_of bs ≡ Read r
+  pub meter : record_of bs ≡ Some r
   pub store_bytes : Bytes s
   pub sound : is_sound r s ≡ true
   pub by : (q.address ≡ r.address) ⊎ (q.address ≡ 0)
@@ -127,7 +126,7 @@ Tells figures row result size d = d ≡ outcome 0 (length figures, result, size,
 
 pub record ReadForC : Type 0 where
   -- all that is answered with 0, whatever bytes the record is
-  pub read : (bs s : List ℕ) (r : Record) (q : Request) (out row : List ℕ) (word count result size : ℕ) → Bytes bs → record_of bs ≡ Read r → Bytes s → FitsRequest q
+  pub read : (bs s : List ℕ) (r : Record) (q : Request) (out row : List ℕ) (word count result size : ℕ) → Bytes bs → record_of bs ≡ Some r → Bytes s → FitsRequest q
       → let o = answering bs s (request_frame q) out word in let figures = own_numbers r s q in
       o.result ≡ 0 → length figures ≤ length row → Tells figures row result size (decoding q o row count result size)
   -- and what is asked for is answered with 0

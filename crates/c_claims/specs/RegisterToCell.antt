@@ -3,14 +3,13 @@
 -- "0 gap, 1 empty, 2 measured, and four counts", "E+, E-, R+, R-".
 --
 -- The frame, the reply, the ask's bytes and what C is told of the cell are written out. Proofs: `register-to-cell`, proofs/Claims.antt.
-use Rattle.std.specs.Prelude.{◌≡◌, true, List, [], ◌∷◌, ◌++◌, ◌⊎◌, ℕ, ◌+◌, ◌*◌, ◌≤◌, ◌<◌, length, take, drop}
+use Rattle.std.specs.Prelude.{◌≡◌, true, List, [], ◌∷◌, ◌++◌, ◌⊎◌, ℕ, ◌+◌, ◌*◌, ◌≤◌, ◌<◌, length, take, drop, Some, None}
 use Rattle.refusal.specs.Outcome.{Outcome}
 use Rattle.byte_numbers.specs.Number.{Bytes}
 use Rattle.calendar.specs.declared.date.Date.{Date}
 use Rattle.slots.specs.Day.{slots_of}
 use Rattle.meter_record.specs.declared.record.Record.{Record}
 use Rattle.meter_record_bytes.specs.Record.{record_of}
-use Rattle.meter_record_bytes.specs.declared.record.RecordRead.TheVariants as meter
 use Rattle.meter.specs.Reply.{is_sound}
 use Rattle.energy_log.specs.View.{view_of}
 use Rattle.log_cell.specs.declared.cell.Cell.{Cell}
@@ -18,9 +17,7 @@ use Rattle.log_cell.specs.declared.cell.Cell.TheVariants.{Gap, Empty, Measured}
 use Rattle.log_header.specs.declared.header.Header.{Header}
 use Rattle.day_rows.specs.LogAndRows.{LogAndRows, log_and_rows}
 use Rattle.logger.specs.Book.{Call, AllBytes}
-use Rattle.logger.specs.declared.held.OpenAsk.TheVariants.{Closed}
 use Rattle.c_values.specs.Ask.{ask_of}
-use Rattle.c_values.specs.declared.ask.AskRead.TheVariants.{Read}
 use Rattle.claims.specs.RegisterToCell.{cell_after, number_after, slice_frame, slice_answer, slice_on, SlotOn, LogWith}
 use Rattle.metlazuel.specs.LogCalls.{ask_for_c, take_for_c}
 use Rattle.metlazuel.specs.MeterCalls.{answer_for_c}
@@ -41,7 +38,7 @@ counts_shown (Measured e+ e- r+ r-) = e+ ∷ e- ∷ r+ ∷ r- ∷ []
 -- bytes that are read as a sound meter with this interval that an address means: its own, or 0
 pub record MeterBytes (bs : List ℕ) (r : Record) (store : List ℕ) (minutes address : ℕ) : Type 0 where
   pub bytes : Bytes bs
-  pub reads : record_of bs ≡ meter.Read r
+  pub reads : record_of bs ≡ Some r
   pub store_bytes : Bytes store
   pub sound : is_sound r store ≡ true
   pub interval : r.minutes ≡ minutes
@@ -98,7 +95,7 @@ pub record RegisterToCellC : Type 0 where
   pub joined : (bs : List ℕ) (r : Record) (store : List ℕ) (b : LogAndRows) (h : Header) (ask : List ℕ) (address day slot : ℕ) (date : Date) (c : Cell)
       (room out : List ℕ) (word result size : ℕ)
       → SlotOn h day slot date → MeterBytes bs r store h.minutes address → let i = day * slots_of h.minutes + slot in LogWith b h i c
-      → ask_of ask ≡ Read Closed → 8 ≤ length room → 64 ≤ length out → (kind : ℕ) (counts : List ℕ) (lapses : ℕ)
+      → ask_of ask ≡ Some None → 8 ≤ length room → 64 ≤ length out → (kind : ℕ) (counts : List ℕ) (lapses : ℕ)
       → let a = asking b.log ask address day slot room in let o = answering bs store a out word in let t = taking b a o result size in
       let row = slice_on store date slot in
       AskedFor a address day slot date room × AnsweredBy o bs store address row × TakenBy t c row result size

@@ -1,5 +1,8 @@
 -- What C is given of the Mercury 206's calls: the papers' number, and with it the lent memory as the call leaves it.
-use Rattle.std.specs.Prelude.{cond, List, [], ◌∷◌, ℕ, ltb, length}
+use Rattle.mercury_bench.specs.declared.reply.AnswerError.{AnswerError}
+use Rattle.mercury.specs.declared.reply.DecodeError.{DecodeError}
+use Rattle.std.specs.Prelude.{cond, List, [], ◌∷◌, ℕ, ltb, length, Err, Ok, Result}
+use Rattle.std.specs.Result.{result_unwrap_or}
 use Rattle.byte_numbers.specs.Place.{byte_at, written}
 use Rattle.refusal.specs.Outcome.{Outcome, outcome}
 use Rattle.mercury.specs.Command.{command_of}
@@ -15,8 +18,6 @@ use Rattle.mercury.specs.declared.units.Rest.{Rest}
 use Rattle.mercury.specs.declared.units.Tariffs.{Tariffs}
 use Rattle.mercury_bench.specs.Reply as bench
 use Rattle.mercury_bench.specs.declared.meter.Meter.{Meter}
-use Rattle.mercury_bench.specs.declared.reply.Answered.{Answered}
-use Rattle.mercury_bench.specs.declared.reply.Answered.TheVariants.{Done, TooShort, OutOfRange, Silent}
 
 -- ---- a request
 
@@ -44,20 +45,18 @@ frequency_row f =
     f.frequency.0 ∷ f.rest.0 ∷ f.rest.1 ∷ f.rest.2 ∷ f.rest.3 ∷ f.rest.4 ∷ f.rest.5 ∷ f.rest.6 ∷ []
 
 -- a refusal has no figures
-unfoldable pub figure_row : Decoded → List ℕ
-figure_row (decoded.Tariffs t) = tariffs_row t
-figure_row (decoded.Load l) = load_row l
-figure_row (decoded.Frequency f) = frequency_row f
-figure_row (decoded.Malformed fault) = []
-figure_row decoded.NotDecimal = []
+unfoldable pub figure_row : Result Decoded DecodeError → List ℕ
+figure_row (Ok (decoded.Tariffs t)) = tariffs_row t
+figure_row (Ok (decoded.Load l)) = load_row l
+figure_row (Ok (decoded.Frequency f)) = frequency_row f
+figure_row (Err refusal) = []
 
 -- the lent count: how many figures there are, and untouched by a refusal
-abbrev pub count_after : Decoded → ℕ → ℕ
-count_after (decoded.Tariffs t) before = 4
-count_after (decoded.Load l) before = 3
-count_after (decoded.Frequency f) before = 8
-count_after (decoded.Malformed fault) before = before
-count_after decoded.NotDecimal before = before
+abbrev pub count_after : Result Decoded DecodeError → ℕ → ℕ
+count_after (Ok (decoded.Tariffs t)) before = 4
+count_after (Ok (decoded.Load l)) before = 3
+count_after (Ok (decoded.Frequency f)) before = 8
+count_after (Err refusal) before = before
 
 -- 1 for a row that is shorter than the figures of a reply to this request, then 40, 41
 unfoldable pub decode_for_c : ℕ → ℕ → List ℕ → List ℕ → ℕ → Outcome ℕ (ℕ × List ℕ)
@@ -94,11 +93,8 @@ abbrev pub meter_from : ℕ → Tariffs → Load → Frequency → Meter
 meter_from address t l f = record { address = address; tariffs = t; load = l; frequency = f }
 
 -- the lent length: that of a reply, and untouched by a refusal
-abbrev pub length_after : Answered → ℕ → ℕ
-length_after (Done n) before = n
-length_after TooShort before = before
-length_after OutOfRange before = before
-length_after (Silent fault) before = before
+abbrev pub length_after : Result ℕ AnswerError → ℕ → ℕ
+length_after = result_unwrap_or
 
 -- 1, 27, 40
 unfoldable pub answer_for_c : Meter → List ℕ → List ℕ → ℕ → Outcome ℕ (ℕ × List ℕ)

@@ -1,15 +1,17 @@
 // The bench's answers, from figures that C hands over one by one.
 ghost use Rattle.std.specs.Prelude.{◌≡◌};
 ghost use Rattle.refusal.specs.Outcome.{outcome};
-ghost use Rattle.c_mercury.specs.Calls.{tariffs_from, load_from, rest_from, frequency_from, meter_from, length_after, answer_for_c};
+ghost use Rattle.c_mercury.specs.Calls.{tariffs_from, load_from, rest_from, frequency_from, meter_from, answer_for_c};
 
 use mercury::units::{
     HundredthsOfAmpere, HundredthsOfHertz, Rest, TensOfWattHours, TenthsOfVolt, Watts,
 };
 use mercury::{Frequency, Load, Tariffs};
-use mercury_bench::{Answered, Meter};
+use mercury_bench::Meter;
+use refusal::Numbered;
 
 // The reply goes to the front of `out` and its length to `length`; a refusal leaves both.
+#[tactic(auto, unfolding(crate::specs::Calls::answer_for_c))]
 pub fn answer(
     address: u32,
     first: u32,
@@ -30,13 +32,13 @@ pub fn answer(
         request.now out.old length.old }
 {
     let m = Meter {
-        address: address,
+        address,
         tariffs: tariffs(first, second, third, fourth),
         load: load(voltage, current, power),
         frequency: frequency_of(frequency, rest),
     };
     let answered = mercury_bench::answer(m, request, out);
-    *length = length_after(answered, *length);
+    *length = answered.unwrap_or(*length);
     answered.number()
 }
 
@@ -83,15 +85,4 @@ fn rest_of(rest: &[u8]) -> Rest
         byte_numbers::byte_at(rest, 5),
         byte_numbers::byte_at(rest, 6),
     )
-}
-
-fn length_after(a: Answered, before: usize) -> usize
-    ensures { result ≡ length_after a before }
-{
-    match a {
-        Answered::Done(n) => n,
-        Answered::TooShort => before,
-        Answered::OutOfRange => before,
-        Answered::Silent(_) => before,
-    }
 }

@@ -11,8 +11,10 @@ ghost use Rattle.c_mercury.specs.Calls.{request_for_c};
 
 pub use answering::answer;
 pub use decoding::decode;
+use refusal::Numbered;
 
 // A request's frame to the front of `out`.
+#[tactic(auto, unfolding(crate::specs::Calls::request_for_c))]
 pub fn request(address: u32, code: u8, out: &mut [u8]) -> u8
     ensures { outcome result out.new ≡ request_for_c address code out.old }
 {

@@ -1,6 +1,7 @@
 -- Decoded figures as rows of 32-bit numbers. Source: document 01, "The bench meter's record", whose bullets name each parameter's figures;
 -- their order in the row is this project's own: that of the bullets, and for a date and time the calendar's.
-use Rattle.std.specs.Prelude.{List, [], ◌∷◌, ◌++◌, ℕ, get_or}
+use Rattle.std.specs.Prelude.{List, [], ◌∷◌, ◌++◌, ℕ, get_or, Err, Ok, Result, None, Option, Some}
+use Rattle.reader.specs.declared.reply.DecodeError.{DecodeError}
 use Rattle.calendar.specs.declared.time.DateTime.{DateTime}
 use Rattle.wire_values.specs.Power.{bits_of}
 use Rattle.wire_values.specs.declared.displayed.Energies.{Energies}
@@ -9,15 +10,14 @@ use Rattle.wire_values.specs.declared.power.Powers.{Powers}
 use Rattle.wire_values.specs.declared.telemetry.Telemetry.{Telemetry}
 use Rattle.parameters.specs.Table.{figure_count}
 use Rattle.request.specs.declared.subject.Subject.{Subject}
-use Rattle.request.specs.declared.subject.Subject.TheVariants.{Figures, Nothing}
 use Rattle.reader.specs.Rows.{reply_data, four_of, six_of}
 use Rattle.reader.specs.declared.reply.Decoded.{Decoded}
 use Rattle.reader.specs.declared.reply.Decoded.TheVariants as decoded
 
 -- how many figures a reply has that is done; a request that asks for nothing has none
-abbrev pub figures_for : Subject → ℕ
-figures_for (Figures reading p detail) = figure_count reading p detail
-figures_for Nothing = 0
+abbrev pub figures_for : Option Subject → ℕ
+figures_for (Some asked) = figure_count asked.reading asked.parameter asked.detail
+figures_for None = 0
 
 -- "pulses K (4 bytes), Ke (2), reserve (2, kept as written)"
 abbrev pub telemetry_row : Telemetry → List ℕ
@@ -51,17 +51,14 @@ unfolding row_at
 six_row rows = row_at rows 0 ++ (row_at rows 1 ++ (row_at rows 2 ++ (row_at rows 3 ++ (row_at rows 4 ++ row_at rows 5))))
 
 -- the figures of a decoded reply y; a refusal has none
-unfoldable pub figure_row : Decoded → List ℕ → List ℕ
-figure_row decoded.OutOfRange y = []
-figure_row (decoded.Malformed fault) y = []
-figure_row (decoded.MeterRefused result) y = []
-figure_row decoded.NotFinite y = []
-figure_row (decoded.Address a) y = a ∷ []
-figure_row (decoded.Telemetry t) y = telemetry_row t
-figure_row (decoded.DateTime t) y = time_row t
-figure_row (decoded.DisplayMask m) y = mask_row m
-figure_row (decoded.Powers p) y = powers_row p
-figure_row (decoded.OnePower p) y = bits_of p ∷ []
-figure_row (decoded.Slice s) y = four_of s
-figure_row decoded.SixSlices y = six_row (six_of (reply_data y))
-figure_row (decoded.Displayed e) y = energies_row e
+unfoldable pub figure_row : Result Decoded DecodeError → List ℕ → List ℕ
+figure_row (Err refusal) y = []
+figure_row (Ok (decoded.Address a)) y = a ∷ []
+figure_row (Ok (decoded.Telemetry t)) y = telemetry_row t
+figure_row (Ok (decoded.DateTime t)) y = time_row t
+figure_row (Ok (decoded.DisplayMask m)) y = mask_row m
+figure_row (Ok (decoded.Powers p)) y = powers_row p
+figure_row (Ok (decoded.OnePower p)) y = bits_of p ∷ []
+figure_row (Ok (decoded.Slice s)) y = four_of s
+figure_row (Ok decoded.SixSlices) y = six_row (six_of (reply_data y))
+figure_row (Ok (decoded.Displayed e)) y = energies_row e

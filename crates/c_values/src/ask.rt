@@ -8,46 +8,31 @@ ghost use Rattle.c_values.specs.Ask.{ask_bytes, ask_of};
 
 use logger::OpenAsk;
 
-pub const ASK_BYTES: usize = 4;
-
 // The first byte.
 const CLOSED: u8 = 0;
 
 const OPEN: u8 = 1;
 
-#[derive(Clone, Copy)]
-pub enum AskRead {
-    Read(OpenAsk),
-    Unreadable,
-}
-
-pub fn ask_of(bytes: &[u8]) -> AskRead
+// The ask that is open, if one is; `None` where the bytes are no ask.
+#[tactic(auto, unfolding(crate::specs::Ask::ask_of))]
+pub fn ask_of(bytes: &[u8]) -> Option<Option<OpenAsk>>
     ensures { result ≡ ask_of bytes.now }
 {
-    if bytes.len() != ASK_BYTES {
-        return AskRead::Unreadable;
+    match *bytes {
+        [CLOSED, _, _, _] => Some(None),
+        [OPEN, address, day, slot] => Some(Some(OpenAsk { address, day, slot })),
+        _ => None,
     }
-    let first = byte_numbers::byte_at(bytes, 0);
-    if first == CLOSED {
-        return AskRead::Read(OpenAsk::Closed);
-    }
-    if first == OPEN {
-        return AskRead::Read(OpenAsk::Open(
-            byte_numbers::byte_at(bytes, 1),
-            byte_numbers::byte_at(bytes, 2),
-            byte_numbers::byte_at(bytes, 3),
-        ));
-    }
-    AskRead::Unreadable
 }
 
 // As far as there is room.
-pub fn put_ask(out: &mut [u8], held: OpenAsk)
+#[tactic(auto, unfolding(crate::specs::Ask::ask_bytes))]
+pub fn put_ask(out: &mut [u8], held: Option<OpenAsk>)
     ensures { out.new ≡ written out.old 0 (ask_bytes held) }
 {
     match held {
-        OpenAsk::Closed => byte_numbers::put_bytes(out, 0, &[CLOSED, 0, 0, 0]),
-        OpenAsk::Open(address, day, slot) => {
+        None => byte_numbers::put_bytes(out, 0, &[CLOSED, 0, 0, 0]),
+        Some(OpenAsk { address, day, slot }) => {
             byte_numbers::put_bytes(out, 0, &[OPEN, address, day, slot])
         }
     }

@@ -8,58 +8,60 @@ ghost use Rattle.c_values.specs.Row.{figures_for, time_row, powers_row, six_row,
 
 use calendar::DateTime;
 use parameters::table;
-use reader::Decoded;
+use reader::{DecodeError, Decoded};
 use request::Subject;
 use wire_values::{Energies, Powers, Row};
 
 // How many figures a reply has that is done.
-pub fn figures_for(subject: Subject) -> usize
+pub fn figures_for(subject: Option<Subject>) -> usize
     ensures { result ≡ figures_for subject }
 {
     match subject {
-        Subject::Figures(reading, p, detail) => table::figure_count(reading, p, detail),
-        Subject::Nothing => 0,
+        Some(asked) => table::figure_count(asked.reading, asked.parameter, asked.detail),
+        None => 0,
     }
 }
 
 // Puts the figures to the front of a row, as far as it has room. The rows of six slices stand in the reply itself.
-pub fn put_figures(row: &mut [u32], d: Decoded, reply: &[u8])
+#[tactic(auto, unfolding(crate::specs::Row::figure_row, byte_numbers::specs::Place::written))]
+pub fn put_figures(row: &mut [u32], d: Result<Decoded, DecodeError>, reply: &[u8])
     ensures { row.new ≡ written row.old 0 (figure_row d reply.now) }
 {
     match d {
-        Decoded::OutOfRange => {}
-        Decoded::Malformed(_) => {}
-        Decoded::MeterRefused(_) => {}
-        Decoded::NotFinite => {}
-        Decoded::Address(a) => put_run(row, 0, &[a as u32]),
-        Decoded::Telemetry(t) => put_run(row, 0, &[t.k, t.ke as u32, t.reserve as u32]),
-        Decoded::DateTime(t) => put_time(row, t),
-        Decoded::DisplayMask(m) => {
-            put_run(
+        Err(_) => {}
+        Ok(Decoded::Address(a)) => byte_numbers::put_all(row, 0, &[a as u32]),
+        Ok(Decoded::Telemetry(t)) => byte_numbers::put_all(
+            row,
+            0,
+            &[t.k, t.ke as u32, t.reserve as u32],
+        ),
+        Ok(Decoded::DateTime(t)) => put_time(row, t),
+        Ok(Decoded::DisplayMask(m)) => {
+            byte_numbers::put_all(
                 row,
                 0,
                 &[m.parameters, m.tariffs as u32, m.directions as u32],
             )
         }
-        Decoded::Powers(p) => put_powers(row, p),
-        Decoded::OnePower(p) => put_run(row, 0, &[wire_values::bits_of(p)]),
-        Decoded::Slice(s) => put_slice(row, s),
-        Decoded::SixSlices => put_six(row, reader::six_slices(reply)),
-        Decoded::Displayed(e) => put_energies(row, e),
+        Ok(Decoded::Powers(p)) => put_powers(row, p),
+        Ok(Decoded::OnePower(p)) => byte_numbers::put_all(row, 0, &[wire_values::bits_of(p)]),
+        Ok(Decoded::Slice(s)) => put_slice(row, s),
+        Ok(Decoded::SixSlices) => put_six(row, reader::six_slices(reply)),
+        Ok(Decoded::Displayed(e)) => put_energies(row, e),
     }
 }
 
+#[tactic(auto, unfolding(crate::specs::Row::time_row))]
 fn put_time(row: &mut [u32], t: DateTime)
     ensures { row.new ≡ written row.old 0 (time_row t) }
 {
-    let date = t.date;
-    put_run(
+    byte_numbers::put_all(
         row,
         0,
         &[
-            date.year as u32,
-            date.month as u32,
-            date.day as u32,
+            t.date.year as u32,
+            t.date.month as u32,
+            t.date.day as u32,
             t.hour as u32,
             t.minute as u32,
             t.second as u32,
@@ -67,18 +69,18 @@ fn put_time(row: &mut [u32], t: DateTime)
     );
 }
 
+#[tactic(auto, unfolding(crate::specs::Row::powers_row))]
 fn put_powers(row: &mut [u32], p: Powers)
     ensures { row.new ≡ written row.old 0 (powers_row p) }
 {
-    let phases = p.phases;
-    put_run(
+    byte_numbers::put_all(
         row,
         0,
         &[
             wire_values::bits_of(p.total),
-            wire_values::bits_of(phases.a),
-            wire_values::bits_of(phases.b),
-            wire_values::bits_of(phases.c),
+            wire_values::bits_of(p.phases.a),
+            wire_values::bits_of(p.phases.b),
+            wire_values::bits_of(p.phases.c),
         ],
     );
 }
@@ -86,7 +88,7 @@ fn put_powers(row: &mut [u32], p: Powers)
 fn put_slice(row: &mut [u32], s: Row)
     ensures { row.new ≡ written row.old 0 (four_of s) }
 {
-    put_run(
+    byte_numbers::put_all(
         row,
         0,
         &[
@@ -99,17 +101,15 @@ fn put_slice(row: &mut [u32], s: Row)
 }
 
 // Each as the bits of its float.
+#[tactic(auto, unfolding(crate::specs::Row::energies_row))]
 fn put_energies(row: &mut [u32], e: Energies)
     ensures { row.new ≡ written row.old 0 (energies_row e) }
 {
-    let e_plus = e.e_plus;
-    let e_minus = e.e_minus;
-    let r_plus = e.r_plus;
-    let r_minus = e.r_minus;
-    put_run(row, 0, &[e_plus.0, e_minus.0, r_plus.0, r_minus.0]);
+    byte_numbers::put_all(row, 0, &[e.e_plus.0, e.e_minus.0, e.r_plus.0, e.r_minus.0]);
 }
 
-// Six rows one behind the other.
+// Six rows one behind the other, each named: a loop would be no shorter.
+#[tactic(auto, unfolding(crate::specs::Row::six_row, crate::specs::Row::counts_row, byte_numbers::specs::Place::written))]
 fn put_six(row: &mut [u32], rows: [[u16; 4]; 6])
     ensures { row.new ≡ written row.old 0 (six_row rows) }
 {
@@ -121,10 +121,11 @@ fn put_six(row: &mut [u32], rows: [[u16; 4]; 6])
     put_counts(row, 20, rows[5]);
 }
 
+#[tactic(auto, unfolding(crate::specs::Row::counts_row))]
 fn put_counts(row: &mut [u32], at: usize, counts: [u16; 4])
     ensures { row.new ≡ written row.old at (counts_row counts) }
 {
-    put_run(
+    byte_numbers::put_all(
         row,
         at,
         &[
@@ -134,21 +135,4 @@ fn put_counts(row: &mut [u32], at: usize, counts: [u16; 4])
             counts[3] as u32,
         ],
     );
-}
-
-// What of the numbers lies past the end of the row is not stored.
-fn put_run(row: &mut [u32], at: usize, numbers: &[u32])
-    ensures { row.new ≡ written row.old at numbers.now }
-{
-    if at < row.len() {
-        let room = row.len() - at;
-        let mut i = 0;
-        while i < numbers.len() {
-            if room <= i {
-                return;
-            }
-            row[at + i] = numbers[i];
-            i += 1;
-        }
-    }
 }

@@ -1,5 +1,7 @@
 -- What follows from the definitions of dates: day numbers and dates correspond one to one, and the days later and earlier are so many
 -- day numbers on and back.
+use Rattle.std.specs.Prelude.{Err, Ok, Result}
+use Rattle.calendar.specs.declared.date.DateError.{DateError}
 use Prim.Native.Nat.{ℕ, ◌+◌, ◌*◌, ◌-◌, ◌/◌, ◌%◌, ◌≤◌, ◌<◌}
 use native.Mathlib.Omega.{arith}
 use native.Mathlib.Numerals.{add-one}
@@ -14,8 +16,7 @@ use Rattle.calendar.proofs.CountLaws.{Lies, starts-mono, ends-before, counted, c
 use Rattle.calendar.specs.Date.{leap, month_lengths, days_in_month, length_of, days_before, century_days, is_date, month_number, day_number, date_at, date_of, date_on, date_back, days_later}
 use Rattle.calendar.proofs.Numbered.{Numbered, Numbering, same, answered, later}
 use Rattle.calendar.specs.declared.date.Date.{Date}
-use Rattle.calendar.specs.declared.date.DateAnswer.{DateAnswer}
-use Rattle.calendar.specs.declared.date.DateAnswer.TheVariants.{On, NotADate, OutOfRange}
+use Rattle.calendar.specs.declared.date.DateError.TheVariants.{NotADate, OutOfRange}
 
 -- ---- Months
 
@@ -217,15 +218,15 @@ number-below d e =
     omega (arith, l.rest_below, ends-before length_of (month_number d) 1200 l.piece-below, century)
 
 -- dates are numbered by their days
-dates : Numbering Date DateAnswer
+dates : Numbering Date (Result Date DateError)
 dates = record {
   is_valid = is_date;
   number_of = day_number;
   bound = century_days;
   nth = date_of;
-  found = On;
-  outside = OutOfRange;
-  none = NotADate;
+  found = Ok;
+  outside = Err OutOfRange;
+  none = Err NotADate;
   nth-is = date-of;
   nth_number = date-of-number;
   number-below = number-below;
@@ -247,26 +248,26 @@ first-of-month d e h = omega (arith, (ranges d e).day-from)
 -- ---- Days later and earlier
 
 -- the answer at a day number is the one date that has it
-pub date-on : (n : ℕ) (e : Date) → DateIs n e → date_on n ≡ On e
+pub date-on : (n : ℕ) (e : Date) → DateIs n e → date_on n ≡ Ok e
 unfolding dates date_on
 date-on = answered dates
 
 -- n days later the day number is n more
-pub days-later : (d : Date) (n : ℕ) (e : Date) → days_later d n ≡ On e → DateIs (day_number d + n) e
+pub days-later : (d : Date) (n : ℕ) (e : Date) → days_later d n ≡ Ok e → DateIs (day_number d + n) e
 unfolding dates days_later date_on
 days-later = later dates
 
 -- days that fit into a month are a date of it
-pub date-found : (k r : ℕ) → k < 1200 → r < length_of k → date_on (days_before k + r) ≡ On (date_at (record { piece = k; rest = r }))
+pub date-found : (k r : ℕ) → k < 1200 → r < length_of k → date_on (days_before k + r) ≡ Ok (date_at (record { piece = k; rest = r }))
 date-found k r hk hr = date-on _ _ (date-at _ (record { piece = k; rest = r }) (record { piece-below = hk; rest_below = hr; total = refl }))
 
 -- no day is left after the last month
-pub date-past : (k r : ℕ) → 1200 ≤ k → date_on (days_before k + r) ≡ OutOfRange
+pub date-past : (k r : ℕ) → 1200 ≤ k → date_on (days_before k + r) ≡ Err OutOfRange
 unfolding dates date_on
 date-past k r h = rw (le-ltb (days_before k + r) century_days (omega (arith, century, starts-mono length_of 1200 k h)))
 
 -- the day before a later day of a month
-pub back-in-month : (d : Date) → is_date d ≡ true → 1 < d.day → date_back (day_number d) 1 ≡ On (record { year = d.year; month = d.month; day = d.day - 1 })
+pub back-in-month : (d : Date) → is_date d ≡ true → 1 < d.day → date_back (day_number d) 1 ≡ Ok (record { year = d.year; month = d.month; day = d.day - 1 })
 unfolding date_back day_number
 back-in-month d e h =
     let r = ranges d e in
@@ -275,7 +276,7 @@ back-in-month d e h =
     rw (le-leb 1 (day_number d) (omega arith)) (date-on _ b (record { valid = is-date b v; number = omega arith }))
 
 -- the day before the first of a month is the last of the month before
-pub back-over-month : (k : ℕ) → k < 1200 → (k ≡ 0 → ⊥) → date_back (days_before k) 1 ≡ On (date_at (record { piece = k - 1; rest = length_of (k - 1) - 1 }))
+pub back-over-month : (k : ℕ) → k < 1200 → (k ≡ 0 → ⊥) → date_back (days_before k) 1 ≡ Ok (date_at (record { piece = k - 1; rest = length_of (k - 1) - 1 }))
 unfolding date_back
 back-over-month k h z =
     let l = length-range (k - 1) (omega arith) in
@@ -285,6 +286,6 @@ back-over-month k h z =
     rw (le-leb 1 (days_before k) (omega arith), s) (date-found (k - 1) (length_of (k - 1) - 1) (omega arith) (omega arith))
 
 -- before the first month there is none
-pub back-past-start : date_back (days_before 0) 1 ≡ OutOfRange
+pub back-past-start : date_back (days_before 0) 1 ≡ Err OutOfRange
 unfolding date_back starts
 back-past-start = refl

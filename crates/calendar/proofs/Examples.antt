@@ -1,4 +1,5 @@
 -- Days to hold the definitions against, computed. Source: any calendar of the years named.
+use Rattle.std.specs.Prelude.{Err, Ok}
 use mathlib.Core.Path.{◌≡◌, refl}
 use mathlib.Core.Bool.{true, false}
 use Prim.Native.Nat.{ℕ}
@@ -7,9 +8,8 @@ use Rattle.calendar.specs.Date.{leap, month_lengths, days_in_month, length_of, i
 use Rattle.calendar.specs.Time.{is_time, second_number, time_of, time_at, seconds_later}
 use Rattle.calendar.specs.Sunday.{weekday}
 use Rattle.calendar.specs.declared.date.Date.{Date}
-use Rattle.calendar.specs.declared.date.DateAnswer.TheVariants.{On}
 use Rattle.calendar.specs.declared.time.DateTime.{DateTime}
-use Rattle.calendar.specs.declared.time.TimeAnswer.TheVariants.{At, OutOfRange}
+use Rattle.calendar.specs.declared.time.TimeError.TheVariants.{OutOfRange}
 
 abbrev date : ℕ → ℕ → ℕ → Date
 date y m d = record { year = y; month = m; day = d }
@@ -31,16 +31,16 @@ new-year : day_number (date 1 1 1) ≡ 366
 unfolding day_number starts length_of days_in_month month_lengths leap
 new-year = refl
 
-over-the-leap-day : days_later (date 4 2 28) 2 ≡ On (date 4 3 1)
+over-the-leap-day : days_later (date 4 2 28) 2 ≡ Ok (date 4 3 1)
 unfolding days_later date_on date_of date_at count_off is_date day_number starts length_of days_in_month month_lengths leap
 over-the-leap-day = refl
 
 -- the last second of 2000 is followed by the first of 2001, and that of 2099 by none
-first-of-2001 : seconds_later (time (date 0 12 31) 23 59 59) 1 ≡ At (time (date 1 1 1) 0 0 0)
+first-of-2001 : seconds_later (time (date 0 12 31) 23 59 59) 1 ≡ Ok (time (date 1 1 1) 0 0 0)
 unfolding seconds_later time_at time_of is_time second_number date_of date_at count_off is_date day_number starts length_of days_in_month month_lengths leap
 first-of-2001 = refl
 
-last-second : seconds_later (time (date 99 12 31) 23 59 59) 1 ≡ OutOfRange
+last-second : seconds_later (time (date 99 12 31) 23 59 59) 1 ≡ Err OutOfRange
 unfolding seconds_later time_at is_time second_number is_date day_number starts length_of days_in_month month_lengths leap
 last-second = refl
 

@@ -1,5 +1,7 @@
 -- What follows from the definitions of times: second numbers and times correspond one to one, and the seconds later and earlier are so
 -- many second numbers on and back.
+use Rattle.std.specs.Prelude.{Err, Ok, Result}
+use Rattle.calendar.specs.declared.time.TimeError.{TimeError}
 use Prim.Native.Nat.{ℕ, ◌+◌, ◌*◌, ◌-◌, ◌/◌, ◌%◌, ◌≤◌, ◌<◌}
 use native.Mathlib.Omega.{arith}
 use mathlib.Core.Path.{◌≡◌, refl}
@@ -14,8 +16,7 @@ use Rattle.calendar.specs.Steps.{on_day}
 use Rattle.calendar.proofs.Numbered.{Numbered, NumberedBefore, Numbering, same, answered, later, earlier}
 use Rattle.calendar.specs.declared.date.Date.{Date}
 use Rattle.calendar.specs.declared.time.DateTime.{DateTime}
-use Rattle.calendar.specs.declared.time.TimeAnswer.{TimeAnswer}
-use Rattle.calendar.specs.declared.time.TimeAnswer.TheVariants.{At, NotATime, OutOfRange}
+use Rattle.calendar.specs.declared.time.TimeError.TheVariants.{NotATime, OutOfRange}
 
 -- what a time's numbers keep to
 pub record TimeRanges (t : DateTime) : Type 0 where
@@ -78,15 +79,15 @@ second_below t e =
     omega (arith, number-below t.date r.date, r.hour-below, r.minute-below, r.second_below)
 
 -- times are numbered by their seconds
-times : Numbering DateTime TimeAnswer
+times : Numbering DateTime (Result DateTime TimeError)
 times = record {
   is_valid = is_time;
   number_of = second_number;
   bound = century_seconds;
   nth = time_of;
-  found = At;
-  outside = OutOfRange;
-  none = NotATime;
+  found = Ok;
+  outside = Err OutOfRange;
+  none = Err NotATime;
   nth-is = time-of;
   nth_number = time-of-number;
   number-below = second_below;
@@ -103,17 +104,17 @@ same_second = same times
 -- ---- Seconds later and earlier
 
 -- the answer at a second number is the one time that has it
-pub time-at : (n : ℕ) (t : DateTime) → TimeIs n t → time_at n ≡ At t
+pub time-at : (n : ℕ) (t : DateTime) → TimeIs n t → time_at n ≡ Ok t
 unfolding times time_at
 time-at = answered times
 
 -- past 2099 there is no time: the clock stands at the century's end
-pub time-past : (n : ℕ) → century_seconds ≤ n → time_at n ≡ OutOfRange
+pub time-past : (n : ℕ) → century_seconds ≤ n → time_at n ≡ Err OutOfRange
 unfolding times time_at
 time-past n h = rw (le-ltb _ _ h)
 
 -- n seconds later the second number is n more
-pub seconds-later : (t : DateTime) (n : ℕ) (u : DateTime) → seconds_later t n ≡ At u → TimeIs (second_number t + n) u
+pub seconds-later : (t : DateTime) (n : ℕ) (u : DateTime) → seconds_later t n ≡ Ok u → TimeIs (second_number t + n) u
 unfolding times seconds_later time_at
 seconds-later = later times
 
@@ -122,7 +123,7 @@ abbrev pub TimeEarlier : DateTime → ℕ → DateTime → Type 0
 TimeEarlier = NumberedBefore is_time second_number
 
 -- an hour back in autumn is a time, and how far back
-pub seconds-earlier : (t : DateTime) (n : ℕ) (u : DateTime) → seconds_earlier t n ≡ At u → TimeEarlier t n u
+pub seconds-earlier : (t : DateTime) (n : ℕ) (u : DateTime) → seconds_earlier t n ≡ Ok u → TimeEarlier t n u
 unfolding times seconds_earlier time_back time_at
 seconds-earlier = earlier times
 
@@ -140,19 +141,19 @@ module _ (t : DateTime) (n h m s : ℕ) (e : is_time t ≡ true) (hh : h < 24) (
   on : Date → DateTime
   on d = record { date = d; hour = h; minute = m; second = s }
 
-  lands : (d : Date) (i k : ℕ) → DateIs i d → i * 86400 + of_day h m s ≡ k → time_at k ≡ At (on d)
+  lands : (d : Date) (i k : ℕ) → DateIs i d → i * 86400 + of_day h m s ≡ k → time_at k ≡ Ok (on d)
   unfolding second_number on
   lands d i k w q = time-at k (on d) (record { valid = is-time (on d) (record { date = w.valid; hour-below = hh; minute-below = hm; second_below = hs }); number = omega (arith, w.number) })
 
   -- `second_after` and `hour_after` before midnight
-  pub later-that-day : of_day t.hour t.minute t.second + n ≡ of_day h m s → seconds_later t n ≡ At (record { date = t.date; hour = h; minute = m; second = s })
+  pub later-that-day : of_day t.hour t.minute t.second + n ≡ of_day h m s → seconds_later t n ≡ Ok (record { date = t.date; hour = h; minute = m; second = s })
   unfolding seconds_later second_number on
   later-that-day q =
       let r = time-ranges t e in
       rw e (lands t.date (day_number t.date) _ (record { valid = r.date; number = refl }) (omega arith))
 
   -- `hour_before` after one o'clock
-  pub earlier-that-day : of_day t.hour t.minute t.second ≡ of_day h m s + n → seconds_earlier t n ≡ At (record { date = t.date; hour = h; minute = m; second = s })
+  pub earlier-that-day : of_day t.hour t.minute t.second ≡ of_day h m s + n → seconds_earlier t n ≡ Ok (record { date = t.date; hour = h; minute = m; second = s })
   unfolding seconds_earlier time_back second_number on
   earlier-that-day q =
       let r = time-ranges t e in

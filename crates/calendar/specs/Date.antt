@@ -1,12 +1,10 @@
 -- Dates of 2000 to 2099 as a count of days. Source: the Gregorian calendar; document 01, "Clock": day, month and year - 2000, one byte
 -- each. A year is counted from 2000, a month and a day from 1; month number k counts the months from January 2000, which is 0.
-use Rattle.std.specs.Prelude.{ℕ, ◌+◌, ◌*◌, ◌-◌, ◌/◌, ◌%◌, Bool, cond, not, ◌&&◌, ◌||◌, List, [], ◌∷◌, ltb, leb, eqb, get_or}
+use Rattle.calendar.specs.declared.date.DateError.{DateError}
+use Rattle.std.specs.Prelude.{ℕ, ◌+◌, ◌*◌, ◌-◌, ◌/◌, ◌%◌, Bool, cond, not, ◌&&◌, ◌||◌, List, [], ◌∷◌, ltb, leb, eqb, get_or, Err, None, Ok, Option, Result, Some}
 use Rattle.calendar.specs.Count.{Place, starts, count_off}
 use Rattle.calendar.specs.declared.date.Date.{Date}
-use Rattle.calendar.specs.declared.date.DateAnswer.{DateAnswer}
-use Rattle.calendar.specs.declared.date.DateAnswer.TheVariants.{On, NotADate, OutOfRange}
-use Rattle.calendar.specs.declared.date.DayAnswer.{DayAnswer}
-use Rattle.calendar.specs.declared.date.DayAnswer.TheVariants as day
+use Rattle.calendar.specs.declared.date.DateError.TheVariants.{NotADate, OutOfRange}
 
 -- whether d divides n
 abbrev pub divides : ℕ → ℕ → Bool
@@ -52,8 +50,8 @@ unfoldable pub day_number : Date → ℕ
 day_number d = days_before (month_number d) + (d.day - 1)
 
 -- the day number of three bytes that are a date
-unfoldable pub day_of : Date → DayAnswer
-day_of d = cond (is_date d) (day.Day (day_number d)) day.NotADate
+unfoldable pub day_of : Date → Option ℕ
+day_of d = cond (is_date d) (Some (day_number d)) None
 
 -- the date in month number p .piece that is p.rest days after the first
 unfoldable pub date_at : Place → Date
@@ -64,17 +62,17 @@ unfoldable pub date_of : ℕ → Date
 date_of n = date_at (count_off length_of 1200 0 n)
 
 -- the date of a day number, where the hundred years have it
-unfoldable pub date_on : ℕ → DateAnswer
-date_on n = cond (ltb n century_days) (On (date_of n)) OutOfRange
+unfoldable pub date_on : ℕ → Result Date DateError
+date_on n = cond (ltb n century_days) (Ok (date_of n)) (Err OutOfRange)
 
 -- the date n days before day number m
-unfoldable pub date_back : ℕ → ℕ → DateAnswer
-date_back m n = cond (leb n m) (date_on (m - n)) OutOfRange
+unfoldable pub date_back : ℕ → ℕ → Result Date DateError
+date_back m n = cond (leb n m) (date_on (m - n)) (Err OutOfRange)
 
 -- the date n days after d
-unfoldable pub days_later : Date → ℕ → DateAnswer
-days_later d n = cond (is_date d) (date_on (day_number d + n)) NotADate
+unfoldable pub days_later : Date → ℕ → Result Date DateError
+days_later d n = cond (is_date d) (date_on (day_number d + n)) (Err NotADate)
 
 -- the date n days before d
-unfoldable pub days_earlier : Date → ℕ → DateAnswer
-days_earlier d n = cond (is_date d) (date_back (day_number d) n) NotADate
+unfoldable pub days_earlier : Date → ℕ → Result Date DateError
+days_earlier d n = cond (is_date d) (date_back (day_number d) n) (Err NotADate)

@@ -9,8 +9,7 @@ mod sunday;
 mod time;
 
 pub use date::{
-    Date, DateAnswer, DayAnswer, day_number, days_in_month, days_later, is_date, next_day,
-    previous_day,
+    Date, DateError, day_number, days_in_month, days_later, is_date, next_day, previous_day,
 };
 pub use sunday::{last_sunday_of_march, last_sunday_of_october};
-pub use time::{DateTime, TimeAnswer, hour_earlier, hour_later, is_time, next_second};
+pub use time::{DateTime, TimeError, hour_earlier, hour_later, is_time, next_second};

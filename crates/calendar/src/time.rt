@@ -1,11 +1,11 @@
 // Times: which bytes are one, the second and the hours around it.
 ghost use Rattle.std.specs.Prelude.{◌≡◌, true};
 ghost use Rattle.calendar.specs.Time.{is_time, seconds_later, seconds_earlier};
-ghost use Rattle.calendar.specs.Steps.{on_day};
+ghost use Rattle.calendar.specs.Steps.{on_day, time_error};
 
-use crate::date::{Date, DateAnswer, is_date, next_day, previous_day};
+use crate::date::{Date, DateError, is_date, next_day, previous_day};
 
-#[derive(Clone, Copy)]
+#[derive(Clone, Copy, PartialEq, Eq)]
 pub struct DateTime {
     pub date: Date,
     pub hour: u8,
@@ -13,13 +13,23 @@ pub struct DateTime {
     pub second: u8,
 }
 
-#[derive(Clone, Copy)]
-pub enum TimeAnswer {
-    At(DateTime),
+#[derive(Clone, Copy, PartialEq, Eq)]
+pub enum TimeError {
     // What was handed in is no time.
     NotATime,
     // The answer would lie outside 2000 to 2099.
     OutOfRange,
+}
+
+impl From<DateError> for TimeError {
+    ghost from_gives = { λ e r. r ≡ time_error e };
+
+    fn from(error: DateError) -> Self {
+        match error {
+            DateError::NotADate => TimeError::NotATime,
+            DateError::OutOfRange => TimeError::OutOfRange,
+        }
+    }
 }
 
 const LAST_HOUR: u8 = 23;
@@ -28,123 +38,109 @@ const LAST_MINUTE: u8 = 59;
 
 const LAST_SECOND: u8 = 59;
 
+#[tactic(auto, unfolding(crate::specs::Time::is_time))]
 pub fn is_time(t: DateTime) -> bool
     ensures { result ≡ is_time t }
 {
-    if t.hour > LAST_HOUR {
-        return false;
-    }
-    if t.minute > LAST_MINUTE {
-        return false;
-    }
-    if t.second > LAST_SECOND {
-        return false;
-    }
-    is_date(t.date)
+    t.hour <= LAST_HOUR && t.minute <= LAST_MINUTE && t.second <= LAST_SECOND && is_date(t.date)
 }
 
-pub fn next_second(t: DateTime) -> TimeAnswer
+#[tactic(auto, unfolding(crate::specs::Time::seconds_later))]
+pub fn next_second(t: DateTime) -> Result<DateTime, TimeError>
     ensures { result ≡ seconds_later t 1 }
 {
     if is_time(t) {
         second_after(t)
     } else {
-        TimeAnswer::NotATime
+        Err(TimeError::NotATime)
     }
 }
 
-pub fn hour_later(t: DateTime) -> TimeAnswer
+#[tactic(auto, unfolding(crate::specs::Time::seconds_later))]
+pub fn hour_later(t: DateTime) -> Result<DateTime, TimeError>
     ensures { result ≡ seconds_later t 3600 }
 {
     if is_time(t) {
         hour_after(t)
     } else {
-        TimeAnswer::NotATime
+        Err(TimeError::NotATime)
     }
 }
 
-pub fn hour_earlier(t: DateTime) -> TimeAnswer
+#[tactic(auto, unfolding(crate::specs::Time::seconds_earlier))]
+pub fn hour_earlier(t: DateTime) -> Result<DateTime, TimeError>
     ensures { result ≡ seconds_earlier t 3600 }
 {
     if is_time(t) {
         hour_before(t)
     } else {
-        TimeAnswer::NotATime
+        Err(TimeError::NotATime)
     }
 }
 
-fn second_after(t: DateTime) -> TimeAnswer
+fn second_after(t: DateTime) -> Result<DateTime, TimeError>
     requires { is_time t ≡ true }
     ensures { result ≡ seconds_later t 1 }
 {
-    let date = t.date;
     if t.second < LAST_SECOND {
-        return TimeAnswer::At(DateTime {
-            date: date,
-            hour: t.hour,
-            minute: t.minute,
+        return Ok(DateTime {
             second: t.second + 1,
+            ..t
         });
     }
     if t.minute < LAST_MINUTE {
-        return TimeAnswer::At(DateTime {
-            date: date,
-            hour: t.hour,
+        return Ok(DateTime {
             minute: t.minute + 1,
             second: 0,
+            ..t
         });
     }
     hour_after(DateTime {
-        date: date,
-        hour: t.hour,
         minute: 0,
         second: 0,
+        ..t
     })
 }
 
-fn hour_after(t: DateTime) -> TimeAnswer
+fn hour_after(t: DateTime) -> Result<DateTime, TimeError>
     requires { is_time t ≡ true }
     ensures { result ≡ seconds_later t 3600 }
 {
-    let date = t.date;
     if t.hour < LAST_HOUR {
-        return TimeAnswer::At(DateTime {
-            date: date,
+        return Ok(DateTime {
             hour: t.hour + 1,
-            minute: t.minute,
-            second: t.second,
+            ..t
         });
     }
-    on_day(next_day(date), 0, t.minute, t.second)
+    on_day(next_day(t.date), 0, t.minute, t.second)
 }
 
-fn hour_before(t: DateTime) -> TimeAnswer
+fn hour_before(t: DateTime) -> Result<DateTime, TimeError>
     requires { is_time t ≡ true }
     ensures { result ≡ seconds_earlier t 3600 }
 {
-    let date = t.date;
     if 0 < t.hour {
-        return TimeAnswer::At(DateTime {
-            date: date,
+        return Ok(DateTime {
             hour: t.hour - 1,
-            minute: t.minute,
-            second: t.second,
+            ..t
         });
     }
-    on_day(previous_day(date), LAST_HOUR, t.minute, t.second)
+    on_day(previous_day(t.date), LAST_HOUR, t.minute, t.second)
 }
 
-fn on_day(day: DateAnswer, hour: u8, minute: u8, second: u8) -> TimeAnswer
+#[tactic(auto, unfolding(crate::specs::Steps::on_day))]
+fn on_day(
+    day: Result<Date, DateError>,
+    hour: u8,
+    minute: u8,
+    second: u8,
+) -> Result<DateTime, TimeError>
     ensures { result ≡ on_day day hour minute second }
 {
-    match day {
-        DateAnswer::On(date) => TimeAnswer::At(DateTime {
-            date: date,
-            hour: hour,
-            minute: minute,
-            second: second,
-        }),
-        DateAnswer::NotADate => TimeAnswer::NotATime,
-        DateAnswer::OutOfRange => TimeAnswer::OutOfRange,
-    }
+    Ok(DateTime {
+        date: day?,
+        hour,
+        minute,
+        second,
+    })
 }

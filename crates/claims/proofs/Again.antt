@@ -7,6 +7,7 @@ use native.Mathlib.Omega.{arith}
 use lib.Dec.{eqb, leb, ltb, lit≤}
 use lib.ListN.{length}
 use borrow.Author.Tests.{eq-eqb, le-leb, leb-true, ltb-true, eqb-true}
+use Rattle.std.specs.Prelude.{Err, Ok, Result}
 use Rattle.test_laws.proofs.Test.{both, either}
 use Rattle.byte_numbers.specs.Number.{Bytes}
 use Rattle.wire_values.specs.declared.power.Phases.{Phases}
@@ -33,8 +34,7 @@ use Rattle.meter_record.specs.Ranges.{is_within}
 use Rattle.meter_record.specs.Record.{number_of, powers_set, set_powers}
 use Rattle.meter_record.specs.Widths.{FitsRecord}
 use Rattle.meter_record.specs.declared.record.Record.{Record}
-use Rattle.meter_record.specs.declared.record.RecordAnswer.{RecordAnswer}
-use Rattle.meter_record.specs.declared.record.RecordAnswer.TheVariants.{Done, OutOfRange, Unsound}
+use Rattle.meter_record.specs.declared.record.RecordError.{RecordError}
 use Rattle.meter_command.specs.Change.{changed_to, zeroed_to}
 use Rattle.meter_command.proofs.KeepLaws.{changed, zeroed}
 use Rattle.meter_command.specs.Judgement.{verdict_by}
@@ -221,7 +221,7 @@ date-askable p r n slots e c w = ap (λ (z : Parameter). askable (subject_for z 
 -- demand 2's `summer_zeroed`: a zeroing brings back March's last Sunday of the clock's year, and it is read
 pub summer_zeroed : (r : Record) (s f out room : List ℕ) → function_in f ≡ function.Zero → parameter_in f ≡ parameter.SummerDate
     → let o = answer_of r s f out in Next r s o room
-    → read_back o.answer.after o.store (read_of o.answer.after 27 0) room ≡ decoded.DateTime (on_hour (sunday r.time.clock.date.year 3) 2)
+    → read_back o.answer.after o.store (read_of o.answer.after 27 0) room ≡ Ok (decoded.DateTime (on_hour (sunday r.time.clock.date.year 3) 2))
 unfolding parameter_of first_of zeroed_to
 summer_zeroed r s f out room e g n =
     let o = answer_of r s f out in
@@ -234,7 +234,7 @@ summer_zeroed r s f out room e g n =
 -- demand 2's `winter_zeroed`: a zeroing brings back October's last Sunday of the clock's year, and it is read
 pub winter_zeroed : (r : Record) (s f out room : List ℕ) → function_in f ≡ function.Zero → parameter_in f ≡ parameter.WinterDate
     → let o = answer_of r s f out in Next r s o room
-    → read_back o.answer.after o.store (read_of o.answer.after 28 0) room ≡ decoded.DateTime (on_hour (sunday r.time.clock.date.year 10) 3)
+    → read_back o.answer.after o.store (read_of o.answer.after 28 0) room ≡ Ok (decoded.DateTime (on_hour (sunday r.time.clock.date.year 10) 3))
 unfolding parameter_of first_of zeroed_to
 winter_zeroed r s f out room e g n =
     let o = answer_of r s f out in
@@ -246,9 +246,9 @@ winter_zeroed r s f out room e g n =
 
 -- the figures of a slice read are the four counts of the store's row for that key
 pub slice-figures : (r : Record) (s : List ℕ) (k : Key) (row : List ℕ) → slice_of s k ≡ row
-    → own_figures (parameter_of 36) r s (slice_read r 36 k) ≡ decoded.Slice (four_counts row)
+    → own_figures (parameter_of 36) r s (slice_read r 36 k) ≡ Ok (decoded.Slice (four_counts row))
 unfolding parameter_of first_of
-slice-figures r s k row e = ap (λ (w : List ℕ). decoded.Slice (four_counts w)) e
+slice-figures r s k row e = ap (λ (w : List ℕ). Ok (decoded.Slice (four_counts w))) e
 
 -- what a zeroing of the slices leaves: the interval, and a store that is clear
 minutes-kept : (r : Record) (s f out room : List ℕ) → function_in f ≡ function.Zero → parameter_in f ≡ parameter.Slice
@@ -265,7 +265,7 @@ store-clear r s f out room e g n =
 -- demand 2's `slices_zeroed`: after a zeroing of the slices any legal key reads zeros
 pub slices_zeroed : (r : Record) (s f out room : List ℕ) (k : Key) → function_in f ≡ function.Zero → parameter_in f ≡ parameter.Slice
     → is_legal k (slots_of r.minutes) ≡ true → let o = answer_of r s f out in Next r s o room
-    → read_back o.answer.after o.store (slice_read o.answer.after 36 k) room ≡ decoded.Slice (four_counts zero_row)
+    → read_back o.answer.after o.store (slice_read o.answer.after 36 k) room ≡ Ok (decoded.Slice (four_counts zero_row))
 slices_zeroed r s f out room k e g h n =
     let o = answer_of r s f out in
     let y = o.answer.after in
@@ -324,16 +324,14 @@ unfolding slice_put
 put_done r s k row sound h = simp (sound, h)
 
 -- the record that a bench call hands over, or another
-abbrev pub handed : RecordAnswer → Record → Record
-handed (Done r) z = r
-handed OutOfRange z = z
-handed Unsound z = z
+abbrev pub handed : Result Record RecordError → Record → Record
+handed (Ok r) z = r
+handed (Err refusal) z = z
 
 -- whether a bench call handed over a record: tells an answer of 0 from the refusals
-abbrev pub is_handed : RecordAnswer → Bool
-is_handed (Done r) = true
-is_handed OutOfRange = false
-is_handed Unsound = false
+abbrev pub is_handed : Result Record RecordError → Bool
+is_handed (Ok r) = true
+is_handed (Err refusal) = false
 
 -- what a put that was done has passed, and what it left: the interval, and the store with the row in it
 pub record Put (r y : Record) (s : List ℕ) (k : Key) (row : List ℕ) : Type 0 where
@@ -343,7 +341,7 @@ pub record Put (r y : Record) (s : List ℕ) (k : Key) (row : List ℕ) : Type 0
   pub left : (slice_put r s k row).left ≡ put_store s r.next k row
 
 -- a put that handed over a record is such a one
-pub put_is : (r y : Record) (s : List ℕ) (k : Key) (row : List ℕ) → (slice_put r s k row).result ≡ Done y → Put r y s k row
+pub put_is : (r y : Record) (s : List ℕ) (k : Key) (row : List ℕ) → (slice_put r s k row).result ≡ Ok y → Put r y s k row
 unfolding slice_put
 put_is r y s k row h = go (is_sound r s) refl (is_legal k (slots_of r.minutes)) refl
   where
@@ -353,20 +351,20 @@ put_is r y s k row h = go (is_sound r s) refl (is_legal k (slots_of r.minutes)) 
     go true e true g = record {
       sound = e;
       legal = g;
-      after = ap (λ (z : RecordAnswer). (handed z r).minutes) (sym (simp (e, g) at h));
+      after = ap (λ (z : Result Record RecordError). (handed z r).minutes) (sym (simp (e, g) at h));
       left = simp (e, g);
     }
 
 -- demand 2's `put-read`: the counts that the bench put under a key are read by that key
-pub put-read : (r y : Record) (s : List ℕ) (k : Key) (row room : List ℕ) → let o = slice_put r s k row in o.result ≡ Done y
+pub put-read : (r y : Record) (s : List ℕ) (k : Key) (row room : List ℕ) → let o = slice_put r s k row in o.result ≡ Ok y
     → FitsRecord y → Bytes o.left → length row ≡ 4 → ((i : ℕ) → count_at row i < 65536) → 64 ≤ length room
-    → read_back y o.left (slice_read y 36 k) room ≡ decoded.Slice (four_counts row)
+    → read_back y o.left (slice_read y 36 k) room ≡ Ok (decoded.Slice (four_counts row))
 unfolding is_sound
 put-read r y s k row room h f b four below space =
     let o = slice_put r s k row in
     let p = put_is r y s k row h in
     let legal : is_legal k (slots_of y.minutes) ≡ true = ap (λ (i : ℕ). is_legal k (slots_of i)) p.after ∙ p.legal in
-    let sound : is_sound y o.left ≡ true = ap (λ (z : RecordAnswer). hands_back z o.left) (sym h) ∙ put-sound r s k row in
+    let sound : is_sound y o.left ≡ true = ap (λ (z : Result Record RecordError). hands_back z o.left) (sym h) ∙ put-sound r s k row in
     let a = both (eqb (length s) store_bytes) (is_within r) p.sound in
     let back : slice_of (put_store s r.next k row) k ≡ row =
     put-then-read s r.next k row (eqb-true (length s) store_bytes a.0) (ltb-true r.next places (within r a.1).next) (record { four = four; below = below }) in
@@ -381,7 +379,7 @@ pub powers_done : (r : Record) (p : Phases) → is_within r ≡ true → are_pow
 unfolding set_powers powers_set
 powers_done r p w h = (simp (w, h), simp (w, h))
 
-powers-handed : (r y : Record) (n : ℕ) (p : Phases) → set_powers r n p ≡ Done y → set_powers r n p ≡ powers_set r n p
+powers-handed : (r y : Record) (n : ℕ) (p : Phases) → set_powers r n p ≡ Ok y → set_powers r n p ≡ powers_set r n p
 unfolding set_powers
 powers-handed r y n p h = go (is_within r) refl (are_powers p) refl
   where
@@ -390,7 +388,7 @@ powers-handed r y n p h = go (is_within r) refl (are_powers p) refl
     go true e false g = absurd (false≢true (ap is_handed (simp (e, g) at h)))
     go true e true g = simp (e, g)
 
-powers-sound : (r y : Record) (n : ℕ) (p : Phases) (s : List ℕ) → set_powers r n p ≡ Done y → length s ≡ store_bytes → is_sound y s ≡ true
+powers-sound : (r y : Record) (n : ℕ) (p : Phases) (s : List ℕ) → set_powers r n p ≡ Ok y → length s ≡ store_bytes → is_sound y s ≡ true
 unfolding is_sound
 powers-sound r y n p s h l = ap₂ ◌&&◌ (eq-eqb (length s) store_bytes l) (ap ranges.hands_back (sym h) ∙ powers-within r n p)
 
@@ -400,21 +398,21 @@ unfolding subject_of subject_for parameter_of first_of is_phase
 phase-askable r detail slots h = (simp (le-leb detail 3 h), simp (le-leb detail 3 h))
 
 -- demand 2's `active_read`: active powers that the bench set are read bit for bit, the total with the phases or one phase
-pub active_read : (r y : Record) (p : Phases) (s : List ℕ) (detail : ℕ) (room : List ℕ) → set_powers r 8 p ≡ Done y
+pub active_read : (r y : Record) (p : Phases) (s : List ℕ) (detail : ℕ) (room : List ℕ) → set_powers r 8 p ≡ Ok y
     → FitsRecord y → Bytes s → length s ≡ store_bytes → detail ≤ 3 → 64 ≤ length room → read_back y s (read_of y 8 detail) room ≡ own_power p detail
 unfolding parameter_of first_of powers_set
 active_read r y p s detail room h f b l d space =
-    let a : y.active ≡ p = ap (λ (z : RecordAnswer). (handed z r).active) (sym h ∙ powers-handed r y 8 p h) in
+    let a : y.active ≡ p = ap (λ (z : Result Record RecordError). (handed z r).active) (sym h ∙ powers-handed r y 8 p h) in
     own y s (read_of y 8 detail) room f b (read-bytes y 8 detail f (lit≤ tt) d) space (powers-sound r y 8 p s h l) refl
     (phase-askable y detail (slots_of y.minutes) d).0
     ∙ ap (λ (z : Phases). own_power z detail) a
 
 -- demand 2's `reactive_read`: and so are reactive ones
-pub reactive_read : (r y : Record) (p : Phases) (s : List ℕ) (detail : ℕ) (room : List ℕ) → set_powers r 9 p ≡ Done y
+pub reactive_read : (r y : Record) (p : Phases) (s : List ℕ) (detail : ℕ) (room : List ℕ) → set_powers r 9 p ≡ Ok y
     → FitsRecord y → Bytes s → length s ≡ store_bytes → detail ≤ 3 → 64 ≤ length room → read_back y s (read_of y 9 detail) room ≡ own_power p detail
 unfolding parameter_of first_of powers_set
 reactive_read r y p s detail room h f b l d space =
-    let a : y.reactive ≡ p = ap (λ (z : RecordAnswer). (handed z r).reactive) (sym h ∙ powers-handed r y 9 p h) in
+    let a : y.reactive ≡ p = ap (λ (z : Result Record RecordError). (handed z r).reactive) (sym h ∙ powers-handed r y 9 p h) in
     own y s (read_of y 9 detail) room f b (read-bytes y 9 detail f (lit≤ tt) d) space (powers-sound r y 9 p s h l) refl
     (phase-askable y detail (slots_of y.minutes) d).1
     ∙ ap (λ (z : Phases). own_power z detail) a

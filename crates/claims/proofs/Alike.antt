@@ -9,6 +9,7 @@ use lib.Dec.{eqb, leb, lit≤}
 use lib.ListN.{length, drop, get_or-append}
 use lib.Seq.{take_at}
 use borrow.Author.Tests.{le-ltb, le-leb, leb-true, eq-eqb, ne_eqb, eqb-true}
+use Rattle.std.specs.Prelude.{Err, Ok, Result}
 use Rattle.test_laws.proofs.Test.{both}
 use Rattle.byte_numbers.specs.Number.{Bytes, bytes_of, number}
 use Rattle.byte_numbers.specs.Place.{byte_at, number_at, written}
@@ -43,8 +44,8 @@ use Rattle.meter_command.specs.Command.{named, parameter_byte, parameter_in, rea
 use Rattle.meter_command.specs.Verdict.{result_of, is_done}
 use Rattle.meter_command.specs.declared.access.Met.{Met}
 use Rattle.meter_command.specs.declared.access.Met.TheVariants.{Own, Zero, Neither}
-use Rattle.meter_command.specs.declared.verdict.Verdict.{Verdict}
-use Rattle.meter_command.specs.declared.verdict.Verdict.TheVariants.{Done, WrongLength, NoAccess, WrongArgument}
+use Rattle.meter_command.specs.declared.verdict.Refusal.{Refusal}
+use Rattle.meter_command.specs.declared.verdict.Refusal.TheVariants.{WrongLength, NoAccess, WrongArgument}
 use Rattle.meter_reply_data.specs.Reading.{figures_of, figures_as, is_read, data_of}
 use Rattle.meter.specs.Effect.{after_by, after_of, clears_by, clears, store_after}
 use Rattle.meter.specs.Reply as reply
@@ -136,7 +137,7 @@ cut true false l x y h = refl
 cut true true false x y h = refl
 cut true true true x y h = ap (λ (z : Bool). checked true true true true true z) (h refl)
 
-where-long : (l : Bool) (x y z : Verdict) → (l ≡ true → x ≡ y) → cond l x z ≡ cond l y z
+where-long : (l : Bool) (x y z : Result Unit Refusal) → (l ≡ true → x ≡ y) → cond l x z ≡ cond l y z
 where-long true x y z h = h refl
 where-long false x y z h = refl
 
@@ -153,8 +154,8 @@ read_same r a b fn m =
     ∙ cut (known w) (opens_to (reads fn) w) (eqb (length g) 8) (fit (request_in f)) (fit (request_in g))
     (λ e. ap fit (request-by a fn m (long b fn m 4 e)) ∙ fields_free w.fields (reads fn) a b m slots ∙ sym (ap fit (request-by b fn m (long b fn m 4 e))))
 
-abbrev unlocked : Passwords → ℕ → ℕ → ℕ → Verdict
-unlocked p level n z = cond (leb level 1) (cond (eqb n (password_for p level)) (cond (eqb z 0) Done WrongArgument) NoAccess) WrongArgument
+abbrev unlocked : Passwords → ℕ → ℕ → ℕ → Result Unit Refusal
+unlocked p level n z = cond (leb level 1) (cond (eqb n (password_for p level)) (cond (eqb z 0) (Ok tt) (Err WrongArgument)) (Err NoAccess)) (Err WrongArgument)
 
 unlocked-by : (p : Passwords) (a fn : ℕ) (m : List ℕ) → length m ≡ 10 → let f = frame_by a fn m in
     unlocked p (byte_at f 3) (number_at f 4 8) (byte_at f 2) ≡ unlocked p (byte_at m 1) (number (drop 2 m)) (byte_at m 0)
@@ -167,13 +168,13 @@ unfolding unlock_verdict
 unlock-same p a b fn m =
     let f = frame_by a fn m in
     let g = frame_by b fn m in
-    let told : List ℕ → Verdict = λ x. unlocked p (byte_at x 3) (number_at x 4 8) (byte_at x 2) in
-    ap (λ (n : ℕ). cond (eqb n 14) (told f) WrongLength) (same_length a b fn m)
-    ∙ where-long (eqb (length g) 14) (told f) (told g) WrongLength
+    let told : List ℕ → Result Unit Refusal = λ x. unlocked p (byte_at x 3) (number_at x 4 8) (byte_at x 2) in
+    ap (λ (n : ℕ). cond (eqb n 14) (told f) (Err WrongLength)) (same_length a b fn m)
+    ∙ where-long (eqb (length g) 14) (told f) (told g) (Err WrongLength)
     (λ e. unlocked-by p a fn m (long b fn m 10 e) ∙ sym (unlocked-by p b fn m (long b fn m 10 e)))
 
-abbrev locked : ℕ → ℕ → Verdict
-locked x y = cond (eqb x 0) (cond (eqb y 0) Done WrongArgument) WrongArgument
+abbrev locked : ℕ → ℕ → Result Unit Refusal
+locked x y = cond (eqb x 0) (cond (eqb y 0) (Ok tt) (Err WrongArgument)) (Err WrongArgument)
 
 locked-by : (a fn : ℕ) (m : List ℕ) → length m ≡ 2 → let f = frame_by a fn m in locked (byte_at f 2) (byte_at f 3) ≡ locked (byte_at m 0) (byte_at m 1)
 locked-by a fn m h = ap₂ locked (byte-by a fn m 0 (omega (arith, h))) (byte-by a fn m 1 (omega (arith, h)))
@@ -183,9 +184,9 @@ unfolding lock_verdict
 lock-same a b fn m =
     let f = frame_by a fn m in
     let g = frame_by b fn m in
-    let told : List ℕ → Verdict = λ x. locked (byte_at x 2) (byte_at x 3) in
-    ap (λ (n : ℕ). cond (eqb n 6) (told f) WrongLength) (same_length a b fn m)
-    ∙ where-long (eqb (length g) 6) (told f) (told g) WrongLength
+    let told : List ℕ → Result Unit Refusal = λ x. locked (byte_at x 2) (byte_at x 3) in
+    ap (λ (n : ℕ). cond (eqb n 6) (told f) (Err WrongLength)) (same_length a b fn m)
+    ∙ where-long (eqb (length g) 6) (told f) (told g) (Err WrongLength)
     (λ e. locked-by a fn m (long b fn m 2 e) ∙ sym (locked-by b fn m (long b fn m 2 e)))
 
 verdict-same : (g : Function) → changes g ≡ false → (r : Record) (a b fn : ℕ) (m : List ℕ)
@@ -215,7 +216,7 @@ data-same function.Unknown r s a b fn m d = refl
 data-same function.Change r s a b fn m d = refl
 data-same function.Zero r s a b fn m d = refl
 
-unlock-long : (l : Bool) (v : Verdict) → is_done (cond l v WrongLength) ≡ true → l ≡ true
+unlock-long : (l : Bool) (v : Result Unit Refusal) → is_done (cond l v (Err WrongLength)) ≡ true → l ≡ true
 unlock-long true v h = refl
 unlock-long false v h = absurd (false≢true h)
 
@@ -278,7 +279,7 @@ answered-by r s f out x room sound e h = simp (le-ltb (length out) 64 room, soun
 
 -- ---- the two replies
 
-module _ (r : Record) (s : List ℕ) (fn : ℕ) (m out : List ℕ) (c : changes (function_of fn) ≡ false) (v : Verdict) where
+module _ (r : Record) (s : List ℕ) (fn : ℕ) (m out : List ℕ) (c : changes (function_of fn) ≡ false) (v : Result Unit Refusal) where
   done-alike : is_done (verdict_by (function_of fn) Own r (command_of (frame_by r.address fn m)) (frame_by r.address fn m)) ≡ true
       → Alike r.address out (reply.done v r s (frame_by 0 fn m) out) (reply.done v r s (frame_by r.address fn m) out)
   unfolding head_of framed data_of after_of
@@ -330,4 +331,4 @@ others_alike r s fn m out c hf hm l ha sound room =
     let mine = answered-by r s g out Own room sound (met-by-own r fn m (sealed-by own fn m ha hf hm l) (λ e. omega (arith, e, w))) refl in
     let v = verdict_of Own r (command_of g) g in
     let same : verdict_of Zero r (command_of f) f ≡ v = verdict-same (function_of fn) c r 0 own fn m in
-    rw (zero ∙ ap (λ (x : Verdict). replied x r s f out) same, mine) (replied-alike r s fn m out c v refl)
+    rw (zero ∙ ap (λ (x : Result Unit Refusal). replied x r s f out) same, mine) (replied-alike r s fn m out c v refl)

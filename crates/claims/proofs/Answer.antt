@@ -6,6 +6,7 @@ use Prim.Native.Nat.{ℕ, ◌+◌}
 use native.Mathlib.Omega.{arith}
 use lib.Dec.{eqb, leb, ltb}
 use lib.ListN.{length, drop}
+use Rattle.std.specs.Prelude.{Err, Ok, Result}
 use Rattle.test_laws.proofs.Test.{either}
 use Rattle.byte_numbers.specs.Place.{byte_at, number_at, written}
 use Rattle.byte_numbers.proofs.PlaceLaws.{drop-written}
@@ -24,8 +25,8 @@ use Rattle.meter_command.specs.Judgement.{passed, checked, argument_fits, read_v
 use Rattle.meter_command.specs.Command.{function_in, parameter_in, request_in, command_of, detail_in, data_in}
 use Rattle.meter_command.specs.Verdict.{number_of}
 use Rattle.meter_command.specs.declared.access.Met.{Met}
-use Rattle.meter_command.specs.declared.verdict.Verdict.{Verdict}
-use Rattle.meter_command.specs.declared.verdict.Verdict.TheVariants as verdict
+use Rattle.meter_command.specs.declared.verdict.Refusal.{Refusal}
+use Rattle.meter_command.specs.declared.verdict.Refusal.TheVariants as verdict
 use Rattle.meter.specs.Reply as meter
 use Rattle.meter.specs.Reply.{is_sound, met, heard, verdict_on, head_of, unheard, refused, replied, answer_of}
 use Rattle.claims.specs.Demand1.{in_table, Ends, gives_frame, answer_number}
@@ -33,7 +34,7 @@ use Rattle.claims.specs.Demand1.{in_table, Ends, gives_frame, answer_number}
 -- ---- a command that is heard
 
 -- a verdict of a command that was heard: 0, or one that has a refusal frame
-unfoldable pub Judged : Verdict → Type 0
+unfoldable pub Judged : Result Unit Refusal → Type 0
 Judged v = (eqb (number_of v) 0 || gives_frame (number_of v)) ≡ true
 
 checked-judged : (a b c d e g : Bool) → Judged (checked a b c d e g)
@@ -78,34 +79,34 @@ record AnswerEnds (r : Record) (s f out : List ℕ) (o : meter.Outcome) : Type 0
   sent : (answer_number o ≡ 0 → ⊥) → o.answer.length ≡ cond (gives_frame (answer_number o)) bare_size 0
 
 module _ (r : Record) (s f out : List ℕ) where
-  unheard-ends : (v : Verdict) → in_table (number_of v) ≡ true → gives_frame (number_of v) ≡ false → AnswerEnds r s f out (unheard v r s out)
+  unheard-ends : (v : Result Unit Refusal) → in_table (number_of v) ≡ true → gives_frame (number_of v) ≡ false → AnswerEnds r s f out (unheard v r s out)
   unheard-ends v t g = record { ends = record { in-table = t; unchanged = λ n. refl }; output = λ n. simp g; sent = λ n. simp g }
 
-  refused-ends : (v : Verdict) → in_table (number_of v) ≡ true → gives_frame (number_of v) ≡ true → AnswerEnds r s f out (refused v r s f out)
+  refused-ends : (v : Result Unit Refusal) → in_table (number_of v) ≡ true → gives_frame (number_of v) ≡ true → AnswerEnds r s f out (refused v r s f out)
   refused-ends v t g = record { ends = record { in-table = t; unchanged = λ n. refl }; output = λ n. simp g; sent = λ n. simp g }
 
-  replied-ends : (v : Verdict) → Judged v → AnswerEnds r s f out (replied v r s f out)
+  replied-ends : (v : Result Unit Refusal) → Judged v → AnswerEnds r s f out (replied v r s f out)
   unfolding Judged replied in_table
-  replied-ends verdict.Done j =
+  replied-ends (Ok tt) j =
       record { ends = record { in-table = refl; unchanged = λ n. absurd (n refl) }; output = λ n. absurd (n refl); sent = λ n. absurd (n refl) }
-  replied-ends verdict.TooShort j = absurd (false≢true j)
-  replied-ends verdict.Unsound j = absurd (false≢true j)
-  replied-ends verdict.Silent j = absurd (false≢true j)
-  replied-ends verdict.UnknownFunction j = refused-ends verdict.UnknownFunction refl refl
-  replied-ends verdict.UnknownParameter j = refused-ends verdict.UnknownParameter refl refl
-  replied-ends verdict.NotOpen j = refused-ends verdict.NotOpen refl refl
-  replied-ends verdict.WrongLength j = refused-ends verdict.WrongLength refl refl
-  replied-ends verdict.ByAddressZero j = refused-ends verdict.ByAddressZero refl refl
-  replied-ends verdict.NoAccess j = refused-ends verdict.NoAccess refl refl
-  replied-ends verdict.WrongArgument j = refused-ends verdict.WrongArgument refl refl
+  replied-ends (Err verdict.TooShort) j = absurd (false≢true j)
+  replied-ends (Err verdict.Unsound) j = absurd (false≢true j)
+  replied-ends (Err verdict.Silent) j = absurd (false≢true j)
+  replied-ends (Err verdict.UnknownFunction) j = refused-ends (Err verdict.UnknownFunction) refl refl
+  replied-ends (Err verdict.UnknownParameter) j = refused-ends (Err verdict.UnknownParameter) refl refl
+  replied-ends (Err verdict.NotOpen) j = refused-ends (Err verdict.NotOpen) refl refl
+  replied-ends (Err verdict.WrongLength) j = refused-ends (Err verdict.WrongLength) refl refl
+  replied-ends (Err verdict.ByAddressZero) j = refused-ends (Err verdict.ByAddressZero) refl refl
+  replied-ends (Err verdict.NoAccess) j = refused-ends (Err verdict.NoAccess) refl refl
+  replied-ends (Err verdict.WrongArgument) j = refused-ends (Err verdict.WrongArgument) refl refl
 
   answer-ends : AnswerEnds r s f out (answer_of r s f out)
   unfolding answer_of in_table
   answer-ends =
-      either (AnswerEnds r s f out) (ltb (length out) longest) (unheard-ends verdict.TooShort refl refl)
+      either (AnswerEnds r s f out) (ltb (length out) longest) (unheard-ends (Err verdict.TooShort) refl refl)
       (either (AnswerEnds r s f out) (is_sound r s)
-      (either (AnswerEnds r s f out) (heard r f) (replied-ends (verdict_on r f) (judged r f)) (unheard-ends verdict.Silent refl refl))
-      (unheard-ends verdict.Unsound refl refl))
+      (either (AnswerEnds r s f out) (heard r f) (replied-ends (verdict_on r f) (judged r f)) (unheard-ends (Err verdict.Silent) refl refl))
+      (unheard-ends (Err verdict.Unsound) refl refl))
 
   -- demand 1's `answer`: the meter's number is the table's, and a refused command leaves record and store
   pub answer : let o = answer_of r s f out in Ends {A = Record × List ℕ} (answer_number o) (r, s) (o.answer.after, o.store)
@@ -123,10 +124,10 @@ module _ (r : Record) (s f out : List ℕ) where
 -- ---- the refusal frame is short: six bytes, and the output past them is as it was
 
 -- demand 1's `frame_short`: a refusal frame has six bytes
-pub frame_short : (v : Verdict) (f : List ℕ) → length (framed (head_of v (command_of f))) ≡ bare_size
+pub frame_short : (v : Result Unit Refusal) (f : List ℕ) → length (framed (head_of v (command_of f))) ≡ bare_size
 unfolding head_of
 frame_short v f = length-framed (head_of v (command_of f))
 
 -- demand 1's `past_frame`: the output behind it is as it was
-pub past_frame : (v : Verdict) (f out : List ℕ) → drop bare_size (written out 0 (framed (head_of v (command_of f)))) ≡ drop bare_size out
+pub past_frame : (v : Result Unit Refusal) (f out : List ℕ) → drop bare_size (written out 0 (framed (head_of v (command_of f)))) ≡ drop bare_size out
 past_frame v f out = drop-written bare_size out 0 (framed (head_of v (command_of f))) (omega (arith, frame_short v f))

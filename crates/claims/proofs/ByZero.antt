@@ -8,6 +8,7 @@ use native.Mathlib.Omega.{arith}
 use lib.Dec.{eqb}
 use lib.ListN.{length}
 use borrow.Author.Tests.{le-ltb, eq-eqb, eqb-true}
+use Rattle.std.specs.Prelude.{Err, Ok, Result}
 use Rattle.test_laws.proofs.Test.{both}
 use Rattle.byte_numbers.specs.Place.{byte_at, written}
 use Rattle.byte_numbers.proofs.PlaceLaws.{byte_at-written}
@@ -23,9 +24,9 @@ use Rattle.meter_command.specs.Command.{function_in, parameter_in, command_of, d
 use Rattle.meter_command.specs.Verdict.{number_of, result_of}
 use Rattle.meter_command.specs.declared.access.Met.{Met}
 use Rattle.meter_command.specs.declared.access.Met.TheVariants.{Own, Zero, Neither}
-use Rattle.meter_command.specs.declared.verdict.Verdict.TheVariants.{ByAddressZero}
-use Rattle.meter_command.specs.declared.verdict.Verdict.{Verdict}
-use Rattle.meter_command.specs.declared.verdict.Verdict.TheVariants as verdict
+use Rattle.meter_command.specs.declared.verdict.Refusal.{Refusal}
+use Rattle.meter_command.specs.declared.verdict.Refusal.TheVariants.{ByAddressZero}
+use Rattle.meter_command.specs.declared.verdict.Refusal.TheVariants as verdict
 use Rattle.meter.specs.Reply.{met, head_of, replied, answer_of}
 use Rattle.claims.specs.Changes.{Leaves}
 use Rattle.claims.specs.Demand1.{answer_number, gives_frame}
@@ -69,11 +70,11 @@ pub by_zero_refused : (r : Record) (s f out : List ℕ) → changes (function_in
 by_zero_refused r s f out c z =
     (refused-leaves r s f out (λ h. (came_by_own r s f out c h).1 z), λ h. (came_by_own r s f out c h).1 z)
 
-refused-by-zero : {k o l : Bool} (a f : Bool) → k ≡ true → o ≡ true → l ≡ true → checked k o l false a f ≡ ByAddressZero
+refused-by-zero : {k o l : Bool} (a f : Bool) → k ≡ true → o ≡ true → l ≡ true → checked k o l false a f ≡ Err ByAddressZero
 unfolding checked passed
 refused-by-zero a f k o l = simp (k, o, l)
 
-zero-verdict : (fn : Function) (r : Record) (f : List ℕ) → changes fn ≡ true → form_fits fn f ≡ true → verdict_by fn Zero r (command_of f) f ≡ ByAddressZero
+zero-verdict : (fn : Function) (r : Record) (f : List ℕ) → changes fn ≡ true → form_fits fn f ≡ true → verdict_by fn Zero r (command_of f) f ≡ Err ByAddressZero
 unfolding verdict_by change_verdict zero_verdict
 zero-verdict function.Change r f c h =
     let w = both (parameter_row (parameter_in f)).changeable (eqb (length f) (6 + (parameter_row (parameter_in f)).change_bytes)) h in
@@ -93,23 +94,23 @@ pub sixteen : (r : Record) (s f out : List ℕ) → Ready r s f out → met r f 
     → form_fits (function_in f) f ≡ true → answer_number (answer_of r s f out) ≡ 16
 unfolding answer_of replied verdict_of
 sixteen r s f out y m c h =
-    let v : verdict_of (met r f) r (command_of f) f ≡ ByAddressZero = ap (λ (x : Met). verdict_by (function_in f) x r (command_of f) f) m ∙ zero-verdict (function_in f) r f c h in
+    let v : verdict_of (met r f) r (command_of f) f ≡ Err ByAddressZero = ap (λ (x : Met). verdict_by (function_in f) x r (command_of f) f) m ∙ zero-verdict (function_in f) r f c h in
     simp (le-ltb (length out) 64 y.room, y.sound, y.hears, v)
 
 -- ---- the result byte
 
-four : (v : Verdict) → (eqb (number_of v) 14 || eqb (number_of v) 16) ≡ true → (result_of v ≡ 4) × (gives_frame (number_of v) ≡ true)
-four verdict.NoAccess h = (refl, refl)
-four verdict.ByAddressZero h = (refl, refl)
-four verdict.Done h = absurd (false≢true h)
-four verdict.TooShort h = absurd (false≢true h)
-four verdict.Unsound h = absurd (false≢true h)
-four verdict.Silent h = absurd (false≢true h)
-four verdict.UnknownFunction h = absurd (false≢true h)
-four verdict.UnknownParameter h = absurd (false≢true h)
-four verdict.NotOpen h = absurd (false≢true h)
-four verdict.WrongLength h = absurd (false≢true h)
-four verdict.WrongArgument h = absurd (false≢true h)
+four : (v : Result Unit Refusal) → (eqb (number_of v) 14 || eqb (number_of v) 16) ≡ true → (result_of v ≡ 4) × (gives_frame (number_of v) ≡ true)
+four (Err verdict.NoAccess) h = (refl, refl)
+four (Err verdict.ByAddressZero) h = (refl, refl)
+four (Ok tt) h = absurd (false≢true h)
+four (Err verdict.TooShort) h = absurd (false≢true h)
+four (Err verdict.Unsound) h = absurd (false≢true h)
+four (Err verdict.Silent) h = absurd (false≢true h)
+four (Err verdict.UnknownFunction) h = absurd (false≢true h)
+four (Err verdict.UnknownParameter) h = absurd (false≢true h)
+four (Err verdict.NotOpen) h = absurd (false≢true h)
+four (Err verdict.WrongLength) h = absurd (false≢true h)
+four (Err verdict.WrongArgument) h = absurd (false≢true h)
 
 -- demand 2's `result`, CR 6: the refusal frames of 14 and 16 have Appendix B's 4 for their result
 pub result : (r : Record) (s f out : List ℕ) → let o = answer_of r s f out in 64 ≤ length out → (eqb (answer_number o) 14 || eqb (answer_number o) 16) ≡ true

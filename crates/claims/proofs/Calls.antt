@@ -6,7 +6,9 @@ use Prim.Native.Nat.{ℕ, ◌-◌}
 use lib.Dec.{eqb, leb, ltb}
 use lib.ListN.{length}
 use borrow.Author.Tests.{ne_eqb}
+use Rattle.std.specs.Prelude.{Err, None, Ok, Option, Result, Some}
 use Rattle.test_laws.proofs.Test.{either}
+use Rattle.calendar.specs.declared.date.Date.{Date}
 use Rattle.refusal.specs.Outcome.{Outcome, outcome, check}
 use Rattle.frame.specs.Layout.{read_size}
 use Rattle.frame.specs.Sealing.{crc_fits}
@@ -21,11 +23,12 @@ use Rattle.reader.specs.declared.form.Fault.{Fault}
 use Rattle.reader.specs.declared.form.Fault.TheVariants as fault
 use Rattle.reader.specs.Reply as reader
 use Rattle.reader.specs.declared.reply.Decoded.{Decoded}
-use Rattle.reader.specs.declared.reply.Decoded.TheVariants as decoded
+use Rattle.reader.specs.declared.reply.DecodeError.{DecodeError}
+use Rattle.reader.specs.declared.reply.DecodeError.TheVariants as decoded_error
 use Rattle.meter_record.specs.Record as record_of
 use Rattle.meter_record.specs.declared.record.Record.{Record}
-use Rattle.meter_record.specs.declared.record.RecordAnswer.{RecordAnswer}
-use Rattle.meter_record.specs.declared.record.RecordAnswer.TheVariants as given
+use Rattle.meter_record.specs.declared.record.RecordError.{RecordError}
+use Rattle.meter_record.specs.declared.record.RecordError.TheVariants as given
 use Rattle.meter.specs.Bench as bench
 use Rattle.meter.specs.Reply.{is_sound}
 use Rattle.energy_log.specs.Fresh.{fresh_number, fresh_of}
@@ -35,33 +38,26 @@ use Rattle.energy_log.specs.View.{View, view_of}
 use Rattle.energy_log.specs.declared.image.Change.TheVariants as change
 use Rattle.logger.specs.Lapse as silence
 use Rattle.logger.proofs.LapseLaws.{is_refused, lapsing-ways}
-use Rattle.logger.specs.declared.no_reply.LapseDecision.{LapseDecision}
-use Rattle.logger.specs.declared.no_reply.LapseAnswer.{LapseAnswer}
-use Rattle.logger.specs.declared.no_reply.LapseAnswer.TheVariants as lapse-answer
+use Rattle.logger.specs.Lapse.{LapseDecision}
 use Rattle.log_header.proofs.HeaderLaws.{by-sound}
 use Rattle.log_header.specs.Interval.{interval_of, day_date}
 use Rattle.log_header.proofs.IntervalLaws.{by-at}
 use Rattle.log_header.specs.declared.header.Header.{Header}
-use Rattle.log_header.specs.declared.header.HeaderAnswer.{HeaderAnswer}
-use Rattle.log_header.specs.declared.header.HeaderAnswer.TheVariants.{Right, Wrong}
-use Rattle.log_header.specs.declared.header.LogHeader.{LogHeader}
-use Rattle.log_header.specs.declared.interval.DayAnswer.{DayAnswer}
-use Rattle.log_header.specs.declared.interval.DayAnswer.TheVariants as on-day
 use Rattle.day_rows.specs.LogAndRows.{LogAndRows, log_and_rows, enough}
 use Rattle.day_rows.specs.Figures.{row_numbers, day_cells}
 use Rattle.day_rows.specs.Fresh.{fresh_with}
 use Rattle.day_rows.specs.Rows.{row_at}
 use Rattle.day_report.specs.Report as report
 use Rattle.day_report.specs.Text as text
-use Rattle.day_report.specs.declared.answer.TextAnswer.{TextAnswer}
 use Rattle.day_report.specs.Day as day
 use Rattle.day_report.specs.Strip as strip
+use Rattle.day_report.specs.declared.answer.ReportError.{ReportError}
 use Rattle.log_file.specs.Row as file
 use Rattle.log_file.specs.Row.{lapses_in}
 use Rattle.log_file.specs.File.{is_version, file_header, file_length_as, file_length, cells_right}
 use Rattle.log_file.specs.Read as reading
 use Rattle.log_file.specs.Write as writing
-use Rattle.log_file.specs.declared.read.ReadAnswer.{ReadAnswer}
+use Rattle.log_file.specs.declared.read.ReadError.{ReadError}
 use Rattle.report_page.specs.Page as page
 use Rattle.report_page.specs.declared.page.Page.{Page}
 use Rattle.logger.specs.Ask as asking
@@ -70,11 +66,12 @@ use Rattle.logger.specs.Run.{State, state, step}
 use Rattle.logger.specs.Take as taking
 use Rattle.logger.proofs.TakeLaws.{by-none, Step, is_closing, decided-ways}
 use Rattle.logger.specs.declared.held.OpenAsk.{OpenAsk}
-use Rattle.logger.specs.declared.held.OpenAsk.TheVariants.{Closed}
-use Rattle.logger.specs.declared.ask.Asked.{Asked}
-use Rattle.logger.specs.declared.take.Taken.{Taken}
-use Rattle.logger.specs.declared.take.TakeAnswer.{TakeAnswer}
-use Rattle.logger.specs.declared.take.TakeAnswer.TheVariants as answer
+use Rattle.logger.specs.Ask.{Asked}
+use Rattle.logger.specs.Take.{Taken}
+use Rattle.logger.specs.declared.no_reply.LapseError.{LapseError}
+use Rattle.logger.specs.declared.take.TakeError.{TakeError}
+use Rattle.logger.specs.declared.no_reply.LapseError.TheVariants as lapse-error
+use Rattle.logger.specs.declared.take.TakeError.TheVariants as answer
 use Rattle.claims.specs.Demand1.{in_table, Ends, EndsBy, closes_ask}
 
 -- 0, whatever was done
@@ -90,9 +87,9 @@ stays number x t = record { in-table = t; unchanged = λ n. refl }
 by-check : {A : Type 0} (P : A → Type 0) (passed : Bool) {x y : A} → P x → P y → P (check passed x y)
 by-check P passed x y = either P passed y x
 
-by_right : {A : Type 0} (P : A → Type 0) (a : HeaderAnswer) {x : A} {f : Header → A} → P x → ((h : Header) → P (f h)) → P (if_right a x f)
-by_right P Wrong x k = x
-by_right P (Right h) x k = k h
+by_right : {A : Type 0} (P : A → Type 0) (a : Option Header) {x : A} {f : Header → A} → P x → ((h : Header) → P (f h)) → P (if_right a x f)
+by_right P None x k = x
+by_right P (Some h) x k = k h
 
 -- ---- requests, and replies decoded
 
@@ -113,30 +110,22 @@ fault-in-table fault.Function = refl
 fault-in-table fault.Parameter = refl
 
 -- demand 1's `decode`: each answer of the reader has a number of the table
-pub decode : (d : Decoded) → in_table (reader.number_of d) ≡ true
+pub decode : (d : Result Decoded DecodeError) → in_table (reader.number_of d) ≡ true
 unfolding in_table
-decode decoded.OutOfRange = refl
-decode (decoded.Malformed f) = fault-in-table f
-decode (decoded.MeterRefused result) = refl
-decode decoded.NotFinite = refl
-decode (decoded.Address a) = refl
-decode (decoded.Telemetry t) = refl
-decode (decoded.DateTime t) = refl
-decode (decoded.DisplayMask m) = refl
-decode (decoded.Powers p) = refl
-decode (decoded.OnePower p) = refl
-decode (decoded.Slice c) = refl
-decode decoded.SixSlices = refl
-decode (decoded.Displayed e) = refl
+decode (Err decoded_error.OutOfRange) = refl
+decode (Err (decoded_error.Malformed f)) = fault-in-table f
+decode (Err (decoded_error.MeterRefused result)) = refl
+decode (Err decoded_error.NotFinite) = refl
+decode (Ok figures) = refl
 
 -- ---- the bench
 
 -- demand 1's `record_given`: so has each answer of the calls that hand over a record
-pub record_given : (a : RecordAnswer) → in_table (record_of.number_of a) ≡ true
+pub record_given : (a : Result Record RecordError) → in_table (record_of.number_of a) ≡ true
 unfolding in_table
-record_given (given.Done r) = refl
-record_given given.OutOfRange = refl
-record_given given.Unsound = refl
+record_given (Ok r) = refl
+record_given (Err given.OutOfRange) = refl
+record_given (Err given.Unsound) = refl
 
 -- demand 1's `put_slice`: a slice that is refused leaves the store
 pub put_slice : (r : Record) (s : List ℕ) (k : Key) (row : List ℕ) → EndsBy record_of.number_of s (bench.slice_put r s k row)
@@ -167,7 +156,7 @@ fresh-image h out =
 -- ---- day reports and their text
 
 -- demand 1's `day_report`: a report that is refused leaves the lent row
-pub day_report : (lent : LogHeader) (figs : List ℕ) (d : ℕ) (row : List ℕ) → EndsBy report.report_number row (report.report_of lent figs d row)
+pub day_report : (lent : Option Header) (figs : List ℕ) (d : ℕ) (row : List ℕ) → EndsBy report.report_number row (report.report_of lent figs d row)
 unfolding report.report_of in_table
 day_report lent figs d row =
     let P = EndsBy report.report_number row in
@@ -181,11 +170,11 @@ pub put-text : (line out : List ℕ) → EndsBy text.text_number out (text.put_t
 unfolding text.put_text in_table
 put-text line out = either (EndsBy text.text_number out) (leb (length line) (length out)) (done out _) (stays 1 out refl)
 
-module _ (lent : LogHeader) (figs : List ℕ) (d : ℕ) (out : List ℕ) where
-  dated-put : (a : DayAnswer) → EndsBy text.text_number out (day.day_on_text a (row_at figs d) out)
+module _ (lent : Option Header) (figs : List ℕ) (d : ℕ) (out : List ℕ) where
+  dated-put : (a : Option Date) → EndsBy text.text_number out (day.day_on_text a (row_at figs d) out)
   unfolding day.day_on_text in_table
-  dated-put on-day.Outside = stays 22 out refl
-  dated-put (on-day.On date) = put-text (text.line_text date (row_at figs d)) out
+  dated-put None = stays 22 out refl
+  dated-put (Some date) = put-text (text.line_text date (row_at figs d)) out
 
   -- demand 1's `put_day`: a day's line that is refused leaves the lent output
   pub put_day : EndsBy text.text_number out (day.day_text lent figs d out)
@@ -195,10 +184,10 @@ module _ (lent : LogHeader) (figs : List ℕ) (d : ℕ) (out : List ℕ) where
       by-sound P lent (λ e. stays 28 out refl) (λ h e. by-check P (enough h figs) (stays 1 out refl) (dated-put (day_date h d)))
 
 module _ (v : View) (d : ℕ) (out : List ℕ) where
-  stripped : (h : Header) (a : DayAnswer) → EndsBy text.text_number out (strip.strip_on a (day_cells v.cell h d) (strip.day_marks v.cell h d) out)
+  stripped : (h : Header) (a : Option Date) → EndsBy text.text_number out (strip.strip_on a (day_cells v.cell h d) (strip.day_marks v.cell h d) out)
   unfolding strip.strip_on strip.strip_dated in_table
-  stripped h on-day.Outside = stays 22 out refl
-  stripped h (on-day.On date) =
+  stripped h None = stays 22 out refl
+  stripped h (Some date) =
       by-check (EndsBy text.text_number out) (all_good (day_cells v.cell h d)) (stays 28 out refl) (put-text _ out)
 
   -- demand 1's `put_strip`: a day's strip that is refused leaves the lent output
@@ -235,7 +224,7 @@ write_file v out =
 
 -- ---- what is printed for a file that was read
 
-read-line : (read : ReadAnswer) (given : LogAndRows) (i : ℕ) (out : List ℕ) → EndsBy text.text_number out (page.read_line read given i out)
+read-line : (read : Result ℕ ReadError) (given : LogAndRows) (i : ℕ) (out : List ℕ) → EndsBy text.text_number out (page.read_line read given i out)
 unfolding page.read_line page.report_line page.refused_line in_table
 read-line read given i out =
     let P = EndsBy text.text_number out in
@@ -244,11 +233,11 @@ read-line read given i out =
     (either P (eqb i 0) (put-text _ out) (stays 22 out refl))
 
 -- a line that was not put leaves the page where it was
-same-page : (p : Page) (a : TextAnswer) → (text.text_number a ≡ 0 → ⊥) → page.page_after a p ≡ p
+same-page : (p : Page) (a : Result ℕ ReportError) → (text.text_number a ≡ 0 → ⊥) → page.page_after a p ≡ p
 unfolding page.page_after
 same-page p a q = simp (ne_eqb _ _ q)
 
-goes_on : (p : Page) (out : List ℕ) (o : Outcome TextAnswer (List ℕ)) → EndsBy text.text_number out o → let l = page.goes_on p o in
+goes_on : (p : Page) (out : List ℕ) (o : Outcome (Result ℕ ReportError) (List ℕ)) → EndsBy text.text_number out o → let l = page.goes_on p o in
     Ends {A = Page × List ℕ} (text.text_number l.result.answer) (p, out) (l.result.after, l.left)
 goes_on p out o e =
     record { in-table = e.in-table; unchanged = λ q. ap₂ (λ (x : Page) (y : List ℕ). (x, y)) (same-page p o.result q) (e.unchanged q) }
@@ -268,12 +257,12 @@ put_next_strip p log out = goes_on p out (page.read_strip p.read log p.next out)
 -- ---- asks, lapses and replies
 
 -- demand 1's `put_ask`: an ask that is refused leaves the open ask and the output
-pub put_ask : (v : View) (held : OpenAsk) (address day slot : ℕ) (out : List ℕ) → let o = asking.asked v held address day slot out in
-    Ends {A = OpenAsk × List ℕ} (asking.number_of o.result.answer) (held, out) (o.result.held, o.left)
+pub put_ask : (v : View) (held : Option OpenAsk) (address day slot : ℕ) (out : List ℕ) → let o = asking.asked v held address day slot out in
+    Ends {A = Option OpenAsk × List ℕ} (asking.number_of o.result.answer) (held, out) (o.result.held, o.left)
 unfolding asking.asked in_table
 put_ask v held address day slot out =
     let P : Outcome Asked (List ℕ) → Type 0 =
-    λ o. Ends {A = OpenAsk × List ℕ} (asking.number_of o.result.answer) (held, out) (o.result.held, o.left) in
+    λ o. Ends {A = Option OpenAsk × List ℕ} (asking.number_of o.result.answer) (held, out) (o.result.held, o.left) in
     either P (ltb (length out) read_size) (record { in-table = refl; unchanged = λ n. refl }) (
     by-sound P v.lent (λ e. record { in-table = refl; unchanged = λ n. refl }) (λ h e.
     by-none P held (λ a d t o. record { in-table = refl; unchanged = λ n. refl }) (λ o.
@@ -287,39 +276,39 @@ lapse s =
     lapsing-ways
     (λ (d : LapseDecision).
     EndsBy (λ (a : book.Answer). a.number) s
-    (outcome (book.plain (silence.number_of d.lapsed.answer)) (state (log_and_rows (applied d.change s.log) s.figures) d.lapsed.held)))
+    (outcome (book.plain (silence.number_of d.answered.answer)) (state (log_and_rows (applied d.change s.log) s.figures) d.answered.held)))
     (view_of s.log) s.held (record {
       none = λ e. done s _;
       refused = λ a n. refused-lapse a n;
       counted = λ h i e o. done s _;
     })
   where
-    refused-lapse : (a : LapseAnswer) → is_refused a ≡ true
+    refused-lapse : (a : Result Unit LapseError) → is_refused a ≡ true
         → EndsBy (λ (a : book.Answer). a.number) s (outcome (book.plain (silence.number_of a)) (state (log_and_rows (applied change.None s.log) s.figures) s.held))
-    refused-lapse lapse-answer.Done n = absurd (false≢true n)
-    refused-lapse lapse-answer.NotInLog n = record { in-table = refl; unchanged = λ k. refl }
-    refused-lapse lapse-answer.Unsound n = record { in-table = refl; unchanged = λ k. refl }
+    refused-lapse (Ok tt) n = absurd (false≢true n)
+    refused-lapse (Err lapse-error.NotInLog) n = record { in-table = refl; unchanged = λ k. refl }
+    refused-lapse (Err lapse-error.Unsound) n = record { in-table = refl; unchanged = λ k. refl }
 
 -- demand 1's `lapse_none`, CR 7: with no ask open a lapse answers 0 and changes nothing, whatever the log is
-pub lapse_none : (b : LogAndRows) → step (state b Closed) book.lapse ≡ outcome (book.plain 0) (state b Closed)
+pub lapse_none : (b : LogAndRows) → step (state b None) book.lapse ≡ outcome (book.plain 0) (state b None)
 unfolding step silence.lapsed silence.lapsing applied
 lapse_none b = refl
 
 -- a taken reply: the log with its figures, and the ask
-record TakenEnds (b : LogAndRows) (held : OpenAsk) (o : Outcome Taken LogAndRows) : Type 0 where
+record TakenEnds (b : LogAndRows) (held : Option OpenAsk) (o : Outcome Taken LogAndRows) : Type 0 where
   log : Ends (taking.number_of o.result.answer) b o.left
-  ask : o.result.held ≡ cond (closes_ask (taking.number_of o.result.answer)) Closed held
+  ask : o.result.held ≡ cond (closes_ask (taking.number_of o.result.answer)) None held
 
-answer-in-table : (a : TakeAnswer) → in_table (taking.number_of a) ≡ true
+answer-in-table : (a : Result Unit TakeError) → in_table (taking.number_of a) ≡ true
 unfolding in_table
-answer-in-table answer.Done = refl
-answer-in-table answer.TooShort = refl
-answer-in-table answer.NoAskOpen = refl
-answer-in-table answer.NotInLog = refl
-answer-in-table (answer.Malformed f) = fault-in-table f
-answer-in-table (answer.MeterRefused result) = refl
-answer-in-table answer.OtherCounts = refl
-answer-in-table answer.Unsound = refl
+answer-in-table (Ok tt) = refl
+answer-in-table (Err answer.TooShort) = refl
+answer-in-table (Err answer.NoAskOpen) = refl
+answer-in-table (Err answer.NotInLog) = refl
+answer-in-table (Err (answer.Malformed f)) = fault-in-table f
+answer-in-table (Err (answer.MeterRefused result)) = refl
+answer-in-table (Err answer.OtherCounts) = refl
+answer-in-table (Err answer.Unsound) = refl
 
 -- a reply that is not well formed leaves the ask open
 fault-open : (f : Fault) → closes_ask (fault_number f) ≡ false
@@ -330,17 +319,17 @@ fault-open fault.Function = refl
 fault-open fault.Parameter = refl
 
 -- the numbers tell which answers close it
-pub number-closes : (a : TakeAnswer) → closes_ask (taking.number_of a) ≡ is_closing a
-number-closes answer.Done = refl
-number-closes answer.TooShort = refl
-number-closes answer.NoAskOpen = refl
-number-closes answer.NotInLog = refl
-number-closes (answer.Malformed f) = fault-open f
-number-closes (answer.MeterRefused result) = refl
-number-closes answer.OtherCounts = refl
-number-closes answer.Unsound = refl
+pub number-closes : (a : Result Unit TakeError) → closes_ask (taking.number_of a) ≡ is_closing a
+number-closes (Ok tt) = refl
+number-closes (Err answer.TooShort) = refl
+number-closes (Err answer.NoAskOpen) = refl
+number-closes (Err answer.NotInLog) = refl
+number-closes (Err (answer.Malformed f)) = fault-open f
+number-closes (Err (answer.MeterRefused result)) = refl
+number-closes (Err answer.OtherCounts) = refl
+number-closes (Err answer.Unsound) = refl
 
-taken-ends : (b : LogAndRows) (held : OpenAsk) (y : List ℕ) → TakenEnds b held (taking.taken b held y)
+taken-ends : (b : LogAndRows) (held : Option OpenAsk) (y : List ℕ) → TakenEnds b held (taking.taken b held y)
 unfolding taking.taken applied
 taken-ends b held y =
     decided-ways (λ (o : Step). TakenEnds b held (taking.done o b.log)) (view_of b.log) b.figures held y (record {
@@ -350,10 +339,10 @@ taken-ends b held y =
     })
 
 -- demand 1's `take_reply`: a reply that is answered otherwise than 0 leaves log and figures
-pub take_reply : (b : LogAndRows) (held : OpenAsk) (y : List ℕ) → let o = taking.taken b held y in Ends (taking.number_of o.result.answer) b o.left
+pub take_reply : (b : LogAndRows) (held : Option OpenAsk) (y : List ℕ) → let o = taking.taken b held y in Ends (taking.number_of o.result.answer) b o.left
 take_reply b held y = (taken-ends b held y).log
 
 -- demand 1's `ask_after`: 0, 24 and 25 close the ask, every other answer leaves it
-pub ask_after : (b : LogAndRows) (held : OpenAsk) (y : List ℕ) → let o = taking.taken b held y in
-    o.result.held ≡ cond (closes_ask (taking.number_of o.result.answer)) Closed held
+pub ask_after : (b : LogAndRows) (held : Option OpenAsk) (y : List ℕ) → let o = taking.taken b held y in
+    o.result.held ≡ cond (closes_ask (taking.number_of o.result.answer)) None held
 ask_after b held y = (taken-ends b held y).ask

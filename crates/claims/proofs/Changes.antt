@@ -6,6 +6,7 @@ use Prim.Native.Nat.{ℕ}
 use lib.Dec.{eqb, leb}
 use lib.ListN.{length}
 use borrow.Author.Tests.{eqb-true}
+use Rattle.std.specs.Prelude.{Err, Ok}
 use Rattle.test_laws.proofs.Test.{either}
 use Rattle.byte_numbers.specs.Place.{byte_at, number_at}
 use Rattle.parameters.specs.declared.code.Function.{Function}
@@ -28,7 +29,7 @@ use Rattle.meter_command.specs.Command.{function_in, parameter_in, detail_in, da
 use Rattle.meter_command.specs.Verdict.{is_done}
 use Rattle.meter_command.specs.declared.access.Met.{Met}
 use Rattle.meter_command.specs.declared.access.Met.TheVariants.{Own, Zero, Neither}
-use Rattle.meter_command.specs.declared.verdict.Verdict.TheVariants.{Done, WrongLength, NoAccess, WrongArgument}
+use Rattle.meter_command.specs.declared.verdict.Refusal.TheVariants.{WrongLength, NoAccess, WrongArgument}
 use Rattle.meter.specs.Effect.{renewed, after_of, after_by, is_slice, clears, clears_by, store_after}
 use Rattle.meter.specs.Reply.{Outcome, met, answer_of}
 use Rattle.claims.specs.Demand1.{answer_number}
@@ -169,7 +170,7 @@ its_own p f h =
     go (eqb (length f) 14) (leb (byte_at f 3) 1) (eqb (number_at f 4 8) (password_for p (byte_at f 3))) refl (eqb (byte_at f 2) 0) h
   where
     go : (a b c : Bool) → eqb (number_at f 4 8) (password_for p (byte_at f 3)) ≡ c → (d : Bool)
-        → is_done (cond a (cond b (cond c (cond d Done WrongArgument) NoAccess) WrongArgument) WrongLength) ≡ true
+        → is_done (cond a (cond b (cond c (cond d (Ok tt) (Err WrongArgument)) (Err NoAccess)) (Err WrongArgument)) (Err WrongLength)) ≡ true
         → number_at f 4 8 ≡ password_for p (byte_at f 3)
     go false b c e d k = absurd (false≢true k)
     go true false c e d k = absurd (false≢true k)

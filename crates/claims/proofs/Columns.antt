@@ -9,6 +9,7 @@ use borrow.Author.Tests.{lt-ltb}
 use lib.Dec.{ltb}
 use lib.ListN.{length, take, drop, get_or}
 use lib.Seq.{ext_get_or}
+use Rattle.std.specs.Prelude.{None, Ok, Option, Some}
 use Rattle.refusal.specs.Outcome.{outcome}
 use Rattle.test_laws.proofs.Test.{chosen}
 use Rattle.byte_numbers.specs.Number.{Bytes, bytes_of}
@@ -26,18 +27,14 @@ use Rattle.energy_log.proofs.ViewLaws.{cell_in_lem}
 use Rattle.log_cell.specs.Cell.{kind_of, e_plus_of, e_minus_of, r_plus_of, r_minus_of, kind_bytes, counts_bytes, kind_cell}
 use Rattle.log_header.specs.Header.{cells_of, date_bytes, header_bytes_as, header_bytes, sound_of}
 use Rattle.energy_log.specs.Image as image
-use Rattle.energy_log.specs.Image.{cells_at, read_among, cell_among, lapses_among, cell_at, lapses_at, image_of, goods}
+use Rattle.energy_log.specs.Image.{cells_at, read_among, cell_among, lapses_among, cell_at, lapses_at, goods}
 use Rattle.log_header.specs.Interval.{exists_at, comes_twice_at}
 use Rattle.energy_log.specs.Pair.{pair_of}
 use Rattle.energy_log.specs.Walk.{Place, place_at, seen_from, day_walk, keep, existing, cells_seen}
 use Rattle.energy_log.specs.View.{View, view_of}
 use Rattle.log_cell.specs.declared.cell.Cell.{Cell}
 use Rattle.log_cell.specs.declared.cell.Cell.TheVariants.{Gap, Empty, Measured}
-use Rattle.log_cell.specs.declared.cell.CellAnswer.{CellAnswer}
-use Rattle.log_cell.specs.declared.cell.CellAnswer.TheVariants.{Good, Bad}
 use Rattle.log_header.specs.declared.header.Header.{Header}
-use Rattle.log_header.specs.declared.header.LogHeader.{LogHeader}
-use Rattle.log_header.specs.declared.header.LogHeader.TheVariants.{Sound}
 use Rattle.day_rows.specs.LogAndRows.{LogAndRows, log_and_rows}
 use Rattle.day_rows.specs.Figures.{figures, day_cells, twice_cells}
 use Rattle.day_rows.specs.Rows.{Right, walked, figures_of, all_figures}
@@ -45,15 +42,12 @@ use Rattle.day_rows.specs.Tallies.{tallies, report_row, plus, tallies_in, tallie
 use Rattle.day_rows.specs.declared.tallies.Tallies.{Tallies}
 use Rattle.day_rows.proofs.RowsLaws.{right-enough}
 use Rattle.day_report.specs.Report.{report_of}
-use Rattle.day_report.specs.declared.report.ReportAnswer.TheVariants as report
 use Rattle.log_file.proofs.FileLaws.{written-file, image-seen}
 use Rattle.log_file.proofs.RowLaws.{rows_alike}
 use Rattle.log_file.specs.File.{file_bytes_as, file_bytes, file_length_as, file_length}
 use Rattle.log_file.specs.Read.{read_file}
 use Rattle.log_file.specs.Row.{has_lapses, row_size_of, row_bytes, row_start, rows_bytes}
 use Rattle.log_file.specs.Write.{written_file}
-use Rattle.log_file.specs.declared.read.ReadAnswer.TheVariants as read
-use Rattle.log_file.specs.declared.write.WriteAnswer.TheVariants as write
 use Rattle.claims.specs.Columns.{Numbers, numbers_of, two_at, head_in, InImage, row_in, rows_in, file_in, AreCells, sum_where, of_cell, gap, empty, measured, row_on}
 use Rattle.claims.specs.Demand3.{Start}
 use Rattle.claims.specs.RegisterToCell.{OnDay, is_skipped, comes_twice}
@@ -69,7 +63,7 @@ unfolding header_bytes_as date_bytes bytes_of head_in
 header_is h = refl
 
 -- the columns' `head`: the log in memory begins with the header's 14 bytes, as the papers have them
-pub head : (s : List ℕ) (h : Header) → Bytes s → sound_of s ≡ Sound h → take 14 s ≡ head_in h
+pub head : (s : List ℕ) (h : Header) → Bytes s → sound_of s ≡ Some h → take 14 s ≡ head_in h
 head s h bytes p = sound-front s h bytes p ∙ header_is h
 
 -- a cell's numbers by the log's words
@@ -83,10 +77,10 @@ numbers-are (Measured e+ e- r+ r-) = refl
 at_place : (s : List ℕ) (p q n : ℕ) → p ≡ q → number_at s p 2 ≡ n → two_at s q ≡ n
 at_place s p q n e k = let w = two s q in omega (arith, w, ap (λ (x : ℕ). number_at s x 2) e, k)
 
-module _ (n : ℕ) (s : List ℕ) (i : ℕ) (c : Cell) (p : cell_among n s i ≡ Good c) where
-  read_as : (ltb i n ≡ true) × (kind_cell (image.kind_at s i) (image.count_at n s i) (image.count_at n s (n + i)) (image.count_at n s (2 * n + i)) (image.count_at n s (3 * n + i)) ≡ Good c)
+module _ (n : ℕ) (s : List ℕ) (i : ℕ) (c : Cell) (p : cell_among n s i ≡ Some c) where
+  read_as : (ltb i n ≡ true) × (kind_cell (image.kind_at s i) (image.count_at n s i) (image.count_at n s (n + i)) (image.count_at n s (2 * n + i)) (image.count_at n s (3 * n + i)) ≡ Some c)
   unfolding read_among
-  read_as = chosen (ltb i n) _ Bad p (bad≢good c)
+  read_as = chosen (ltb i n) _ None p (bad≢good c)
 
   among : InImage s n i (numbers_of c) (lapses_among n s i)
   unfolding pair_of lapses_among
@@ -103,12 +97,12 @@ module _ (n : ℕ) (s : List ℕ) (i : ℕ) (c : Cell) (p : cell_among n s i ≡
       }
 
 -- the columns' `image`, CR 9: where kind, counts and lapses of a cell that is seen stand in memory
-pub image-of : (s : List ℕ) (h : Header) (i : ℕ) (c : Cell) → sound_of s ≡ Sound h → (view_of s).cell i ≡ Good c
+pub image-of : (s : List ℕ) (h : Header) (i : ℕ) (c : Cell) → sound_of s ≡ Some h → (view_of s).cell i ≡ Some c
     → InImage s (h.days * slots_of h.minutes) i (numbers_of c) ((view_of s).lapses i)
 unfolding cell_at lapses_at cells_of
 image-of s h i c p g =
     let n : cells_at s ≡ h.days * slots_of h.minutes = cells_at_lem s h p in
-    let seen : cell_at s i ≡ Good c = rw p at g in
+    let seen : cell_at s i ≡ Some c = rw p at g in
     let here : InImage s (cells_at s) i (numbers_of c) (lapses_at s i) = among (cells_at s) s i c seen in
     rw p (subst (λ (n : ℕ). InImage s n i (numbers_of c) (lapses_at s i)) n here)
 
@@ -138,7 +132,7 @@ module _ (b : LogAndRows) (start : Start b) (cs : List Cell) (count : length cs 
   abbrev h : Header
   h = start.header
 
-  good-same : (c d : Cell) → Good c ≡ Good d → c ≡ d
+  good-same : (c d : Cell) → Some c ≡ Some d → c ≡ d
   good-same c d p = cc
 
   same_count : length cs ≡ length start.cells
@@ -162,7 +156,7 @@ module _ (b : LogAndRows) (start : Start b) (cs : List Cell) (count : length cs 
       ap (λ (x : List ℕ). framed (header_bytes h ++ x)) (rows_alike 3 start.cells start.lapses (view_of b.log).lapses same-lapses)
       ∙ ap (λ (x : List Cell). file_bytes h x (view_of b.log).lapses) (sym same-cells) ∙ file-is h cs (view_of b.log).lapses
 
-  seen : seen_from (cell_at b.log) 0 (cells_of h) ≡ map Good start.cells
+  seen : seen_from (cell_at b.log) 0 (cells_of h) ≡ map Some start.cells
   seen = ap (λ (s : List ℕ). seen_from (cell_at s) 0 (cells_of h)) start.image ∙ image-seen h start.cells start.lapses (start_is start)
 
   lapses-at : (j : ℕ) → j < length start.cells → lapses_at b.log j ≡ start.lapses j
@@ -171,16 +165,16 @@ module _ (b : LogAndRows) (start : Start b) (cs : List Cell) (count : length cs 
   -- the columns' `file_written`: a start's file is written with these bytes and no others
   pub file_written : (out : List ℕ) → let n = h.days * slots_of h.minutes in 14 + 10 * n + 2 ≤ length out
       → written_file (view_of b.log) out
-      ≡ outcome (write.Done (14 + 10 * n + 2)) (file_in h cs (view_of b.log).lapses ++ drop (14 + 10 * n + 2) out)
+      ≡ outcome (Ok (14 + 10 * n + 2)) (file_in h cs (view_of b.log).lapses ++ drop (14 + 10 * n + 2) out)
   file_written out room =
       let size = file-size h in
       written-file b.log out h start.cells start.lapses (start-faithful start).sound seen lapses-at (start_is start) (omega (arith, size, room))
-      ∙ ap₂ (λ (n : ℕ) (f : List ℕ). outcome (write.Done n) (f ++ drop n out)) size same-file
+      ∙ ap₂ (λ (n : ℕ) (f : List ℕ). outcome (Ok n) (f ++ drop n out)) size same-file
 
   -- the columns' `file_read`: and those bytes are read as that log, with its figures
   pub file_read : (out figs : List ℕ) → let n = length b.log in n ≤ length out → figures_of h ≤ length figs
       → read_file (file_in h cs (view_of b.log).lapses) out figs
-      ≡ outcome (read.Done n) (log_and_rows (b.log ++ drop n out) (all_figures h (view_of b.log).cell ++ drop (figures_of h) figs))
+      ≡ outcome (Ok n) (log_and_rows (b.log ++ drop n out) (all_figures h (view_of b.log).cell ++ drop (figures_of h) figs))
   file_read out figs l m = ap (λ (f : List ℕ). read_file f out figs) (sym same-file) ∙ history.today-had b out figs start l m
 
 -- ---- in a day's report
@@ -202,10 +196,10 @@ module _ (p : Tallies → ℕ) (f : Cell → ℕ) (a : Adds p f) (test : Place �
       kept : List Place
       kept = keep test (seen_from seen (suc i) n)
 
-      go : p (tallies_of (goods (cells_seen kept))) ≡ sum_from (suc i) n → (b : Bool) (x : CellAnswer) → (seen i).cell ≡ x
+      go : p (tallies_of (goods (cells_seen kept))) ≡ sum_from (suc i) n → (b : Bool) (x : Option Cell) → (seen i).cell ≡ x
           → p (tallies_of (goods (cells_seen (cond b (seen i ∷ kept) kept)))) ≡ cond b (of_cell f (seen i).cell) 0 + sum_from (suc i) n
-      go rest true (Good c) e = rw e (a.more c (goods (cells_seen kept)) ∙ ap (λ (m : ℕ). f c + m) rest)
-      go rest true Bad e = rw e (rest ∙ omega arith)
+      go rest true (Some c) e = rw e (a.more c (goods (cells_seen kept)) ∙ ap (λ (m : ℕ). f c + m) rest)
+      go rest true None e = rw e (rest ∙ omega arith)
       go rest false x e = rest ∙ omega arith
 
 -- what a cell counts for in each of the seven numbers, and that they add up
@@ -252,7 +246,7 @@ module _ (there at : ℕ → Bool) (f : ℕ → ℕ) (from slots : ℕ) (same : 
       ap₂ (λ (b : Bool) (m : ℕ). cond b (f (from + k)) 0 + m) (same k (omega arith))
       (ap (λ (i : ℕ). sum_where at f i n) (sym (add-suc from k)) ∙ by_slots (suc k) n (omega arith))
 
-module _ (h : Header) (cell : ℕ → CellAnswer) (day : ℕ) (date : Date) (on : OnDay h day date) (start : is_date h.start ≡ true) where
+module _ (h : Header) (cell : ℕ → Option Cell) (day : ℕ) (date : Date) (on : OnDay h day date) (start : is_date h.start ≡ true) where
   abbrev slots : ℕ
   slots = slots_of h.minutes
 
@@ -295,11 +289,11 @@ module _ (h : Header) (cell : ℕ → CellAnswer) (day : ℕ) (date : Date) (on 
       ) refl
 
 -- the columns' `reported`: which number of a day's row is whose, over the slots of the day that exist
-pub reported : (b : LogAndRows) (h : Header) (day : ℕ) (date : Date) (row : List ℕ) → sound_of b.log ≡ Sound h → Right h (view_of b.log).cell b.figures
+pub reported : (b : LogAndRows) (h : Header) (day : ℕ) (date : Date) (row : List ℕ) → sound_of b.log ≡ Some h → Right h (view_of b.log).cell b.figures
     → day < h.days → OnDay h day date → 8 ≤ length row
-    → report_of (sound_of b.log) b.figures day row ≡ outcome report.Done (written row 0 (row_on h (view_of b.log).cell day date))
+    → report_of (sound_of b.log) b.figures day row ≡ outcome (Ok tt) (written row 0 (row_on h (view_of b.log).cell day date))
 reported b h day date row p right l on m =
     let start = (header-ranges h (sound-log b.log h p).ranges).start in
-    ap (λ (x : LogHeader). report_of x b.figures day row) p
+    ap (λ (x : Option Header). report_of x b.figures day row) p
     ∙ copies h b.figures day row l m (right-enough h (view_of b.log).cell b.figures right)
-    ∙ ap (λ (x : List ℕ). outcome report.Done (written row 0 x)) (right.rows day l ∙ row-sums h (view_of b.log).cell day date on start)
+    ∙ ap (λ (x : List ℕ). outcome (Ok tt) (written row 0 x)) (right.rows day l ∙ row-sums h (view_of b.log).cell day date on start)

@@ -7,6 +7,7 @@ use native.Mathlib.Omega.{arith}
 use lib.Dec.{ltb}
 use lib.ListN.{length, get_or}
 use borrow.Author.Tests.{le-leb, lt-ltb, ltb-true, ne_eqb}
+use Rattle.std.specs.Prelude.{None, Ok, Option, Result, Some}
 use Rattle.test_laws.proofs.Test.{either}
 use Rattle.refusal.specs.Outcome.{Outcome, outcome}
 use Rattle.byte_numbers.specs.Place.{written}
@@ -17,10 +18,6 @@ use Rattle.log_header.specs.Interval.{interval_of, day_date}
 use Rattle.energy_log.specs.View.{view_of}
 use Rattle.log_header.proofs.IntervalLaws.{by-at}
 use Rattle.log_header.specs.declared.header.Header.{Header}
-use Rattle.log_header.specs.declared.interval.DayAnswer.{DayAnswer}
-use Rattle.log_header.specs.declared.interval.DayAnswer.TheVariants as day
-use Rattle.log_header.specs.declared.header.LogHeader.{LogHeader}
-use Rattle.log_header.specs.declared.header.LogHeader.TheVariants.{Sound}
 use Rattle.reader.specs.declared.form.Fault.{Fault}
 use Rattle.reader.specs.declared.form.Fault.TheVariants as fault
 use Rattle.day_rows.specs.LogAndRows.{LogAndRows, enough}
@@ -30,11 +27,10 @@ use Rattle.day_rows.proofs.RowsLaws.{right-enough}
 use Rattle.day_report.specs.Day.{day_on_text, day_text}
 use Rattle.day_report.specs.Report.{report_of}
 use Rattle.day_report.specs.Text.{line_text, put_text}
-use Rattle.day_report.specs.declared.answer.TextAnswer.{TextAnswer}
-use Rattle.log_file.specs.declared.read.ReadAnswer.{ReadAnswer}
+use Rattle.day_report.specs.declared.answer.ReportError.{ReportError}
+use Rattle.log_file.specs.declared.read.ReadError.{ReadError}
 use Rattle.report_page.specs.Page.{report_line, ReadOf, page_at, goes_on, next_line, next_strip, page_line, strip_line}
 use Rattle.report_page.proofs.PageLaws.{line-of-file, strip-of-file}
-use Rattle.day_report.specs.declared.report.ReportAnswer.TheVariants as report
 use Rattle.logger.specs.Book.{Call, ask, lapse, reply, Answer, Book, plain, fault_answer, kept_answer, First, none, counts, first_of, alike, is_zero, place_of}
 use Rattle.logger.specs.Book.{counts_in, keep_reply, book_reply, book_ask, book_lapse, book_step, book_run, run_of, AllBytes}
 use Rattle.logger.specs.Reply.{slice_form, result_of}
@@ -58,52 +54,52 @@ kept b start calls k = (faithful b start calls k).right
 
 -- the report of a day whose figures are lent
 pub copies : (h : Header) (figs : List ℕ) (d : ℕ) (row : List ℕ) → d < h.days → row_numbers ≤ length row → enough h figs ≡ true
-    → report_of (Sound h) figs d row ≡ outcome report.Done (written row 0 (row_at figs d))
+    → report_of (Some h) figs d row ≡ outcome (Ok tt) (written row 0 (row_at figs d))
 unfolding report_of
 copies h figs d row l m e = simp (le-leb _ _ m, e, lt-ltb d h.days l)
 
 -- CR 8's `reported`: after any calls the report of a day copies what the walk gives
 pub reported : (b : LogAndRows) (start : Start b) (calls : List Call) → AllBytes calls → let s = (ran b calls).left in
     (d : ℕ) (row : List ℕ) → d < start.header.days → row_numbers ≤ length row
-    → report_of (sound_of s.log) s.figures d row ≡ outcome report.Done (written row 0 (walked start.header (view_of s.log).cell d))
+    → report_of (sound_of s.log) s.figures d row ≡ outcome (Ok tt) (written row 0 (walked start.header (view_of s.log).cell d))
 reported b start calls k d row l m =
     let h = start.header in
     let s = (ran b calls).left in
     let f = faithful b start calls k in
     let right = f.right in
-    ap (λ (x : LogHeader). report_of x s.figures d row) f.sound
+    ap (λ (x : Option Header). report_of x s.figures d row) f.sound
     ∙ copies h s.figures d row l m (right-enough h (view_of s.log).cell s.figures right)
-    ∙ ap (λ (x : List ℕ). outcome report.Done (written row 0 x)) (right.rows d l)
+    ∙ ap (λ (x : List ℕ). outcome (Ok tt) (written row 0 x)) (right.rows d l)
 
 -- ---- the text
 
-on-day : (h : Header) (d : ℕ) (date : Date) → day_date h d ≡ day.On date → d < h.days
+on-day : (h : Header) (d : ℕ) (date : Date) → day_date h d ≡ Some date → d < h.days
 unfolding day_date
 on-day h d date e = go (ltb d h.days) refl
   where
-    is_on : DayAnswer → Bool
-    is_on (day.On x) = true
-    is_on day.Outside = false
+    is_on : Option Date → Bool
+    is_on (Some x) = true
+    is_on None = false
 
     go : (b : Bool) → ltb d h.days ≡ b → d < h.days
     go true f = ltb-true d h.days f
     go false f = absurd (false≢true (ap is_on (simp f at e)))
 
-text_of : (h : Header) (figs : List ℕ) (d : ℕ) (date : Date) (out : List ℕ) → enough h figs ≡ true → day_date h d ≡ day.On date
-    → day_text (Sound h) figs d out ≡ put_text (line_text date (row_at figs d)) out
+text_of : (h : Header) (figs : List ℕ) (d : ℕ) (date : Date) (out : List ℕ) → enough h figs ≡ true → day_date h d ≡ Some date
+    → day_text (Some h) figs d out ≡ put_text (line_text date (row_at figs d)) out
 unfolding day_text day_on_text
 text_of h figs d date out e q = simp (e, q)
 
 -- CR 8's `line`: after any calls a day's line is its date with the walk's numbers
 pub line : (b : LogAndRows) (start : Start b) (calls : List Call) → AllBytes calls → let s = (ran b calls).left in
-    (d : ℕ) (date : Date) (out : List ℕ) → day_date start.header d ≡ day.On date
+    (d : ℕ) (date : Date) (out : List ℕ) → day_date start.header d ≡ Some date
     → day_text (sound_of s.log) s.figures d out ≡ put_text (line_text date (walked start.header (view_of s.log).cell d)) out
 line b start calls k d date out q =
     let h = start.header in
     let s = (ran b calls).left in
     let f = faithful b start calls k in
     let right = f.right in
-    ap (λ (x : LogHeader). day_text x s.figures d out) f.sound
+    ap (λ (x : Option Header). day_text x s.figures d out) f.sound
     ∙ text_of h s.figures d date out (right-enough h (view_of s.log).cell s.figures right) q
     ∙ ap (λ (x : List ℕ). put_text (line_text date x) out) (right.rows d (on-day h d date q))
 
@@ -116,23 +112,23 @@ by-day image figs d out =
 
 -- CR 8's `page-line`: and so is the day's line on the page
 pub page-line : (b : LogAndRows) (start : Start b) (calls : List Call) → AllBytes calls → let s = (ran b calls).left in
-    (d : ℕ) (date : Date) (out : List ℕ) → day_date start.header d ≡ day.On date
+    (d : ℕ) (date : Date) (out : List ℕ) → day_date start.header d ≡ Some date
     → report_line s.log s.figures (d + 1) out ≡ put_text (line_text date (walked start.header (view_of s.log).cell d)) out
 page-line b start calls k d date out q =
     let s = (ran b calls).left in
     by-day s.log s.figures d out ∙ line b start calls k d date out q
 
 -- what was read is the file's
-pub next-line : (f : List ℕ) (read : ReadAnswer) (given : LogAndRows) → ReadOf f read given → (i : ℕ) (out : List ℕ)
+pub next-line : (f : List ℕ) (read : Result ℕ ReadError) (given : LogAndRows) → ReadOf f read given → (i : ℕ) (out : List ℕ)
     → next_line (page_at read i) given out ≡ goes_on (page_at read i) (page_line f i out)
 unfolding next_line
-next-line f read given e i out = ap (λ (o : Outcome TextAnswer (List ℕ)). goes_on (page_at read i) o) (line-of-file f read given i out e)
+next-line f read given e i out = ap (λ (o : Outcome (Result ℕ ReportError) (List ℕ)). goes_on (page_at read i) o) (line-of-file f read given i out e)
 
 -- CR 8's `next-strip`: the page's next strip is that of the file that was read
-pub next-strip : (f : List ℕ) (read : ReadAnswer) (given : LogAndRows) → ReadOf f read given → (d : ℕ) (out : List ℕ)
+pub next-strip : (f : List ℕ) (read : Result ℕ ReadError) (given : LogAndRows) → ReadOf f read given → (d : ℕ) (out : List ℕ)
     → next_strip (page_at read d) given.log out ≡ goes_on (page_at read d) (strip_line f d out)
 unfolding next_strip
-next-strip f read given e d out = ap (λ (o : Outcome TextAnswer (List ℕ)). goes_on (page_at read d) o) (strip-of-file f read given d out e)
+next-strip f read given e d out = ap (λ (o : Outcome (Result ℕ ReportError) (List ℕ)). goes_on (page_at read d) o) (strip-of-file f read given d out e)
 
 -- CR 8's `polled`: what the program `poll` leaves has the walk's figures
 pub polled : (b : LogAndRows) (start : Start b) (c : LogAndRows) → Polled b c → Right start.header (view_of c.log).cell c.figures

@@ -6,6 +6,7 @@ use Prim.Native.Nat.{ℕ, ◌*◌, ◌^◌, ◌≤◌, ◌<◌}
 use native.Mathlib.Omega.{arith}
 use native.Mathlib.Nat.{lt_of_le_of_lt, mul_assoc, mul-le-mul, zero-mul}
 use lib.Dec.{lit≤}
+use Rattle.std.specs.Prelude.{Ok}
 use Rattle.kilowatt_hours.specs.Bits.{kwh_bits}
 use Rattle.kilowatt_hours.specs.Nearest.{Nearest}
 use Rattle.kilowatt_hours.proofs.Claims.{nearest-float}
@@ -60,7 +61,7 @@ module _ (r : Record) (w : Within r) (f : FitsRecord r) where
 
   -- what the reader finds in the meter's data, whatever stands behind them
   pub displayed-again : (row rest : List ℕ) → RowFits row
-      → energies_figure (energies_of (energies_bytes (displayed_of r row) ++ rest)) ≡ decoded.Displayed (four_energies r.telemetry.ke r.ratios row)
+      → energies_figure (energies_of (energies_bytes (displayed_of r row) ++ rest)) ≡ Ok (decoded.Displayed (four_energies r.telemetry.ke r.ratios row))
   displayed-again row rest k =
       let own = four_energies r.telemetry.ke r.ratios row in
       rw (displayed-own r w row, energies_of-bytes own rest (plain row k)) refl

@@ -6,6 +6,7 @@ use Prim.Native.Nat.{ℕ, ◌+◌, ◌≤◌}
 use lib.Dec.{eqb}
 use lib.ListN.{length}
 use borrow.Author.Tests.{le-ltb, le-leb, eq-eqb}
+use Rattle.std.specs.Prelude.{Ok, Result}
 use Rattle.byte_numbers.specs.Number.{bytes_of}
 use Rattle.byte_numbers.specs.Place.{byte_at, number_at}
 use Rattle.frame.specs.Sealing.{framed}
@@ -25,8 +26,7 @@ use Rattle.meter_command.specs.Access.{by_own, is_main, change_allowed, password
 use Rattle.meter_command.specs.Judgement.{passed, checked, argument_fits, read_verdict, change_verdict, zero_verdict, verdict_by, verdict_of}
 use Rattle.meter_command.specs.Command.{function_in, parameter_in, detail_in, command_of, data_in}
 use Rattle.meter_command.specs.declared.access.Met.TheVariants.{Own}
-use Rattle.meter_command.specs.declared.verdict.Verdict.{Verdict}
-use Rattle.meter_command.specs.declared.verdict.Verdict.TheVariants.{Done}
+use Rattle.meter_command.specs.declared.verdict.Refusal.{Refusal}
 use Rattle.meter.specs.Reply.{met, verdict_on, replied, answer_of}
 use Rattle.claims.specs.Demand1.{answer_number}
 use Rattle.claims.specs.Demand2.{answered}
@@ -36,16 +36,16 @@ use Rattle.claims.proofs.Replies.{request-read, request-parameter, request-again
 
 -- ---- a command that passes every check is answered 0
 
-answered-zero : (r : Record) (s f out : List ℕ) → Ready r s f out → verdict_on r f ≡ Done → answer_number (answer_of r s f out) ≡ 0
+answered-zero : (r : Record) (s f out : List ℕ) → Ready r s f out → verdict_on r f ≡ Ok tt → answer_number (answer_of r s f out) ≡ 0
 unfolding answer_of replied
 answered-zero r s f out y v = simp (le-ltb (length out) 64 y.room, y.sound, y.hears, v)
 
-zero-by : (r : Record) (s f out : List ℕ) (fn : Function) → Ready r s f out → function_in f ≡ fn → verdict_by fn (met r f) r (command_of f) f ≡ Done
+zero-by : (r : Record) (s f out : List ℕ) (fn : Function) → Ready r s f out → function_in f ≡ fn → verdict_by fn (met r f) r (command_of f) f ≡ Ok tt
     → answer_number (answer_of r s f out) ≡ 0
 unfolding verdict_of
 zero-by r s f out fn y e v = answered-zero r s f out y (ap (λ (g : Function). verdict_by g (met r f) r (command_of f) f) e ∙ v)
 
-all-passed : {k o l w a f : Bool} → k ≡ true → o ≡ true → l ≡ true → w ≡ true → a ≡ true → f ≡ true → checked k o l w a f ≡ Done
+all-passed : {k o l w a f : Bool} → k ≡ true → o ≡ true → l ≡ true → w ≡ true → a ≡ true → f ≡ true → checked k o l w a f ≡ Ok tt
 unfolding checked passed
 all-passed k o l w a f = simp (k, o, l, w, a, f)
 
@@ -79,7 +79,7 @@ read_by : (r : Record) (q : Request)
 unfolding verdict_of verdict_by read_verdict
 read_by r q =
     let f = request_frame q in
-    let seen : ℕ → Request → Verdict = λ n x.
+    let seen : ℕ → Request → Result Unit Refusal = λ n x.
     let w = parameter_row (parameter_of n) in
     checked (known w) (opens_to x.reading w) (eqb (length f) 8) true true (fields_fit w.fields x (slots_of r.minutes)) in
     ap (λ (fn : Function). verdict_by fn (met r f) r (command_of f) f) (request-read q)

@@ -5,6 +5,7 @@ use mathlib.Core.List.{List, ◌++◌, append_assoc}
 use Prim.Native.Nat.{ℕ}
 use native.Mathlib.Nat.{mod-eq_of_lt}
 use lib.Dec.{eqb}
+use Rattle.std.specs.Prelude.{Ok, Result, Option}
 use Rattle.byte_numbers.specs.Number.{bytes_of}
 use Rattle.byte_numbers.specs.Place.{number_at}
 use Rattle.byte_numbers.proofs.PlaceLaws.{number_at-front, number_at-behind-bytes}
@@ -35,6 +36,7 @@ use Rattle.wire_values.specs.Row.{row_at}
 use Rattle.reader.specs.Reply.{powers_figure, power_figure, phase_figures, read_figures, read_as, figures_of as figures_in}
 use Rattle.reader.specs.declared.reply.Decoded.{Decoded}
 use Rattle.reader.specs.declared.reply.Decoded.TheVariants as decoded
+use Rattle.reader.specs.declared.reply.DecodeError.{DecodeError}
 use Rattle.claims.specs.Figures.{own_power, four_counts, own_figures, own_as}
 use Rattle.claims.proofs.Displayed.{displayed-again}
 
@@ -78,11 +80,11 @@ power-again p detail rest f h = go (eqb detail 0) (eqb detail 1) (eqb detail 2)
     b : BoundsPhases p
     b = powers-bounds p h
 
-    figures : Bool → List ℕ → Decoded
+    figures : Bool → List ℕ → Result Decoded DecodeError
     figures x bs = cond x (powers_figure (powers_of bs)) (power_figure (power_of bs 0))
 
     go : (x y z : Bool) → figures x (cond x (powers_bytes p) (power_bytes (cond y p.a (cond z p.b p.c))) ++ rest)
-        ≡ cond x (decoded.Powers (record { total = total_of p; phases = p })) (decoded.OnePower (cond y p.a (cond z p.b p.c)))
+        ≡ cond x (Ok (decoded.Powers (record { total = total_of p; phases = p }))) (Ok (decoded.OnePower (cond y p.a (cond z p.b p.c))))
     go true y z = rw (powers-read p rest f h)
     go false true z = rw (power_of-bytes p.a rest f.a (bounds-finite p.a b.a))
     go false false true = rw (power_of-bytes p.b rest f.b (bounds-finite p.b b.b))
@@ -94,7 +96,7 @@ pub found-again : (p : Parameter) (r : Record) (s : List ℕ) (q : Request) (slo
     → figures_in (subject_for p q slots) (figures_as q.reading p r s q ++ rest) ≡ own_as q.reading p r s q
 unfolding read_as read_figures
 found-again p r s q slots rest w f k h =
-    ap (λ (x : Subject). figures_in x (figures_as q.reading p r s q ++ rest)) (asked p q slots h).subject ∙ found q.reading
+    ap (λ (x : Option Subject). figures_in x (figures_as q.reading p r s q ++ rest)) (asked p q slots h).subject ∙ found q.reading
   where
     go : (p : Parameter) → read_figures p q.detail (figures_of p r s q ++ rest) ≡ own_figures p r s q
     go parameter.ActivePower = power-again r.active q.detail rest f.active w.active

@@ -6,6 +6,7 @@ use Prim.Native.Nat.{ℕ, ◌≤◌}
 use borrow.Author.Tests.{eq-eqb}
 use lib.Dec.{lit≤}
 use lib.ListN.{length}
+use Rattle.std.specs.Prelude.{Err, Ok, Result}
 use Rattle.byte_numbers.specs.Number.{Bytes}
 use Rattle.frame.specs.Layout.{shortest}
 use Rattle.parameters.specs.Table.{parameter_row, opens_to, known, first_of, parameter_of}
@@ -30,13 +31,12 @@ use Rattle.meter_record.specs.Record.{number_of, set_ratios, with_ratios}
 use Rattle.meter_record.specs.Widths.{FitsRecord}
 use Rattle.meter_record.specs.declared.record.Ratios.{Ratios}
 use Rattle.meter_record.specs.declared.record.Record.{Record}
-use Rattle.meter_record.specs.declared.record.RecordAnswer.{RecordAnswer}
-use Rattle.meter_record.specs.declared.record.RecordAnswer.TheVariants.{Done}
+use Rattle.meter_record.specs.declared.record.RecordError.{RecordError}
 use Rattle.meter_record.proofs.RangeLaws as ranges
 use Rattle.meter_command.specs.Judgement.{checked, read_verdict, verdict_by, verdict_of}
 use Rattle.meter_command.specs.Command.{function_in, parameter_byte, parameter_in, command_of}
 use Rattle.meter_command.specs.declared.access.Met.{Met}
-use Rattle.meter_command.specs.declared.verdict.Verdict.TheVariants.{UnknownParameter, NotOpen}
+use Rattle.meter_command.specs.declared.verdict.Refusal.TheVariants.{UnknownParameter, NotOpen}
 use Rattle.meter.specs.Reply.{is_sound}
 use Rattle.claims.specs.Demand1.{answer_number}
 use Rattle.claims.specs.Demand2.{answered}
@@ -74,17 +74,17 @@ slices_alone r s q out e h =
 
 -- request 3's `not_open`: every other parameter that the meter knows gets 12
 pub not_open : (met : Met) (r : Record) (f : List ℕ) → function_in f ≡ function.Read Displayed → known (parameter_row (parameter_in f)) ≡ true
-    → (parameter_in f ≡ parameter.Slice → ⊥) → verdict_of met r (command_of f) f ≡ NotOpen
+    → (parameter_in f ≡ parameter.Slice → ⊥) → verdict_of met r (command_of f) f ≡ Err NotOpen
 unfolding verdict_of verdict_by read_verdict checked
 not_open met r f e k n = go (parameter_row (parameter_in f)).displayable refl
   where
-    go : (b : Bool) → (parameter_row (parameter_in f)).displayable ≡ b → verdict_of met r (command_of f) f ≡ NotOpen
+    go : (b : Bool) → (parameter_row (parameter_in f)).displayable ≡ b → verdict_of met r (command_of f) f ≡ Err NotOpen
     go true d = absurd (n (displayable-slice (parameter_in f) d))
     go false d = simp (e, k, d)
 
 -- request 3's `unknown`: one that it does not know gets 11
 pub unknown : (met : Met) (r : Record) (f : List ℕ) → function_in f ≡ function.Read Displayed → known (parameter_row (parameter_in f)) ≡ false
-    → verdict_of met r (command_of f) f ≡ UnknownParameter
+    → verdict_of met r (command_of f) f ≡ Err UnknownParameter
 unfolding verdict_of verdict_by read_verdict checked
 unknown met r f e k = simp (e, k)
 
@@ -93,7 +93,7 @@ unfolding parameter_byte parameter_of first_of
 bare-unknown f l = rw l refl
 
 -- request 3's `bare`: a frame of 4 bytes with function 4 gets 11, no longer 10
-pub bare : (met : Met) (r : Record) (f : List ℕ) → function_in f ≡ function.Read Displayed → length f ≡ shortest → verdict_of met r (command_of f) f ≡ UnknownParameter
+pub bare : (met : Met) (r : Record) (f : List ℕ) → function_in f ≡ function.Read Displayed → length f ≡ shortest → verdict_of met r (command_of f) f ≡ Err UnknownParameter
 bare met r f e l = unknown met r f e (ap (λ (p : Parameter). known (parameter_row p)) (bare-unknown f l))
 
 -- ---- the ratios
@@ -103,16 +103,16 @@ pub ratios_done : (r : Record) (k : Ratios) → is_within r ≡ true → are_rat
 unfolding set_ratios
 ratios_done r k w h = simp (w, h)
 
-ratios-handed : (r y : Record) (k : Ratios) → set_ratios r k ≡ Done y → set_ratios r k ≡ Done (with_ratios r k)
+ratios-handed : (r y : Record) (k : Ratios) → set_ratios r k ≡ Ok y → set_ratios r k ≡ Ok (with_ratios r k)
 unfolding set_ratios
 ratios-handed r y k h = go (is_within r) refl (are_ratios k) refl
   where
-    go : (a : Bool) → is_within r ≡ a → (b : Bool) → are_ratios k ≡ b → set_ratios r k ≡ Done (with_ratios r k)
+    go : (a : Bool) → is_within r ≡ a → (b : Bool) → are_ratios k ≡ b → set_ratios r k ≡ Ok (with_ratios r k)
     go false e b g = absurd (false≢true (ap is_handed (simp e at h)))
     go true e false g = absurd (false≢true (ap is_handed (simp (e, g) at h)))
     go true e true g = simp (e, g)
 
-ratios-sound : (r y : Record) (k : Ratios) (s : List ℕ) → set_ratios r k ≡ Done y → length s ≡ store_bytes → is_sound y s ≡ true
+ratios-sound : (r y : Record) (k : Ratios) (s : List ℕ) → set_ratios r k ≡ Ok y → length s ≡ store_bytes → is_sound y s ≡ true
 unfolding is_sound
 ratios-sound r y k s h l = ap₂ ◌&&◌ (eq-eqb (length s) store_bytes l) (ap ranges.hands_back (sym h) ∙ ranges.ratios-within r k)
 
@@ -126,14 +126,14 @@ displayed-bytes r k slots f most h =
     record { repeated = record { address = f.address; parameter = lit≤ tt }; offset = b.offset; tariff = b.tariff; detail = b.detail }
 
 -- request 3's `ratios_read`: the ratios that the bench set are in what the display then shows
-pub ratios_read : (r y : Record) (k : Ratios) (s : List ℕ) (key : Key) (room : List ℕ) → set_ratios r k ≡ Done y → FitsRecord y → Bytes s
+pub ratios_read : (r y : Record) (k : Ratios) (s : List ℕ) (key : Key) (room : List ℕ) → set_ratios r k ≡ Ok y → FitsRecord y → Bytes s
     → length s ≡ store_bytes → is_legal key (slots_of y.minutes) ≡ true → 64 ≤ length room
-    → read_back y s (displayed_read y key) room ≡ decoded.Displayed (four_energies r.telemetry.ke k (slice_of s key))
+    → read_back y s (displayed_read y key) room ≡ Ok (decoded.Displayed (four_energies r.telemetry.ke k (slice_of s key)))
 ratios_read r y k s key room h f b l legal space =
     let done = sym h ∙ ratios-handed r y k h in
-    let set : y.ratios ≡ k = ap (λ (z : RecordAnswer). (handed z r).ratios) done in
-    let ke : y.telemetry.ke ≡ r.telemetry.ke = ap (λ (z : RecordAnswer). (handed z r).telemetry.ke) done in
+    let set : y.ratios ≡ k = ap (λ (z : Result Record RecordError). (handed z r).ratios) done in
+    let ke : y.telemetry.ke ≡ r.telemetry.ke = ap (λ (z : Result Record RecordError). (handed z r).telemetry.ke) done in
     let slots = slots_of y.minutes in
     own y s (displayed_read y key) room f b (displayed-bytes y key slots f (slots-at-most y.minutes) legal) space
     (ratios-sound r y k s h l) refl (displayed-askable y key slots legal)
-    ∙ ap₂ (λ (n : ℕ) (x : Ratios). decoded.Displayed (four_energies n x (slice_of s key))) ke set
+    ∙ ap₂ (λ (n : ℕ) (x : Ratios). Ok (decoded.Displayed (four_energies n x (slice_of s key)))) ke set

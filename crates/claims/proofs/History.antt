@@ -9,27 +9,26 @@ use borrow.Author.Tests.{ltb-true, ltb-false, le-leb, leb-false, eq-eqb}
 use lib.Dec.{ltb, leb, eqb}
 use lib.ListN.{length, take, drop, get_or, get_or-eq_default}
 use lib.Seq.{ext_get_or}
+use Rattle.std.specs.Prelude.{Ok, Option, Result}
 use Rattle.refusal.specs.Outcome.{Outcome, outcome}
 use Rattle.byte_numbers.specs.Number.{Bytes}
 use Rattle.byte_numbers.specs.Place.{byte_at}
 use Rattle.log_cell.specs.Cell.{is_cell, no_counts, IsCell}
 use Rattle.log_cell.proofs.CellLaws.{gap-is-cell}
 use Rattle.energy_log.specs.Fresh.{fresh_image, gaps, no_lapses}
-use Rattle.energy_log.specs.declared.fresh.FreshAnswer.{FreshAnswer}
-use Rattle.energy_log.specs.declared.fresh.FreshAnswer.TheVariants as made
 use Rattle.energy_log.proofs.FreshLaws.{length-gaps, gap_at}
 use Rattle.log_header.specs.Header.{version, is_header, cells_of, length_of}
 use Rattle.energy_log.specs.Image.{applied, image_of, cell_at, AllCells, LapsesFit}
 use Rattle.energy_log.proofs.ImageLaws.{image-alike, sound-image, bytes-image}
 use Rattle.energy_log.specs.declared.image.Change.{Change}
 use Rattle.energy_log.specs.declared.image.Change.TheVariants as change
+use Rattle.energy_log.specs.declared.fresh.FreshError.{FreshError}
 use Rattle.energy_log.specs.View.{View, view_of}
 use Rattle.energy_log.proofs.ViewLaws as layout
 use Rattle.energy_log.proofs.ViewLaws.{Holds, At, view_by, view-image, others_stay, length-applied}
 use Rattle.energy_log.specs.Pair.{pair_of}
 use Rattle.log_cell.specs.declared.cell.Cell.{Cell}
 use Rattle.log_cell.specs.declared.cell.Cell.TheVariants.{Gap, Empty, Measured}
-use Rattle.log_cell.specs.declared.cell.CellAnswer.{CellAnswer}
 use Rattle.log_header.specs.declared.header.Header.{Header}
 use Rattle.day_rows.specs.LogAndRows.{LogAndRows, log_and_rows}
 use Rattle.wire_values.specs.Row.{row}
@@ -40,7 +39,7 @@ use Rattle.logger.specs.Take as Take
 use Rattle.logger.proofs.TakeLaws.{Step, decided-ways, decided-holds}
 use Rattle.logger.specs.Lapse as Lapse
 use Rattle.logger.proofs.LapseLaws.{lapsing-ways, lapsing-holds}
-use Rattle.logger.specs.declared.no_reply.LapseDecision.{LapseDecision}
+use Rattle.logger.specs.Lapse.{LapseDecision}
 use Rattle.logger.specs.Book.{Call, ask, lapse, reply, Answer, Book, is_zero, counts, first_of, by_first, afresh, came_first, start_book, book_step, run_of, book_run}
 use Rattle.logger.specs.Book.{worked_out, cut_at255, lapses_out, CallBytes, AllBytes}
 use Rattle.logger.proofs.BookLaws.{Fitting, length-worked_out, worked_out-at}
@@ -50,11 +49,10 @@ use Rattle.logger.proofs.FigureLaws.{Faithful, step-faithful}
 use Rattle.log_file.specs.File.{is_version, seasons_fit, file_bytes, file_bytes_as}
 use Rattle.log_file.specs.Row.{has_lapses}
 use Rattle.log_file.specs.Read.{read_file}
-use Rattle.log_file.specs.declared.read.ReadAnswer.{ReadAnswer}
-use Rattle.log_file.specs.declared.read.ReadAnswer.TheVariants as read
 use Rattle.log_file.proofs.FileLaws as logs
 use Rattle.log_file.proofs.RowLaws.{NoneBefore}
 use Rattle.log_file.proofs.FileLaws.{IsLog, known-today, seasons-today, lapses-today, accepted, image-front}
+use Rattle.log_file.specs.declared.read.ReadError.{ReadError}
 use Rattle.polling.specs.Reached.{Polled}
 use Rattle.claims.specs.Demand3.{Start, begin, ran, booked, log_afresh, OtherCell, Elsewhere, SameCell}
 
@@ -224,12 +222,12 @@ cells-seen : (h : Header) (cells : List Cell) (lapses : ℕ → ℕ) → is_head
 cells-seen h cells lapses e n = rw (sound-image lapses h cells e n) refl
 
 -- the fresh log that `fresh_log` says is done, and its figures
-pub fresh : (h : Header) (out figs : List ℕ) (n : ℕ) → let o = fresh_with h out figs in o.result ≡ made.Done n
+pub fresh : (h : Header) (out figs : List ℕ) (n : ℕ) → let o = fresh_with h out figs in o.result ≡ Ok n
     → Start (log_and_rows (take n o.left.log) o.left.figures)
 unfolding fresh_image
 fresh h out figs n p =
     let o = fresh_with h out figs in
-    let a = fresh-made h out figs o.left n (ap (λ (r : FreshAnswer). outcome r o.left) p) in
+    let a = fresh-made h out figs o.left n (ap (λ (r : Result ℕ FreshError). outcome r o.left) p) in
     let count = length-gaps (cells_of h) in
     subst (λ (s : List ℕ). Start (log_and_rows s o.left.figures)) (sym a.image) (record {
       header = h;
@@ -242,15 +240,15 @@ fresh h out figs n p =
       gaps = λ i l x. gap_at (cells_of h) i (rw length-gaps at l);
       quiet = λ i l x. refl;
       image = refl;
-      figures = subst (λ (cell : ℕ → CellAnswer). Right h cell o.left.figures) (sym (cells-seen h (gaps (cells_of h)) no_lapses a.header count)) a.right;
+      figures = subst (λ (cell : ℕ → Option Cell). Right h cell o.left.figures) (sym (cells-seen h (gaps (cells_of h)) no_lapses a.header count)) a.right;
     })
 
 -- demand 3's `file`: what `read_file` says is done is a log to start from, with its figures
-pub file : (f out figs : List ℕ) (n : ℕ) → Bytes f → let o = read_file f out figs in o.result ≡ read.Done n
+pub file : (f out figs : List ℕ) (n : ℕ) → Bytes f → let o = read_file f out figs in o.result ≡ Ok n
     → Start (log_and_rows (take n o.left.log) o.left.figures)
 file f out figs n k p =
     let o = read_file f out figs in
-    let a = accepted f k out figs o.left.log o.left.figures n (ap (λ (r : ReadAnswer). outcome r o.left) p) in
+    let a = accepted f k out figs o.left.log o.left.figures n (ap (λ (r : Result ℕ ReadError). outcome r o.left) p) in
     let w = a.whole in
     subst (λ (s : List ℕ). Start (log_and_rows s o.left.figures)) (sym (image-front f out figs o.left.log o.left.figures n a)) (record {
       header = a.header;
@@ -263,14 +261,14 @@ file f out figs n k p =
       gaps = w.gaps;
       quiet = w.none;
       image = refl;
-      figures = subst (λ (cell : ℕ → CellAnswer). Right a.header cell o.left.figures) (sym (cells-seen a.header a.cells a.lapses w.right w.count))
+      figures = subst (λ (cell : ℕ → Option Cell). Right a.header cell o.left.figures) (sym (cells-seen a.header a.cells a.lapses w.right w.count))
           a.right;
     })
 
 -- demand 3's `fresh_had`: with the room for it, every right header's fresh log is made
 pub fresh_had : (h : Header) (out figs : List ℕ) → is_header h ≡ true → length_of h ≤ length out → figures_of h ≤ length figs
     → fresh_with h out figs
-    ≡ outcome (made.Done (length_of h)) (log_and_rows (fresh_image h ++ drop (length_of h) out) (all_figures h all_gaps ++ drop (figures_of h) figs))
+    ≡ outcome (Ok (length_of h)) (log_and_rows (fresh_image h ++ drop (length_of h) out) (all_figures h all_gaps ++ drop (figures_of h) figs))
 fresh_had h out figs e l m = fresh-both h out figs e l m
 
 -- what stands in a start's file
@@ -286,12 +284,12 @@ start_seen start = ap view_of start.image ∙ view-image start.header start.cell
 pub version-had : (v : ℕ) (b : LogAndRows) (out figs : List ℕ) (start : Start b) → let h = start.header in let n = length b.log in
     is_version v ≡ true → seasons_fit v h ≡ true → NoneBefore v start.lapses → n ≤ length out → figures_of h ≤ length figs
     → read_file (file_bytes_as v h start.cells start.lapses) out figs
-    ≡ outcome (read.Done n) (log_and_rows (b.log ++ drop n out) (all_figures h (view_of b.log).cell ++ drop (figures_of h) figs))
+    ≡ outcome (Ok n) (log_and_rows (b.log ++ drop n out) (all_figures h (view_of b.log).cell ++ drop (figures_of h) figs))
 version-had v b out figs start known seasons none l m =
     let h = start.header in
     let n = length b.log in
     logs.file_had v h start.cells start.lapses known seasons none (start_is start) b.log out figs start.image l m
-    ∙ ap (λ (w : View). outcome (read.Done n) (log_and_rows (b.log ++ drop n out) (all_figures h w.cell ++ drop (figures_of h) figs))) (sym (start_seen start))
+    ∙ ap (λ (w : View). outcome (Ok n) (log_and_rows (b.log ++ drop n out) (all_figures h w.cell ++ drop (figures_of h) figs))) (sym (start_seen start))
 
 -- the versions by their numbers: 1 to 3 are known, 1 has no seasons, 1 and 2 have no lapses
 known_by : (v : ℕ) → 1 ≤ v → v ≤ 3 → is_version v ≡ true
@@ -314,7 +312,7 @@ lapses-by v lapses none e = none (leb-false 3 v e)
 pub file_had : (v : ℕ) (b : LogAndRows) (out figs : List ℕ) (start : Start b) → let h = start.header in let n = length b.log in
     1 ≤ v → v ≤ 3 → (v ≡ 1 → h.seasons ≡ 0) → (v < 3 → (i : ℕ) → start.lapses i ≡ 0) → n ≤ length out → figures_of h ≤ length figs
     → read_file (file_bytes_as v h start.cells start.lapses) out figs
-    ≡ outcome (read.Done n) (log_and_rows (b.log ++ drop n out) (all_figures h (view_of b.log).cell ++ drop (figures_of h) figs))
+    ≡ outcome (Ok n) (log_and_rows (b.log ++ drop n out) (all_figures h (view_of b.log).cell ++ drop (figures_of h) figs))
 file_had v b out figs start from to seasons none l m =
     version-had v b out figs start (known_by v from to) (seasons-by v start.header from seasons) (lapses-by v start.lapses none) l m
 
@@ -322,7 +320,7 @@ file_had v b out figs start from to seasons none l m =
 pub today-had : (b : LogAndRows) (out figs : List ℕ) (start : Start b) → let h = start.header in let n = length b.log in
     n ≤ length out → figures_of h ≤ length figs
     → read_file (file_bytes h start.cells start.lapses) out figs
-    ≡ outcome (read.Done n) (log_and_rows (b.log ++ drop n out) (all_figures h (view_of b.log).cell ++ drop (figures_of h) figs))
+    ≡ outcome (Ok n) (log_and_rows (b.log ++ drop n out) (all_figures h (view_of b.log).cell ++ drop (figures_of h) figs))
 today-had b out figs start l m = version-had version b out figs start known-today (seasons-today start.header) (lapses-today start.lapses) l m
 
 -- a start is faithful

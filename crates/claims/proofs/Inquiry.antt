@@ -7,6 +7,7 @@ use native.Mathlib.Omega.{arith}
 use lib.Dec.{ltb}
 use lib.ListN.{length}
 use borrow.Author.Tests.{ltb-false, le-ltb}
+use Rattle.std.specs.Prelude.{Err, Ok, Result}
 use Rattle.test_laws.proofs.Test.{either}
 use Rattle.byte_numbers.specs.Number.{Bytes}
 use Rattle.parameters.specs.Table.{parameter_of}
@@ -21,15 +22,16 @@ use Rattle.meter_store.specs.Store.{six_of}
 use Rattle.meter_record.specs.Widths.{FitsRecord}
 use Rattle.meter_record.specs.declared.record.Record.{Record}
 use Rattle.meter_command.specs.Verdict.{number_of, is_done}
-use Rattle.meter_command.specs.declared.verdict.Verdict.TheVariants.{Done}
 use Rattle.meter.specs.Reply.{Outcome, is_sound, heard, verdict_on, replied, answer_of}
 use Rattle.reader.specs.Reply.{decoded_of}
 use Rattle.reader.specs.Rows.{reply_data, six_of as six_in}
 use Rattle.reader.specs.declared.reply.Decoded.{Decoded}
-use Rattle.reader.specs.declared.reply.Decoded.TheVariants as decoded
+use Rattle.reader.specs.declared.reply.DecodeError.{DecodeError}
+use Rattle.reader.specs.declared.reply.DecodeError.TheVariants as decoded_error
 use Rattle.meter_round_trip.specs.Inquiry as inquiry
 use Rattle.meter_round_trip.specs.Inquiry.{is_silent, told_of, asked}
-use Rattle.meter_round_trip.specs.declared.Inquired.TheVariants.{TooShort, Unsound, Silent, Told}
+use Rattle.meter_round_trip.specs.declared.InquiryError.TheVariants.{TooShort, Unsound, Silent}
+use Rattle.meter_round_trip.proofs.InquiryLaws.{told-number}
 use Rattle.claims.specs.Demand1.{in_table}
 use Rattle.claims.specs.Figures.{own_as}
 use Rattle.claims.specs.Demand2.{answered, reply_in, FitsRequest}
@@ -39,7 +41,7 @@ use Rattle.claims.proofs.Done.{read_done}
 use Rattle.claims.proofs.Replies.{done-only, passed, read, six-in-output, refused}
 
 -- a reply that the reader takes for a refusal is not told with 0
-told-refused : (o : Outcome) (q : Request) (result : ℕ) → decoded_of q (reply_in o) ≡ decoded.MeterRefused result
+told-refused : (o : Outcome) (q : Request) (result : ℕ) → decoded_of q (reply_in o) ≡ Err (decoded_error.MeterRefused result)
     → inquiry.number_of (told_of o q).answer ≡ 0 → ⊥
 unfolding told_of
 told-refused o q result e h = go (is_silent o.answer.verdict) refl
@@ -49,7 +51,7 @@ told-refused o q result e h = go (is_silent o.answer.verdict) refl
     go false c = omega (arith, simp (c, e) at h)
 
 -- what a meter that is done answered is told as the reader decodes it
-told-done : (o : Outcome) (q : Request) → o.answer.verdict ≡ Done → (told_of o q).answer ≡ Told (decoded_of q (reply_in o))
+told-done : (o : Outcome) (q : Request) → o.answer.verdict ≡ Ok tt → (told_of o q).answer ≡ inquiry.told (decoded_of q (reply_in o))
 unfolding told_of
 told-done o q e = simp e
 
@@ -84,7 +86,7 @@ done-verdict r s q out room sound hear d = simp (le-ltb (length out) 64 room, so
 
 -- so the meter's own answer is 0
 own-done : (r : Record) (s : List ℕ) (q : Request) (out : List ℕ) → FitsRequest q → inquiry.number_of (inquiry.inquired r s q out).answer ≡ 0
-    → (answered r s q out).answer.verdict ≡ Done
+    → (answered r s q out).answer.verdict ≡ Ok tt
 own-done r s q out k h = go (heard r (request_frame q)) refl (is_done (verdict_on r (request_frame q))) refl
   where
     t : Sent r s q out
@@ -94,7 +96,7 @@ own-done r s q out k h = go (heard r (request_frame q)) refl (is_done (verdict_o
     told = ap (λ (o : inquiry.Outcome). inquiry.number_of o.answer) (sym t.whole) ∙ h
 
     go : (c : Bool) → heard r (request_frame q) ≡ c → (d : Bool) → is_done (verdict_on r (request_frame q)) ≡ d
-        → (answered r s q out).answer.verdict ≡ Done
+        → (answered r s q out).answer.verdict ≡ Ok tt
     go false e d g = absurd (silent-told r s q out t.room t.sound e told)
     go true e false g =
         absurd (told-refused (answered r s q out) q _ (refused r s q out k t.askable-is t.room t.sound e g) told)
@@ -102,12 +104,12 @@ own-done r s q out k h = go (heard r (request_frame q)) refl (is_done (verdict_o
 
 -- demand 2's `inquired`: what `inquire` answers with 0 are the record's own figures
 pub inquired : (r : Record) (s : List ℕ) (q : Request) (out : List ℕ) → FitsRecord r → Bytes s → FitsRequest q
-    → let o = inquiry.inquired r s q out in inquiry.number_of o.answer ≡ 0 → o.answer ≡ Told (own_as q.reading (parameter_of q.parameter) r s q)
+    → let o = inquiry.inquired r s q out in inquiry.number_of o.answer ≡ 0 → o.answer ≡ inquiry.told (own_as q.reading (parameter_of q.parameter) r s q)
 inquired r s q out f b k h =
     let v = own-done r s q out k h in
     ap (λ (o : inquiry.Outcome). o.answer) (sent r s q out h).whole
     ∙ told-done (answered r s q out) q v
-    ∙ ap Told (read r s q out f b k (ap number_of v))
+    ∙ ap inquiry.told (read r s q out f b k (ap number_of v))
 
 -- the output is the meter's, told or not
 told-output : (o : Outcome) (q : Request) → (told_of o q).out ≡ o.out
@@ -126,14 +128,14 @@ inquired_six r s q out b k e h =
 
 -- demand 2's `inquired_done`: one that asks for figures that the meter has is told them
 pub inquired_done : (r : Record) (s : List ℕ) (q : Request) (out : List ℕ) → Ready r s (request_frame q) out → FitsRecord r → Bytes s → FitsRequest q
-    → askable (subject_of q (slots_of r.minutes)) ≡ true → (inquiry.inquired r s q out).answer ≡ Told (own_as q.reading (parameter_of q.parameter) r s q)
+    → askable (subject_of q (slots_of r.minutes)) ≡ true → (inquiry.inquired r s q out).answer ≡ inquiry.told (own_as q.reading (parameter_of q.parameter) r s q)
 unfolding inquiry.inquired asked
 inquired_done r s q out y f b k h =
     let z = read_done r s q out y h in
     let m : askable (subject_of q most_slots) ≡ true = ap askable (subject-wider q (slots_of r.minutes) (slots-at-most r.minutes) h) ∙ h in
-    let v : (answered r s q out).answer.verdict ≡ Done = ap (λ (o : Outcome). o.answer.verdict) (passed r s (request_frame q) out z).whole in
+    let v : (answered r s q out).answer.verdict ≡ Ok tt = ap (λ (o : Outcome). o.answer.verdict) (passed r s (request_frame q) out z).whole in
     let whole : inquiry.inquired r s q out ≡ told_of (answered r s q out) q = simp (le-ltb (length out) 64 y.room, y.sound, m) in
-    ap (λ (o : inquiry.Outcome). o.answer) whole ∙ told-done (answered r s q out) q v ∙ ap Told (read r s q out f b k z)
+    ap (λ (o : inquiry.Outcome). o.answer) whole ∙ told-done (answered r s q out) q v ∙ ap inquiry.told (read r s q out f b k z)
 
 -- ---- demand 1
 
@@ -143,14 +145,14 @@ unfolding inquiry.inquired asked told_of in_table
 inquire r s q out =
     go (ltb (length out) 64) (is_sound r s) (askable (subject_of q most_slots)) (is_silent (answered r s q out).answer.verdict)
   where
-    d : Decoded
+    d : Result Decoded DecodeError
     d = decoded_of q (reply_in (answered r s q out))
 
-    go : (a b c e : Bool) → in_table (inquiry.number_of (cond a (inquiry.outcome TooShort s out) (cond b (cond c
-        (cond e (inquiry.outcome Silent (answered r s q out).store (answered r s q out).out) (inquiry.outcome (Told d) (answered r s q out).store (answered r s q out).out))
-        (inquiry.outcome (Told decoded.OutOfRange) s out)) (inquiry.outcome Unsound s out))).answer) ≡ true
+    go : (a b c e : Bool) → in_table (inquiry.number_of (cond a (inquiry.outcome (Err TooShort) s out) (cond b (cond c
+        (cond e (inquiry.outcome (Err Silent) (answered r s q out).store (answered r s q out).out) (inquiry.outcome (inquiry.told d) (answered r s q out).store (answered r s q out).out))
+        (inquiry.outcome (inquiry.told (Err decoded_error.OutOfRange)) s out)) (inquiry.outcome (Err Unsound) s out))).answer) ≡ true
     go true b c e = refl
     go false false c e = refl
     go false true false e = refl
     go false true true true = refl
-    go false true true false = decode d
+    go false true true false = ap in_table (told-number d) ∙ decode d

@@ -6,6 +6,7 @@ use Prim.Native.Nat.{ℕ}
 use lib.Dec.{eqb, ltb}
 use lib.ListN.{length}
 use borrow.Author.Tests.{ltb-false}
+use Rattle.std.specs.Prelude.{Err, Ok, Result}
 use Rattle.test_laws.proofs.Test.{either}
 use Rattle.byte_numbers.specs.Number.{Bytes}
 use Rattle.byte_numbers.specs.Place.{written}
@@ -21,8 +22,6 @@ use Rattle.request.specs.declared.request.Request.{Request}
 use Rattle.meter_record.specs.Widths.{FitsRecord}
 use Rattle.meter_record.specs.declared.record.Record.{Record}
 use Rattle.meter_command.specs.Verdict.{number_of, is_done}
-use Rattle.meter_command.specs.declared.verdict.Verdict.{Verdict}
-use Rattle.meter_command.specs.declared.verdict.Verdict.TheVariants as verdict
 use Rattle.meter_reply_data.specs.Reading.{data_of}
 use Rattle.meter.specs.Effect.{clears, clears_by, store_after}
 use Rattle.meter.specs.Reply as meter
@@ -33,9 +32,11 @@ use Rattle.reader.specs.declared.form.Fault.TheVariants as fault
 use Rattle.reader.specs.Reply as reader
 use Rattle.reader.specs.Reply.{decoded_of}
 use Rattle.reader.specs.declared.reply.Decoded.{Decoded}
-use Rattle.reader.specs.declared.reply.Decoded.TheVariants as decoded
+use Rattle.reader.specs.declared.reply.DecodeError.{DecodeError}
+use Rattle.reader.specs.declared.reply.DecodeError.TheVariants as decoded_error
 use Rattle.meter_round_trip.specs.Inquiry as inquiry
 use Rattle.meter_round_trip.specs.Inquiry.{is_silent, told_of, asked, inquired}
+use Rattle.meter_round_trip.proofs.InquiryLaws.{told-number}
 use Rattle.claims.specs.Demand1Inquire.{no_reply, reply_to}
 use Rattle.claims.specs.Demand2.{answered, reply_in, FitsRequest}
 use Rattle.claims.specs.Figures.{own_power, own_figures, own_as}
@@ -44,6 +45,8 @@ use Rattle.claims.proofs.Range.{decoded-no-27}
 use Rattle.claims.proofs.Reading.{reading-back}
 use Rattle.claims.proofs.Replies.{done-only, read, refused}
 use Rattle.meter_command.specs.Command.{command_of}
+use Rattle.meter_command.specs.declared.verdict.Refusal.{Refusal}
+use Rattle.meter_command.specs.declared.verdict.Refusal.TheVariants as verdict
 
 -- ---- the store
 
@@ -87,21 +90,13 @@ fault-replied fault.Function = refl
 fault-replied fault.Parameter = refl
 
 -- what the reader says of a reply is none of the answers without one, but for 27
-no-reply-27 : (d : Decoded) → (reader.number_of d ≡ 27 → ⊥) → no_reply (reader.number_of d) ≡ false
+no-reply-27 : (d : Result Decoded DecodeError) → (reader.number_of d ≡ 27 → ⊥) → no_reply (reader.number_of d) ≡ false
 unfolding no_reply
-no-reply-27 decoded.OutOfRange n = absurd (n refl)
-no-reply-27 (decoded.Malformed f) n = fault-replied f
-no-reply-27 (decoded.MeterRefused result) n = refl
-no-reply-27 decoded.NotFinite n = refl
-no-reply-27 (decoded.Address a) n = refl
-no-reply-27 (decoded.Telemetry t) n = refl
-no-reply-27 (decoded.DateTime t) n = refl
-no-reply-27 (decoded.DisplayMask m) n = refl
-no-reply-27 (decoded.Powers p) n = refl
-no-reply-27 (decoded.OnePower p) n = refl
-no-reply-27 (decoded.Slice c) n = refl
-no-reply-27 decoded.SixSlices n = refl
-no-reply-27 (decoded.Displayed e) n = refl
+no-reply-27 (Err decoded_error.OutOfRange) n = absurd (n refl)
+no-reply-27 (Err (decoded_error.Malformed f)) n = fault-replied f
+no-reply-27 (Err (decoded_error.MeterRefused result)) n = refl
+no-reply-27 (Err decoded_error.NotFinite) n = refl
+no-reply-27 (Ok figures) n = refl
 
 second : (b : Bool) (x y : List ℕ) → b ≡ false → y ≡ cond b x y
 second b x y e = sym (ap (λ (c : Bool). cond c x y) e)
@@ -110,26 +105,28 @@ module _ (r : Record) (s : List ℕ) (q : Request) (out : List ℕ) (a : askable
   f : List ℕ
   f = request_frame q
 
-  Left : Verdict → inquiry.Outcome → Type 0
+  Left : Result Unit Refusal → inquiry.Outcome → Type 0
   Left v o = o.out ≡ cond (no_reply (inquiry.number_of o.answer)) out (written out 0 (framed (cond (is_done v) (head_of v (command_of f) ++ data_of r s (command_of f)) (head_of v (command_of f)))))
 
-  told : (y w : List ℕ) → w ≡ cond (no_reply (reader.number_of (decoded_of q y))) out w
-  told y w = second (no_reply (reader.number_of (decoded_of q y))) out w (no-reply-27 (decoded_of q y) (decoded-no-27 q y a))
+  told : (y w : List ℕ) → w ≡ cond (no_reply (inquiry.number_of (inquiry.told (decoded_of q y)))) out w
+  told y w =
+      second (no_reply (inquiry.number_of (inquiry.told (decoded_of q y)))) out w
+      (ap no_reply (told-number (decoded_of q y)) ∙ no-reply-27 (decoded_of q y) (decoded-no-27 q y a))
 
   -- a request that the meter heard has a verdict that it answers
-  told-left : (v : Verdict) → Judged v → Left v (told_of (replied v r s f out) q)
+  told-left : (v : Result Unit Refusal) → Judged v → Left v (told_of (replied v r s f out) q)
   unfolding Left f Judged told_of replied
-  told-left verdict.Done j = told _ _
-  told-left verdict.TooShort j = absurd (false≢true j)
-  told-left verdict.Unsound j = absurd (false≢true j)
-  told-left verdict.Silent j = absurd (false≢true j)
-  told-left verdict.UnknownFunction j = told _ _
-  told-left verdict.UnknownParameter j = told _ _
-  told-left verdict.NotOpen j = told _ _
-  told-left verdict.WrongLength j = told _ _
-  told-left verdict.ByAddressZero j = told _ _
-  told-left verdict.NoAccess j = told _ _
-  told-left verdict.WrongArgument j = told _ _
+  told-left (Ok tt) j = told _ _
+  told-left (Err verdict.TooShort) j = absurd (false≢true j)
+  told-left (Err verdict.Unsound) j = absurd (false≢true j)
+  told-left (Err verdict.Silent) j = absurd (false≢true j)
+  told-left (Err verdict.UnknownFunction) j = told _ _
+  told-left (Err verdict.UnknownParameter) j = told _ _
+  told-left (Err verdict.NotOpen) j = told _ _
+  told-left (Err verdict.WrongLength) j = told _ _
+  told-left (Err verdict.ByAddressZero) j = told _ _
+  told-left (Err verdict.NoAccess) j = told _ _
+  told-left (Err verdict.WrongArgument) j = told _ _
 
   heard-left : Left (verdict_on r f) (told_of (replied (verdict_on r f) r s f out) q)
   heard-left = told-left (verdict_on r f) (judged r f)
@@ -154,8 +151,8 @@ output r s q out = go (ltb (length out) 64) refl (is_sound r s) refl (askable (s
 own-number : (p : Parameter) (r : Record) (s : List ℕ) (q : Request) → (reader.number_of (own_figures p r s q) ≡ 27 → ⊥)
     → reader.number_of (own_figures p r s q) ≡ 0
 unfolding own_power
-own-number parameter.ActivePower r s q n = either (λ (d : Decoded). reader.number_of d ≡ 0) (eqb q.detail 0) refl refl
-own-number parameter.ReactivePower r s q n = either (λ (d : Decoded). reader.number_of d ≡ 0) (eqb q.detail 0) refl refl
+own-number parameter.ActivePower r s q n = either (λ (d : Result Decoded DecodeError). reader.number_of d ≡ 0) (eqb q.detail 0) refl refl
+own-number parameter.ReactivePower r s q n = either (λ (d : Result Decoded DecodeError). reader.number_of d ≡ 0) (eqb q.detail 0) refl refl
 own-number parameter.Address r s q n = refl
 own-number parameter.Telemetry r s q n = refl
 own-number parameter.SummerDate r s q n = refl
@@ -172,24 +169,24 @@ own-as-number : (x : Reading) (p : Parameter) (r : Record) (s : List ℕ) (q : R
 own-as-number Stored p r s q n = own-number p r s q n
 own-as-number Displayed p r s q n = refl
 
-not-silent : (v : Verdict) → Judged v → is_silent v ≡ false
+not-silent : (v : Result Unit Refusal) → Judged v → is_silent v ≡ false
 unfolding Judged
-not-silent verdict.Silent j = absurd (false≢true j)
-not-silent verdict.Done j = refl
-not-silent verdict.TooShort j = refl
-not-silent verdict.Unsound j = refl
-not-silent verdict.UnknownFunction j = refl
-not-silent verdict.UnknownParameter j = refl
-not-silent verdict.NotOpen j = refl
-not-silent verdict.WrongLength j = refl
-not-silent verdict.ByAddressZero j = refl
-not-silent verdict.NoAccess j = refl
-not-silent verdict.WrongArgument j = refl
+not-silent (Err verdict.Silent) j = absurd (false≢true j)
+not-silent (Ok tt) j = refl
+not-silent (Err verdict.TooShort) j = refl
+not-silent (Err verdict.Unsound) j = refl
+not-silent (Err verdict.UnknownFunction) j = refl
+not-silent (Err verdict.UnknownParameter) j = refl
+not-silent (Err verdict.NotOpen) j = refl
+not-silent (Err verdict.WrongLength) j = refl
+not-silent (Err verdict.ByAddressZero) j = refl
+not-silent (Err verdict.NoAccess) j = refl
+not-silent (Err verdict.WrongArgument) j = refl
 
 -- what is not silent is told as the reader decodes it
 told-loud : (o : meter.Outcome) (q : Request) → is_silent o.answer.verdict ≡ false → inquiry.number_of (told_of o q).answer ≡ reader.number_of (decoded_of q (reply_in o))
 unfolding told_of
-told-loud o q e = simp e
+told-loud o q e = simp e (told-number (decoded_of q (reply_in o)))
 
 -- the meter's verdict on a request that it heard, whole
 heard-verdict : (r : Record) (s f out : List ℕ) → ltb (length out) 64 ≡ false → is_sound r s ≡ true → heard r f ≡ true

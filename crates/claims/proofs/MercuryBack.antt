@@ -6,6 +6,7 @@ use Prim.Native.Nat.{ℕ, ◌^◌, ◌≤◌, ◌<◌}
 use native.Mathlib.Omega.{arith}
 use lib.ListN.{length, take, drop, length-drop}
 use borrow.Author.Tests.{le-leb}
+use Rattle.std.specs.Prelude.{Err, Ok, Result}
 use Rattle.test_laws.proofs.Test.{both}
 use Rattle.byte_numbers.specs.Number.{Bytes}
 use Rattle.mercury.specs.Command.{command_of, code_of, data_size}
@@ -14,12 +15,12 @@ use Rattle.mercury.specs.Form.{reply_form}
 use Rattle.mercury.specs.Reply.{reply_frame, figures_of, formed, decoded_of, number_of}
 use Rattle.mercury.specs.declared.command.Command.{Command}
 use Rattle.mercury.specs.declared.command.Command.TheVariants as command
-use Rattle.mercury.specs.declared.form.Form.{Form}
-use Rattle.mercury.specs.declared.form.Form.TheVariants.{WellFormed, Faulty}
 use Rattle.mercury.specs.declared.reply.Decoded.{Decoded}
 use Rattle.mercury.specs.declared.units.Tariffs.{Tariffs as FourTariffs}
 use Rattle.mercury.specs.declared.units.Load.{Load as LoadFigures}
 use Rattle.mercury.specs.declared.units.Frequency.{Frequency as FrequencyFigures}
+use Rattle.mercury.specs.declared.reply.DecodeError.{DecodeError}
+use Rattle.mercury.specs.declared.form.Fault.{Fault}
 use Rattle.mercury.proofs.CommandLaws.{code-command}
 use Rattle.mercury.proofs.DataLaws.{FitsTariffs, FitsLoad, tariffs-back, load-back, frequency-back, tariffs-cases, load-cases, frequency-cases}
 use Rattle.mercury.proofs.ReplyLaws.{Accepted, accepted, reply-back}
@@ -30,7 +31,7 @@ use Rattle.claims.specs.MercuryInverse.{with_figures}
 
 -- ---- the data of an accepted reply
 
-module _ (address code : ℕ) (y : List ℕ) (e : reply_form address code y ≡ WellFormed) (c : Command) (k : command_of code ≡ c) where
+module _ (address code : ℕ) (y : List ℕ) (e : reply_form address code y ≡ Ok tt) (c : Command) (k : command_of code ≡ c) where
   a : Accepted address code y
   a = accepted address code y e
 
@@ -53,22 +54,22 @@ pub back : (address code : ℕ) (y : List ℕ) (m : Meter) → Bytes y → let d
 unfolding decoded_of formed figures_of reply_of data_of
 back address code y m b = go (reply_form address code y) refl (command_of code) refl
   where
-    go : (f : Form) → reply_form address code y ≡ f → (c : Command) → command_of code ≡ c → number_of (formed f c y) ≡ 0
+    go : (f : Result Unit Fault) → reply_form address code y ≡ f → (c : Command) → command_of code ≡ c → number_of (formed f c y) ≡ 0
         → reply_of c (with_figures address (formed f c y) m) ≡ y
-    go (Faulty fault) e c k = λ h. absurd (omega (arith, h))
-    go WellFormed e command.Tariffs k =
-        tariffs-cases (drop 5 y) (λ (x : Decoded). number_of x ≡ 0 → reply_of command.Tariffs (with_figures address x m) ≡ y)
+    go (Err fault) e c k = λ h. absurd (omega (arith, h))
+    go (Ok tt) e command.Tariffs k =
+        tariffs-cases (drop 5 y) (λ (x : Result Decoded DecodeError). number_of x ≡ 0 → reply_of command.Tariffs (with_figures address x m) ≡ y)
         (λ t p h. given_back address code y e command.Tariffs k (tariffs_bytes t) b (tariffs-back (drop 5 y) t (data-length address code y e command.Tariffs k) p).put)
         (λ h. absurd (omega (arith, h)))
-    go WellFormed e command.Load k =
-        load-cases (drop 5 y) (λ (x : Decoded). number_of x ≡ 0 → reply_of command.Load (with_figures address x m) ≡ y)
+    go (Ok tt) e command.Load k =
+        load-cases (drop 5 y) (λ (x : Result Decoded DecodeError). number_of x ≡ 0 → reply_of command.Load (with_figures address x m) ≡ y)
         (λ l p h. given_back address code y e command.Load k (load_bytes l) b (load-back (drop 5 y) l (data-length address code y e command.Load k) p).put)
         (λ h. absurd (omega (arith, h)))
-    go WellFormed e command.Frequency k =
-        frequency-cases (drop 5 y) (λ (x : Decoded). number_of x ≡ 0 → reply_of command.Frequency (with_figures address x m) ≡ y)
+    go (Ok tt) e command.Frequency k =
+        frequency-cases (drop 5 y) (λ (x : Result Decoded DecodeError). number_of x ≡ 0 → reply_of command.Frequency (with_figures address x m) ≡ y)
         (λ f p h. given_back address code y e command.Frequency k (frequency_bytes f) b (frequency-back (drop 5 y) f (data-length address code y e command.Frequency k) p).put)
         (λ h. absurd (omega (arith, h)))
-    go WellFormed e command.Unknown k = λ h. absurd (omega (arith, h))
+    go (Ok tt) e command.Unknown k = λ h. absurd (omega (arith, h))
 
 -- ---- legal figures
 
@@ -107,22 +108,22 @@ pub legal : (address code : ℕ) (y : List ℕ) (m : Meter) → is_within m ≡ 
 unfolding decoded_of formed figures_of is_within
 legal address code y m w = go (reply_form address code y) refl (command_of code) refl
   where
-    go : (f : Form) → reply_form address code y ≡ f → (c : Command) → command_of code ≡ c → number_of (formed f c y) ≡ 0
+    go : (f : Result Unit Fault) → reply_form address code y ≡ f → (c : Command) → command_of code ≡ c → number_of (formed f c y) ≡ 0
         → is_within (with_figures address (formed f c y) m) ≡ true
-    go (Faulty fault) e c k = λ h. absurd (omega (arith, h))
-    go WellFormed e command.Tariffs k =
-        tariffs-cases (drop 5 y) (λ (x : Decoded). number_of x ≡ 0 → is_within (with_figures address x m) ≡ true)
+    go (Err fault) e c k = λ h. absurd (omega (arith, h))
+    go (Ok tt) e command.Tariffs k =
+        tariffs-cases (drop 5 y) (λ (x : Result Decoded DecodeError). number_of x ≡ 0 → is_within (with_figures address x m) ≡ true)
         (λ t p h. ap₂ ◌&&◌ (fits-tariffs t (tariffs-back (drop 5 y) t (data-length address code y e command.Tariffs k) p).fits)
         (ap₂ ◌&&◌ (within m w).load (within m w).frequency))
         (λ h. absurd (omega (arith, h)))
-    go WellFormed e command.Load k =
-        load-cases (drop 5 y) (λ (x : Decoded). number_of x ≡ 0 → is_within (with_figures address x m) ≡ true)
+    go (Ok tt) e command.Load k =
+        load-cases (drop 5 y) (λ (x : Result Decoded DecodeError). number_of x ≡ 0 → is_within (with_figures address x m) ≡ true)
         (λ l p h. ap₂ ◌&&◌ (within m w).tariffs
         (ap₂ ◌&&◌ (fits-load l (load-back (drop 5 y) l (data-length address code y e command.Load k) p).fits) (within m w).frequency))
         (λ h. absurd (omega (arith, h)))
-    go WellFormed e command.Frequency k =
-        frequency-cases (drop 5 y) (λ (x : Decoded). number_of x ≡ 0 → is_within (with_figures address x m) ≡ true)
+    go (Ok tt) e command.Frequency k =
+        frequency-cases (drop 5 y) (λ (x : Result Decoded DecodeError). number_of x ≡ 0 → is_within (with_figures address x m) ≡ true)
         (λ f p h. ap₂ ◌&&◌ (within m w).tariffs (ap₂ ◌&&◌ (within m w).load
         (fits-frequency f (frequency-back (drop 5 y) f (data-length address code y e command.Frequency k) p).fits)))
         (λ h. absurd (omega (arith, h)))
-    go WellFormed e command.Unknown k = λ h. absurd (omega (arith, h))
+    go (Ok tt) e command.Unknown k = λ h. absurd (omega (arith, h))

@@ -5,9 +5,8 @@ use mathlib.Core.List.{List, ◌++◌}
 use Prim.Native.Nat.{ℕ}
 use lib.Dec.{lit≤}
 use lib.ListN.{take, drop}
+use Rattle.std.specs.Prelude.{None, Ok, Option, Some}
 use Rattle.packed_decimal.specs.Packed.{is_packed, value_of}
-use Rattle.packed_decimal.specs.declared.Decimal.{Decimal}
-use Rattle.packed_decimal.specs.declared.Decimal.TheVariants as decimal
 use Rattle.packed_decimal.proofs.PackedLaws.{packed-append, decimal-kind}
 use Rattle.mercury.specs.Command.{command_of, is_known}
 use Rattle.mercury.specs.Data.{tariffs_by, tariffs_of, load_by, load_of, frequency_by, frequency_of, rest_of}
@@ -15,15 +14,14 @@ use Rattle.mercury.specs.Form.{reply_form}
 use Rattle.mercury.specs.Reply.{figures_of, formed, decoded_of, number_of}
 use Rattle.mercury.specs.declared.command.Command.{Command}
 use Rattle.mercury.specs.declared.command.Command.TheVariants.{Tariffs, Load, Frequency, Unknown}
-use Rattle.mercury.specs.declared.form.Form.TheVariants.{WellFormed}
 use Rattle.mercury.specs.declared.units.Rest.{Rest}
 use Rattle.mercury.proofs.DataLaws.{in-fours, in_three}
 use Rattle.mercury.proofs.ReplyLaws.{accepted}
 use Rattle.claims.specs.MercuryInverse.{digit_bytes}
 
 -- a number where a test passes
-abbrev kind : Bool → ℕ → Decimal
-kind b n = cond b (decimal.Number n) decimal.NotDecimal
+abbrev kind : Bool → ℕ → Option ℕ
+kind b n = cond b (Some n) None
 
 four-kinds : (p q r s : Bool) (a b c e : ℕ) → number_of (tariffs_by (kind p a) (kind q b) (kind r c) (kind s e)) ≡ cond (p && (q && (r && s))) 0 41
 unfolding tariffs_by
@@ -81,7 +79,7 @@ figures-digits Frequency d k = frequency-digits d
 figures-digits Unknown d k = absurd (false≢true k)
 
 -- CR 1's `digits`: a well-formed reply is 0 where every half-byte of its figures is a digit, else 41
-pub digits : (address code : ℕ) (y : List ℕ) → reply_form address code y ≡ WellFormed
+pub digits : (address code : ℕ) (y : List ℕ) → reply_form address code y ≡ Ok tt
     → number_of (decoded_of address code y) ≡ cond (is_packed (take (digit_bytes (command_of code)) (drop 5 y))) 0 41
 unfolding decoded_of formed
 digits address code y e = rw e (figures-digits (command_of code) (drop 5 y) (accepted address code y e).known)

@@ -7,6 +7,7 @@ use native.Mathlib.Omega.{arith}
 use lib.Dec.{leb}
 use lib.ListN.{length, take}
 use borrow.Author.Tests.{le-leb, leb-true}
+use Rattle.std.specs.Prelude.{Err, Ok, Result}
 use Rattle.test_laws.proofs.Test.{both}
 use Rattle.byte_numbers.specs.Number.{Bytes}
 use Rattle.byte_numbers.specs.Place.{byte_at, written}
@@ -22,8 +23,7 @@ use Rattle.mercury.specs.Reply.{reply_frame, figures_of, decoded_of}
 use Rattle.mercury.specs.Request.{request_frame}
 use Rattle.mercury.specs.declared.command.Command.{Command}
 use Rattle.mercury.specs.declared.command.Command.TheVariants.{Tariffs, Load, Frequency, Unknown}
-use Rattle.mercury.specs.declared.form.Form.{Form}
-use Rattle.mercury.specs.declared.form.Form.TheVariants.{WellFormed, Faulty}
+use Rattle.mercury.specs.declared.form.Fault.{Fault}
 use Rattle.mercury.proofs.CommandLaws.{command-code, code-command, code-byte, data-small}
 use Rattle.mercury.proofs.DataLaws.{FitsTariffs, FitsLoad, tariffs-read, load_read, frequency-read}
 use Rattle.mercury.proofs.ReplyLaws.{request-formed, request-command, reply-formed, data-behind, requested}
@@ -31,7 +31,8 @@ use Rattle.mercury_bench.specs.Meter.{tariffs_fit, load_fits, is_within}
 use Rattle.mercury_bench.specs.Reply as bench
 use Rattle.mercury_bench.specs.Reply.{data_of, reply_of, command_in}
 use Rattle.mercury_bench.specs.declared.meter.Meter.{Meter}
-use Rattle.mercury_bench.specs.declared.reply.Answered.TheVariants.{Done, TooShort, OutOfRange}
+use Rattle.mercury_bench.specs.declared.reply.AnswerError.{AnswerError}
+use Rattle.mercury_bench.specs.declared.reply.AnswerError.TheVariants.{TooShort, OutOfRange}
 use Rattle.mercury_bench.proofs.ReplyLaws.{length-data, length-reply}
 use Rattle.claims.specs.MercuryInverse.{own_figures, FitsMeter}
 
@@ -98,7 +99,7 @@ pub decoded : (m : Meter) (c : Command) → FitsMeter m → is_within m ≡ true
 unfolding decoded_of reply_of
 decoded m c fits within known =
     let same = command-code c in
-    let formed : reply_form m.address (code_of c) (reply_frame m.address (code_of c) (data_of c m)) ≡ WellFormed =
+    let formed : reply_form m.address (code_of c) (reply_frame m.address (code_of c) (data_of c m)) ≡ Ok tt =
     reply-formed m.address (code_of c) fits.address (omega (arith, code-byte c)) (ap is_known same ∙ known) (data_of c m)
     (bytes-data c m fits.rest) (length-data c m ∙ sym (ap data_size same)) in
     rw (formed, data-behind m.address (code_of c) (data_of c m), same) (figures-read c m _ (legal m within) known)
@@ -107,7 +108,7 @@ decoded m c fits within known =
 
 -- CR 1's `answered`: a request to a meter whose figures are legal is answered with that reply
 pub answered : (m : Meter) (c : Command) (out : List ℕ) → FitsMeter m → is_within m ≡ true → is_known c ≡ true → 64 ≤ length out
-    → bench.answered m (request_frame m.address (code_of c)) out ≡ outcome (Done (length (reply_of c m))) (written out 0 (reply_of c m))
+    → bench.answered m (request_frame m.address (code_of c)) out ≡ outcome (Ok (length (reply_of c m))) (written out 0 (reply_of c m))
 unfolding bench.answered bench.heard
 answered m c out fits within known room =
     let same = command-code c in
@@ -127,31 +128,31 @@ record AnsweredDone (m : Meter) (q out : List ℕ) (n : ℕ) : Type 0 where
   left : (bench.answered m q out).left ≡ written out 0 (reply_of (command_in q) m)
 
 module _ (m : Meter) (q out : List ℕ) (n : ℕ) where
-  heard-done : (f : Form) → request_form m.address q ≡ f → is_within m ≡ true → 64 ≤ length out
-      → (bench.heard f (command_in q) m out).result ≡ Done n → AnsweredDone m q out n
+  heard-done : (f : Result Unit Fault) → request_form m.address q ≡ f → is_within m ≡ true → 64 ≤ length out
+      → (bench.heard f (command_in q) m out).result ≡ Ok n → AnsweredDone m q out n
   unfolding bench.heard bench.answered
-  heard-done WellFormed e within room h = record {
+  heard-done (Ok tt) e within room h = record {
     within = within;
     room = room;
     known = requested m.address q e;
-    size = let o : Done (length (reply_of (command_in q) m)) ≡ Done n = h in (cc);
+    size = let o : ◌≡◌ {A = Result ℕ AnswerError} (Ok (length (reply_of (command_in q) m))) (Ok n) = h in (cc);
     left = rw (le-leb 64 (length out) room, within, e);
   }
-  heard-done (Faulty fault) e within room h = let z : ◌≡◌ {A = ℕ} 0 1 = cc in absurd (omega arith)
+  heard-done (Err fault) e within room h = let z : ◌≡◌ {A = ℕ} 0 1 = cc in absurd (omega arith)
 
-  answered-done : (bench.answered m q out).result ≡ Done n → AnsweredDone m q out n
+  answered-done : (bench.answered m q out).result ≡ Ok n → AnsweredDone m q out n
   unfolding bench.answered
   answered-done = go (leb 64 (length out)) refl (is_within m) refl
     where
       go : (a : Bool) → leb 64 (length out) ≡ a → (b : Bool) → is_within m ≡ b
-          → (cond a (cond b (bench.heard (request_form m.address q) (command_in q) m out) (outcome OutOfRange out)) (outcome TooShort out)).result ≡ Done n
+          → (cond a (cond b (bench.heard (request_form m.address q) (command_in q) m out) (outcome (Err OutOfRange) out)) (outcome (Err TooShort) out)).result ≡ Ok n
           → AnsweredDone m q out n
       go true p true w h = heard-done (request_form m.address q) refl w (leb-true 64 (length out) p) h
       go true p false w h = let z : ◌≡◌ {A = ℕ} 0 1 = cc in absurd (omega arith)
       go false p b w h = let z : ◌≡◌ {A = ℕ} 0 1 = cc in absurd (omega arith)
 
   -- CR 1's `read`: whatever the request's bytes were, an answer with 0 decodes to the meter's figures
-  pub read : FitsMeter m → (bench.answered m q out).result ≡ Done n
+  pub read : FitsMeter m → (bench.answered m q out).result ≡ Ok n
       → decoded_of m.address (byte_at q command_place) (take n (bench.answered m q out).left) ≡ own_figures (command_in q) m
   read fits h =
       let a = answered-done h in

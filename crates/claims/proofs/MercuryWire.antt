@@ -7,6 +7,7 @@ use Prim.Native.Nat.{ℕ, ◌+◌, ◌*◌, ◌/◌, ◌%◌, ◌≤◌}
 use native.Mathlib.Omega.{arith}
 use lib.ListN.{length}
 use borrow.Author.Tests.{le-leb}
+use Rattle.std.specs.Prelude.{Ok}
 use Rattle.byte_numbers.specs.Number.{bytes_of}
 use Rattle.byte_numbers.specs.Place.{written}
 use Rattle.refusal.specs.Outcome.{outcome}
@@ -19,12 +20,10 @@ use Rattle.mercury.specs.Reply.{reply_frame}
 use Rattle.mercury.specs.Request.{request_frame, requested}
 use Rattle.mercury.specs.declared.command.Command.{Command}
 use Rattle.mercury.specs.declared.command.Command.TheVariants as command
-use Rattle.mercury.specs.declared.request.RequestAnswer.TheVariants as request
 use Rattle.mercury_bench.specs.Meter.{is_within}
 use Rattle.mercury_bench.specs.Reply as bench
 use Rattle.mercury_bench.specs.Reply.{data_of, reply_of}
 use Rattle.mercury_bench.specs.declared.meter.Meter.{Meter}
-use Rattle.mercury_bench.specs.declared.reply.Answered.TheVariants.{Done}
 use Rattle.claims.specs.MercuryInverse.{FitsMeter}
 use Rattle.claims.specs.MercuryWire.{address, two, four, six, eight, MercuryWire}
 use Rattle.claims.proofs.MercuryInverse as there
@@ -69,10 +68,10 @@ unfolding request_frame head_of
 request-is n code = ap (λ (bs : List ℕ). framed (bs ++ (code ∷ []))) (address_is n)
 
 asked : (n : ℕ) (c : Command) (out : List ℕ) → is_known (command_of (code_of c)) ≡ true → 7 ≤ length out
-    → requested n (code_of c) out ≡ outcome request.Done (written out 0 (framed (address n ++ (code_of c ∷ []))))
+    → requested n (code_of c) out ≡ outcome (Ok tt) (written out 0 (framed (address n ++ (code_of c ∷ []))))
 unfolding requested
 asked n c out known room =
-    simp (le-leb 7 (length out) room, known) (ap (λ (f : List ℕ). outcome request.Done (written out 0 f)) (request-is n (code_of c)))
+    simp (le-leb 7 (length out) room, known) (ap (λ (f : List ℕ). outcome (Ok tt) (written out 0 f)) (request-is n (code_of c)))
 
 -- ---- replies: one shape for the three
 
@@ -82,10 +81,10 @@ reply-is m c bs e = ap₂ (λ (xs ys : List ℕ). framed (xs ++ (code_of c ∷ [
 
 answers : (m : Meter) (c : Command) (bs out : List ℕ) → data_of c m ≡ bs → FitsMeter m → is_within m ≡ true → is_known c ≡ true → 64 ≤ length out
     → let y = framed (address m.address ++ (code_of c ∷ bs)) in
-    bench.answered m (framed (address m.address ++ (code_of c ∷ []))) out ≡ outcome (Done (length y)) (written out 0 y)
+    bench.answered m (framed (address m.address ++ (code_of c ∷ []))) out ≡ outcome (Ok (length y)) (written out 0 y)
 answers m c bs out e fits within known room =
     ap (λ (q : List ℕ). bench.answered m q out) (sym (request-is m.address (code_of c))) ∙ there.answered m c out fits within known room
-    ∙ ap (λ (y : List ℕ). outcome (Done (length y)) (written out 0 y)) (reply-is m c bs e)
+    ∙ ap (λ (y : List ℕ). outcome (Ok (length y)) (written out 0 y)) (reply-is m c bs e)
 
 -- the claim `MercuryWire`: each request and reply of the Mercury 206 in the bytes of its page
 pub page : MercuryWire

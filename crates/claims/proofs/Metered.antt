@@ -9,6 +9,7 @@ use native.Mathlib.Omega.{arith}
 use lib.Dec.{eqb, ltb}
 use lib.ListN.{length, take, get_or}
 use borrow.Author.Tests.{eqb-true, ltb-false, lt-ltb}
+use Rattle.std.specs.Prelude.{Err, Ok, Result, Some, None, Option}
 use Rattle.refusal.specs.Outcome as call
 use Rattle.byte_numbers.specs.Number.{Bytes, bytes_of}
 use Rattle.byte_numbers.specs.Place.{byte_at, number_at}
@@ -21,7 +22,6 @@ use Rattle.meter_store.proofs.StoreLaws.{RowFits}
 use Rattle.reader.specs.Form.{length_for, function_for, head_of, form_of}
 use Rattle.reader.specs.declared.form.Fault.{Fault}
 use Rattle.reader.specs.declared.form.Fault.TheVariants as fault
-use Rattle.reader.specs.declared.form.Form.TheVariants.{WellFormed, Faulty}
 use Rattle.byte_numbers.proofs.ByteLaws.{run as bytes_from, take-run, low_of, high-of}
 use Rattle.log_cell.specs.Cell.{CountsFit}
 use Rattle.log_header.proofs.HeaderLaws.{by-sound, sound-log, header-ranges}
@@ -32,12 +32,9 @@ use Rattle.energy_log.specs.View.{View, view_of}
 use Rattle.energy_log.proofs.ViewLaws.{changed, seen-are-cells, cell_in_lem, view_by, Whole}
 use Rattle.log_cell.specs.declared.cell.Cell.{Cell}
 use Rattle.log_cell.specs.declared.cell.Cell.TheVariants.{Gap, Empty, Measured}
-use Rattle.log_cell.specs.declared.cell.CellAnswer.TheVariants.{Good}
 use Rattle.log_header.specs.declared.header.Header.{Header}
-use Rattle.log_header.specs.declared.header.LogHeader.TheVariants.{Sound}
 use Rattle.energy_log.specs.declared.image.Change.{Change}
 use Rattle.energy_log.specs.declared.image.Change.TheVariants as change
-use Rattle.log_header.specs.declared.interval.Interval.TheVariants.{At}
 use Rattle.day_rows.specs.LogAndRows.{LogAndRows, log_and_rows}
 use Rattle.logger.specs.Ask as Ask
 use Rattle.logger.specs.Reply.{slice_form, result_of, row_of}
@@ -47,11 +44,11 @@ use Rattle.logger.specs.Take as Take
 use Rattle.logger.specs.Lapse as Lapse
 use Rattle.logger.specs.Book.{Call, ask, lapse, reply, Book, start_book, book_step, book_run, run_of, worked_out, lapses_out, CallBytes, AllBytes}
 use Rattle.logger.specs.Run.{State, step, run}
-use Rattle.logger.specs.declared.ask.Asked.{Asked}
+use Rattle.logger.specs.Ask.{Asked}
 use Rattle.logger.specs.declared.held.OpenAsk.{OpenAsk}
-use Rattle.logger.specs.declared.held.OpenAsk.TheVariants.{Closed, Open}
-use Rattle.logger.specs.declared.no_reply.LapseDecision.{LapseDecision}
+use Rattle.logger.specs.Lapse.{LapseDecision}
 use Rattle.logger.specs.declared.take.Update.TheVariants.{Put, Keep, Conflict}
+use Rattle.logger.specs.Held.{opened_for}
 use Rattle.logger.proofs.FigureLaws.{Faithful, step-faithful, run-faithful}
 use Rattle.logger.proofs.LapseLaws.{lapsing-ways, lapsed-seen}
 use Rattle.logger.proofs.StepLaws.{Sane, step-sane, whole, seen_here}
@@ -75,18 +72,18 @@ not-true false e = refl
 
 -- ---- cells stay cells
 
-good-changed : (ch : Change) (v : View) (i : ℕ) (old : Cell) → v.cell i ≡ Good old → (new : Cell) × ((changed ch v).cell i ≡ Good new)
+good-changed : (ch : Change) (v : View) (i : ℕ) (old : Cell) → v.cell i ≡ Some old → (new : Cell) × ((changed ch v).cell i ≡ Some new)
 unfolding changed
 good-changed change.None v i old g = (old, g)
 good-changed (change.Put j c) v i old g = go (eqb i j)
   where
-    go : (b : Bool) → (new : Cell) × (cond b (Good c) (v.cell i) ≡ Good new)
+    go : (b : Bool) → (new : Cell) × (cond b (Some c) (v.cell i) ≡ Some new)
     go true = (c, refl)
     go false = (old, g)
 good-changed (change.Lapses j n) v i old g = (old, g)
 
-good-step : (s : State) (c : Call) (i : ℕ) (old : Cell) → CallBytes c → (view_of s.log).cell i ≡ Good old
-    → (new : Cell) × ((view_of (step s c).left.log).cell i ≡ Good new)
+good-step : (s : State) (c : Call) (i : ℕ) (old : Cell) → CallBytes c → (view_of s.log).cell i ≡ Some old
+    → (new : Cell) × ((view_of (step s c).left.log).cell i ≡ Some new)
 unfolding step
 good-step s (ask address day slot out) i old k g = (old, g)
 good-step s lapse i old k g =
@@ -98,8 +95,8 @@ good-step s (reply y) i old k g =
     let w = good-changed (Take.decided v s.figures s.held y).result.change v i old g in
     (w.0, ap (λ (x : View). x.cell i) (taken-seen s.log s.figures s.held y k) ∙ w.1)
 
-good-run : (calls : List Call) (s : State) (i : ℕ) (old : Cell) → AllBytes calls → (view_of s.log).cell i ≡ Good old
-    → (new : Cell) × ((view_of (run s calls).left.log).cell i ≡ Good new)
+good-run : (calls : List Call) (s : State) (i : ℕ) (old : Cell) → AllBytes calls → (view_of s.log).cell i ≡ Some old
+    → (new : Cell) × ((view_of (run s calls).left.log).cell i ≡ Some new)
 unfolding run_of
 good-run [] s i old k g = (old, g)
 good-run (c ∷ calls) s i old k g = let w = good-step s c i old k.0 g in good-run calls (step s c).left i w.0 k.1 w.1
@@ -110,7 +107,7 @@ pub met : (b : LogAndRows) (start : Start b) (calls : List Call) → AllBytes ca
 unfolding cells_of
 met b start calls k i l =
     let f = run-faithful start.header calls (begin b) k (start-faithful start) in
-    let seen : (view_of b.log).cell i ≡ Good _ =
+    let seen : (view_of b.log).cell i ≡ Some _ =
     ap (λ (v : View). v.cell i) (start_seen start) ∙ cell_in_lem start.cells i (omega (arith, l, start.count)) in
     let w = good-run calls (begin b) i _ k seen in
     (w.0, record { bytes = f.bytes; lent = f.sound; figures = f.right; cell = w.1 })
@@ -138,7 +135,7 @@ module _ (b : LogAndRows) (start : Start b) (calls : List Call) (k : AllBytes ca
   view-now : view_of (ran b calls).left.log ≡ view_by start.header cells-now (lapses_out book.lapses)
   view-now = ap view_of (log b start calls k) ∙ seen_here start.header book.kept book.lapses [] sane.rows start.right
 
-  good-same : (c d : Cell) → Good c ≡ Good d → c ≡ d
+  good-same : (c d : Cell) → Some c ≡ Some d → c ≡ d
   good-same c d p = cc
 
   -- the whole history's `again`: after any calls the log is one to start from, with the header that it had
@@ -165,7 +162,7 @@ module _ (b : LogAndRows) (start : Start b) (calls : List Call) (k : AllBytes ca
 
 -- ---- a well-formed reply with result 0, by its bytes
 
-faulty≢formed : (f : Fault) → Faulty f ≡ WellFormed → ⊥
+faulty≢formed : (f : Fault) → ◌≡◌ {A = Result Unit Fault} (Err f) (Ok tt) → ⊥
 faulty≢formed f p = let z : ◌≡◌ {A = ℕ} 0 1 = cc in omega arith
 
 -- what its checks say
@@ -177,7 +174,8 @@ record Formed (address : ℕ) (y : List ℕ) : Type 0 where
   parameter-is : byte_at y 2 ≡ 36
 
 all_pass : (a b c d e : Bool) (f : Fault)
-    → cond a (cond b (cond c (cond d (cond e WellFormed (Faulty fault.Parameter)) (Faulty fault.Function)) (Faulty fault.Address)) (Faulty fault.Crc)) (Faulty f) ≡ WellFormed
+    → ◌≡◌ {A = Result Unit Fault}
+    (cond a (cond b (cond c (cond d (cond e (Ok tt) (Err fault.Parameter)) (Err fault.Function)) (Err fault.Address)) (Err fault.Crc)) (Err f)) (Ok tt)
     → (a ≡ true) × (b ≡ true) × (c ≡ true) × (d ≡ true) × (e ≡ true)
 all_pass true true true true true f p = (refl, refl, refl, refl, refl)
 all_pass true true true true false f p = absurd (faulty≢formed fault.Parameter p)
@@ -186,7 +184,7 @@ all_pass true true false d e f p = absurd (faulty≢formed fault.Address p)
 all_pass true false c d e f p = absurd (faulty≢formed fault.Crc p)
 all_pass false b c d e f p = absurd (faulty≢formed f p)
 
-formed : (address : ℕ) (y : List ℕ) → slice_form address y ≡ WellFormed → result_of y ≡ 0 → Formed address y
+formed : (address : ℕ) (y : List ℕ) → slice_form address y ≡ Ok tt → result_of y ≡ 0 → Formed address y
 unfolding form_of head_of function_for length_for
 formed address y p z =
     let w =
@@ -201,7 +199,7 @@ formed address y p z =
       parameter-is = eqb-true _ _ w.4;
     }
 
-heard-is : (address : ℕ) (y : List ℕ) (e+ e- r+ r- : ℕ) → Bytes y → slice_form address y ≡ WellFormed → result_of y ≡ 0 → row_of y ≡ row e+ e- r+ r-
+heard-is : (address : ℕ) (y : List ℕ) (e+ e- r+ r- : ℕ) → Bytes y → slice_form address y ≡ Ok tt → result_of y ≡ 0 → row_of y ≡ row e+ e- r+ r-
     → y ≡ slice_answer address (e+ ∷ e- ∷ r+ ∷ r- ∷ [])
 unfolding slice_answer row_at bytes_from bytes_of
 heard-is address y e+ e- r+ r- b p z q =
@@ -225,8 +223,8 @@ record Filled (h : Header) (s : State) (c : Call) (i e+ e- r+ r- : ℕ) : Type 0
   slot : ℕ
   y : List ℕ
   called : c ≡ reply y
-  held : s.held ≡ Open address day slot
-  interval : interval_of h day slot ≡ At i
+  held : s.held ≡ opened_for address day slot
+  interval : interval_of h day slot ≡ Some i
   bytes : y ≡ slice_answer address (e+ ∷ e- ∷ r+ ∷ r- ∷ [])
 
 -- a row that puts a measured cell is that cell's
@@ -253,7 +251,7 @@ puts-row c r e+ e- r+ r- p = go c p
     go Empty q = fills (is_zero r) q
     go (Measured a b c d) q = stays (is_zero r) (alike (row a b c d) r) q
 
-module _ (h : Header) (s : State) (y : List ℕ) (i e+ e- r+ r- : ℕ) (sound : sound_of s.log ≡ Sound h) (bytes : Bytes y) where
+module _ (h : Header) (s : State) (y : List ℕ) (i e+ e- r+ r- : ℕ) (sound : sound_of s.log ≡ Some h) (bytes : Bytes y) where
   abbrev v : View
   v = view_of s.log
 
@@ -261,10 +259,10 @@ module _ (h : Header) (s : State) (y : List ℕ) (i e+ e- r+ r- : ℕ) (sound : 
   m = Measured e+ e- r+ r-
 
   abbrev Back : Step → Type 0
-  Back o = (changed o.result.change v).cell i ≡ Good m → (v.cell i ≡ Good m) ⊎ Filled h s (reply y) i e+ e- r+ r-
+  Back o = (changed o.result.change v).cell i ≡ Some m → (v.cell i ≡ Some m) ⊎ Filled h s (reply y) i e+ e- r+ r-
 
   put_back : (g : Header) (j : ℕ) (old new : Cell) → g ≡ h → (o : Heard g s.held y j) → result_of y ≡ 0 → Take.update_of old (row_of y) ≡ Put new → (b : Bool) → eqb i j ≡ b
-      → cond b (Good new) (v.cell i) ≡ Good m → (v.cell i ≡ Good m) ⊎ Filled h s (reply y) i e+ e- r+ r-
+      → cond b (Some new) (v.cell i) ≡ Some m → (v.cell i ≡ Some m) ⊎ Filled h s (reply y) i e+ e- r+ r-
   put_back g j old new same o z q true e p =
       let is : new ≡ m = cc (p) in
       let row_is : row_of y ≡ row e+ e- r+ r- = puts-row old (row_of y) e+ e- r+ r- (q ∙ ap Put is) in
@@ -275,7 +273,7 @@ module _ (h : Header) (s : State) (y : List ℕ) (i e+ e- r+ r- : ℕ) (sound : 
         y = y;
         called = refl;
         held = o.ask.open_ask;
-        interval = subst (λ (x : Header). interval_of x o.ask.day o.ask.slot ≡ At i) same (o.ask.interval ∙ ap At (sym (eqb-true i j e)));
+        interval = subst (λ (x : Header). interval_of x o.ask.day o.ask.slot ≡ Some i) same (o.ask.interval ∙ ap Some (sym (eqb-true i j e)));
         bytes = heard-is o.ask.address y e+ e- r+ r- bytes o.formed z row_is;
       })
   put_back g j old new same o z q false e p = inl p
@@ -293,7 +291,7 @@ module _ (h : Header) (s : State) (y : List ℕ) (i e+ e- r+ r- : ℕ) (sound : 
         bad-cell = λ j o n p. inl p;
         counted = λ j o ok c good.
             update-cases Back _ s.held o.ask.day j c s.figures (Take.update_of c (row_of y))
-            (λ new q done p. put_back g j c new (let x : Sound g ≡ Sound h = sym e ∙ sound in cc) o (eqb-true (result_of y) 0 ok) q (eqb i j) refl p)
+            (λ new q done p. put_back g j c new (let x : Some g ≡ Some h = sym e ∙ sound in cc) o (eqb-true (result_of y) 0 ok) q (eqb i j) refl p)
             (λ p. inl p) (λ p. inl p) (λ p. inl p);
       })
 
@@ -307,9 +305,9 @@ lapse-back s i =
     })
 
 -- a cell that is measured after a call was so before it, or the call filled it
-cell-back : (h : Header) (s : State) (c : Call) (i e+ e- r+ r- : ℕ) → sound_of s.log ≡ Sound h → CallBytes c
-    → (view_of (step s c).left.log).cell i ≡ Good (Measured e+ e- r+ r-)
-    → ((view_of s.log).cell i ≡ Good (Measured e+ e- r+ r-)) ⊎ Filled h s c i e+ e- r+ r-
+cell-back : (h : Header) (s : State) (c : Call) (i e+ e- r+ r- : ℕ) → sound_of s.log ≡ Some h → CallBytes c
+    → (view_of (step s c).left.log).cell i ≡ Some (Measured e+ e- r+ r-)
+    → ((view_of s.log).cell i ≡ Some (Measured e+ e- r+ r-)) ⊎ Filled h s c i e+ e- r+ r-
 unfolding step
 cell-back h s (ask address day slot out) i e+ e- r+ r- sound k p = inl p
 cell-back h s lapse i e+ e- r+ r- sound k p =
@@ -325,14 +323,14 @@ record Opened (h : Header) (s : State) (c : Call) (address day slot : ℕ) : Typ
   slot_on : SlotOn h day slot date
   asked : AskedFor (Ask.asked (view_of s.log) s.held address day slot room) address day slot date room
 
-closed≢open : (a d t : ℕ) → Closed ≡ Open a d t → ⊥
+closed≢open : (a d t : ℕ) → None ≡ opened_for a d t → ⊥
 closed≢open a d t p = let z : ◌≡◌ {A = ℕ} 0 1 = cc in omega arith
 
-module _ (h : Header) (s : State) (sound : sound_of s.log ≡ Sound h) (address day slot : ℕ) where
-  abbrev Before : Call → OpenAsk → Type 0
-  Before c held = held ≡ Open address day slot → (s.held ≡ Open address day slot) ⊎ Opened h s c address day slot
+module _ (h : Header) (s : State) (sound : sound_of s.log ≡ Some h) (address day slot : ℕ) where
+  abbrev Before : Call → Option OpenAsk → Type 0
+  Before c held = held ≡ opened_for address day slot → (s.held ≡ opened_for address day slot) ⊎ Opened h s c address day slot
 
-  slot_of : (i : ℕ) → interval_of h day slot ≡ At i → (date : Date) × SlotOn h day slot date
+  slot_of : (i : ℕ) → interval_of h day slot ≡ Some i → (date : Date) × SlotOn h day slot date
   slot_of i p =
       let w = in-log h day slot i p in
       let right = (sound-log s.log h sound).ranges in
@@ -340,18 +338,18 @@ module _ (h : Header) (s : State) (sound : sound_of s.log ≡ Sound h) (address 
       let same = exists-on h day slot d.0 d.1 (header-ranges h right).start in
       (d.0, record { day_in = w.day-below; slot_in = w.slot-below; there = not-true (is_skipped h d.0 slot) (sym same ∙ w.there); on = d.1 })
 
-  now-open : (g : Header) (room : List ℕ) (i : ℕ) → sound_of s.log ≡ Sound g → ltb (length room) 8 ≡ false → s.held ≡ Closed → interval_of g day slot ≡ At i
+  now-open : (g : Header) (room : List ℕ) (i : ℕ) → sound_of s.log ≡ Some g → ltb (length room) 8 ≡ false → s.held ≡ None → interval_of g day slot ≡ Some i
       → Opened h s (ask address day slot room) address day slot
   now-open g room i e l none p =
-      let x : Sound g ≡ Sound h = sym e ∙ sound in
+      let x : Some g ≡ Some h = sym e ∙ sound in
       let same : g ≡ h = cc in
-      let w = slot_of i (subst (λ (x : Header). interval_of x day slot ≡ At i) same p) in
+      let w = slot_of i (subst (λ (x : Header). interval_of x day slot ≡ Some i) same p) in
       record {
         room = room;
         date = w.0;
         called = refl;
         slot_on = w.1;
-        asked = subst (λ (o : OpenAsk). AskedFor (Ask.asked (view_of s.log) o address day slot room) address day slot w.0 room) (sym none)
+        asked = subst (λ (o : Option OpenAsk). AskedFor (Ask.asked (view_of s.log) o address day slot room) address day slot w.0 room) (sym none)
             (asked s.log h address day slot w.0 room sound w.1 (ltb-false (length room) 8 l));
       }
 
@@ -366,26 +364,24 @@ module _ (h : Header) (s : State) (sound : sound_of s.log ≡ Sound h) (address 
       P : call.Outcome Asked (List ℕ) → Type 0
       P o = Before (ask a d t room) o.result.held
 
-      opens : (g : Header) → sound_of s.log ≡ Sound g → ltb (length room) 8 ≡ false → s.held ≡ Closed → (i : ℕ) → interval_of g d t ≡ At i
-          → Before (ask a d t room) (Open a d t)
+      opens : (g : Header) → sound_of s.log ≡ Some g → ltb (length room) 8 ≡ false → s.held ≡ None → (i : ℕ) → interval_of g d t ≡ Some i
+          → Before (ask a d t room) (opened_for a d t)
       opens g e l none i n p =
-          let same : (a ≡ address) × (d ≡ day) × (t ≡ slot) = (cc, cc, cc) in
-          inr (subst (λ (x : ℕ). Opened h s (ask x d t room) address day slot) (sym same.0)
-          (subst (λ (x : ℕ). Opened h s (ask address x t room) address day slot) (sym same.1)
-          (subst (λ (x : ℕ). Opened h s (ask address day x room) address day slot) (sym same.2)
-          (now-open g room i e l none (subst (λ (x : ℕ). interval_of g x slot ≡ At i) same.1 (subst (λ (x : ℕ). interval_of g d x ≡ At i) same.2 n))))))
+          let same : ◌≡◌ {A = OpenAsk} (record { address = a; day = d; slot = t }) (record { address = address; day = day; slot = slot }) = cc in
+          inr (subst (λ (o : OpenAsk). Opened h s (ask o.address o.day o.slot room) address day slot) (sym same)
+          (now-open g room i e l none (subst (λ (o : OpenAsk). interval_of g o.day o.slot ≡ Some i) same n)))
 
-  lapse-opens : Before lapse (Lapse.lapsing (view_of s.log) s.held).lapsed.held
+  lapse-opens : Before lapse (Lapse.lapsing (view_of s.log) s.held).answered.held
   lapse-opens =
-      lapsing-ways (λ (d : LapseDecision). Before lapse d.lapsed.held) (view_of s.log) s.held (record {
+      lapsing-ways (λ (d : LapseDecision). Before lapse d.answered.held) (view_of s.log) s.held (record {
         none = λ e p. absurd (closed≢open address day slot p);
         refused = λ a n p. inl p;
         counted = λ g j e o p. absurd (closed≢open address day slot p);
       })
 
-  reply-opens : (y : List ℕ) → Before (reply y) (Take.decided (view_of s.log) s.figures s.held y).result.taken.held
+  reply-opens : (y : List ℕ) → Before (reply y) (Take.decided (view_of s.log) s.figures s.held y).result.answered.held
   reply-opens y =
-      decided-ways (λ (o : Step). Before (reply y) o.result.taken.held) (view_of s.log) s.figures s.held y (record {
+      decided-ways (λ (o : Step). Before (reply y) o.result.answered.held) (view_of s.log) s.figures s.held y (record {
         kept-open = λ a n p. inl p;
         closed = λ a n p. absurd (closed≢open address day slot p);
         put = λ g j old c e o held-here is done p. absurd (closed≢open address day slot p);
@@ -406,13 +402,13 @@ record Still (s : State) (h : Header) (calls : List Call) (i address day slot : 
   heard : List ℕ
   after : List Call
   are : calls ≡ between ++ (reply heard ∷ after)
-  interval : interval_of h day slot ≡ At i
-  still : (front back : List Call) → between ≡ front ++ back → (run s front).left.held ≡ Open address day slot
+  interval : interval_of h day slot ≡ Some i
+  still : (front back : List Call) → between ≡ front ++ back → (run s front).left.held ≡ opened_for address day slot
   bytes : heard ≡ slice_answer address row
 
 data Traced (s : State) (h : Header) (calls : List Call) (i e+ e- r+ r- : ℕ) : Type 0 where
-  there : (view_of s.log).cell i ≡ Good (Measured e+ e- r+ r-) → Traced s h calls i e+ e- r+ r-
-  open-now : (address day slot : ℕ) → s.held ≡ Open address day slot → Still s h calls i address day slot (e+ ∷ e- ∷ r+ ∷ r- ∷ [])
+  there : (view_of s.log).cell i ≡ Some (Measured e+ e- r+ r-) → Traced s h calls i e+ e- r+ r-
+  open-now : (address day slot : ℕ) → s.held ≡ opened_for address day slot → Still s h calls i address day slot (e+ ∷ e- ∷ r+ ∷ r- ∷ [])
       → Traced s h calls i e+ e- r+ r-
   came : Came s h calls i (e+ ∷ e- ∷ r+ ∷ r- ∷ []) → Traced s h calls i e+ e- r+ r-
 
@@ -427,7 +423,7 @@ module _ (h : Header) (s : State) (c : Call) (calls : List Call) (i : ℕ) (row 
   abbrev next : State
   next = (step s c).left
 
-  still-more : (address day slot : ℕ) → s.held ≡ Open address day slot → Still next h calls i address day slot row → Still s h (c ∷ calls) i address day slot row
+  still-more : (address day slot : ℕ) → s.held ≡ opened_for address day slot → Still next h calls i address day slot row → Still s h (c ∷ calls) i address day slot row
   unfolding run_of
   still-more address day slot held m = record {
     between = c ∷ m.between;
@@ -439,11 +435,11 @@ module _ (h : Header) (s : State) (c : Call) (calls : List Call) (i : ℕ) (row 
     bytes = m.bytes;
   }
     where
-      go : (front back : List Call) → c ∷ m.between ≡ front ++ back → (run s front).left.held ≡ Open address day slot
+      go : (front back : List Call) → c ∷ m.between ≡ front ++ back → (run s front).left.held ≡ opened_for address day slot
       go [] back p = held
       go (x ∷ front) back p =
           let q = tail c x m.between (front ++ back) p in
-          subst (λ (z : Call). (run s (z ∷ front)).left.held ≡ Open address day slot) q.0 (m.still front back q.1)
+          subst (λ (z : Call). (run s (z ∷ front)).left.held ≡ opened_for address day slot) q.0 (m.still front back q.1)
 
   came-first : (address day slot : ℕ) → Opened h s c address day slot → Still next h calls i address day slot row → Came s h (c ∷ calls) i row
   unfolding run_of
@@ -461,7 +457,7 @@ module _ (h : Header) (s : State) (c : Call) (calls : List Call) (i : ℕ) (row 
     slot_on = o.slot_on;
     index = (in-log h day slot i m.interval).index;
     asked = o.asked;
-    still = λ front back p. subst (λ (z : Call). (run s (z ∷ front)).left.held ≡ Open address day slot) o.called (m.still front back p);
+    still = λ front back p. subst (λ (z : Call). (run s (z ∷ front)).left.held ≡ opened_for address day slot) o.called (m.still front back p);
     bytes = m.bytes;
   }
 
@@ -498,21 +494,21 @@ now-filled h s c calls i e+ e- r+ r- f =
       bytes = f.bytes;
     })
   where
-    go : (front back : List Call) → [] ≡ front ++ back → (run s front).left.held ≡ Open f.address f.day f.slot
+    go : (front back : List Call) → [] ≡ front ++ back → (run s front).left.held ≡ opened_for f.address f.day f.slot
     go [] back p = f.held
     go (x ∷ front) back p = absurd (no_call x (front ++ back) p)
 
 trace : (h : Header) (calls : List Call) (s : State) (i e+ e- r+ r- : ℕ) → AllBytes calls → Faithful h s
-    → (view_of (run s calls).left.log).cell i ≡ Good (Measured e+ e- r+ r-) → Traced s h calls i e+ e- r+ r-
+    → (view_of (run s calls).left.log).cell i ≡ Some (Measured e+ e- r+ r-) → Traced s h calls i e+ e- r+ r-
 unfolding run_of
 trace h [] s i e+ e- r+ r- k f p = there p
 trace h (c ∷ calls) s i e+ e- r+ r- k f p = go (trace h calls (step s c).left i e+ e- r+ r- k.1 (step-faithful h s c k.0 f) p)
   where
-    was : ((view_of s.log).cell i ≡ Good (Measured e+ e- r+ r-)) ⊎ Filled h s c i e+ e- r+ r- → Traced s h (c ∷ calls) i e+ e- r+ r-
+    was : ((view_of s.log).cell i ≡ Some (Measured e+ e- r+ r-)) ⊎ Filled h s c i e+ e- r+ r- → Traced s h (c ∷ calls) i e+ e- r+ r-
     was (inl g) = there g
     was (inr x) = now-filled h s c calls i e+ e- r+ r- x
 
-    opened : (a d t : ℕ) → Still (step s c).left h calls i a d t (e+ ∷ e- ∷ r+ ∷ r- ∷ []) → (s.held ≡ Open a d t) ⊎ Opened h s c a d t
+    opened : (a d t : ℕ) → Still (step s c).left h calls i a d t (e+ ∷ e- ∷ r+ ∷ r- ∷ []) → (s.held ≡ opened_for a d t) ⊎ Opened h s c a d t
         → Traced s h (c ∷ calls) i e+ e- r+ r-
     opened a d t m (inl held) = open-now a d t held (still-more h s c calls i _ a d t held m)
     opened a d t m (inr o) = came (came-first h s c calls i _ a d t o m)
@@ -522,12 +518,12 @@ trace h (c ∷ calls) s i e+ e- r+ r- k f p = go (trace h calls (step s c).left 
     go (open-now a d t held m) = opened a d t m (held_back h s f.sound a d t c held)
     go (came m) = came (came-later h s c calls i _ m)
 
-gap≢measured : (e+ e- r+ r- : ℕ) → Good Gap ≡ Good (Measured e+ e- r+ r-) → ⊥
+gap≢measured : (e+ e- r+ r- : ℕ) → Some Gap ≡ Some (Measured e+ e- r+ r-) → ⊥
 gap≢measured e+ e- r+ r- p = let z : ◌≡◌ {A = ℕ} 0 1 = cc in omega arith
 
 -- the whole history's `measured`: a gap that is measured now got its counts from a reply to an ask for it
-pub measured : (b : LogAndRows) (start : Start b) (calls : List Call) → AllBytes calls → (i e+ e- r+ r- : ℕ) → (view_of b.log).cell i ≡ Good Gap
-    → (view_of (ran b calls).left.log).cell i ≡ Good (Measured e+ e- r+ r-) → Came (begin b) start.header calls i (e+ ∷ e- ∷ r+ ∷ r- ∷ [])
+pub measured : (b : LogAndRows) (start : Start b) (calls : List Call) → AllBytes calls → (i e+ e- r+ r- : ℕ) → (view_of b.log).cell i ≡ Some Gap
+    → (view_of (ran b calls).left.log).cell i ≡ Some (Measured e+ e- r+ r-) → Came (begin b) start.header calls i (e+ ∷ e- ∷ r+ ∷ r- ∷ [])
 measured b start calls k i e+ e- r+ r- gap p = go (trace start.header calls (begin b) i e+ e- r+ r- k (start-faithful start) p)
   where
     go : Traced (begin b) start.header calls i e+ e- r+ r- → Came (begin b) start.header calls i (e+ ∷ e- ∷ r+ ∷ r- ∷ [])
@@ -550,7 +546,7 @@ row-fits-four e+ e- r+ r- f = record { four = refl; below = below }
 
 -- the whole history's `by_meters`: where meters answered, these are a meter's slice of the cell's date and slot
 pub by_meters : (b : LogAndRows) (start : Start b) (calls : List Call) → AllBytes calls → (meters : FromMeters (begin b) start.header calls)
-    → (i e+ e- r+ r- : ℕ) → (view_of b.log).cell i ≡ Good Gap → (view_of (ran b calls).left.log).cell i ≡ Good (Measured e+ e- r+ r-)
+    → (i e+ e- r+ r- : ℕ) → (view_of b.log).cell i ≡ Some Gap → (view_of (ran b calls).left.log).cell i ≡ Some (Measured e+ e- r+ r-)
     → let row = e+ ∷ e- ∷ r+ ∷ r- ∷ [] in
     (m : Came (begin b) start.header calls i row) × (Measured e+ e- r+ r- ≡ measured_by (slice_on (meters i row m).store m.date m.slot))
 by_meters b start calls k meters i e+ e- r+ r- gap p =
@@ -570,7 +566,7 @@ by_meters b start calls k meters i e+ e- r+ r- gap p =
 -- ---- what came is kept
 
 -- a measured cell is never put again
-module _ (s : State) (i e+ e- r+ r- : ℕ) (g : (view_of s.log).cell i ≡ Good (Measured e+ e- r+ r-)) where
+module _ (s : State) (i e+ e- r+ r- : ℕ) (g : (view_of s.log).cell i ≡ Some (Measured e+ e- r+ r-)) where
   never-put : (r : Row) (c : Cell) → Take.update_of (Measured e+ e- r+ r-) r ≡ Put c → ⊥
   unfolding Take.update_of
   never-put r c q = go (is_zero r) (alike (row e+ e- r+ r-) r) q
@@ -580,22 +576,22 @@ module _ (s : State) (i e+ e- r+ r- : ℕ) (g : (view_of s.log).cell i ≡ Good 
       go false true p = let z : ◌≡◌ {A = ℕ} 0 1 = cc in omega arith
       go false false p = let z : ◌≡◌ {A = ℕ} 0 1 = cc in omega arith
 
-  put-stays : (j : ℕ) (old new : Cell) (r : Row) → (view_of s.log).cell j ≡ Good old → Take.update_of old r ≡ Put new → (b : Bool) → eqb i j ≡ b
-      → cond b (Good new) ((view_of s.log).cell i) ≡ Good (Measured e+ e- r+ r-)
+  put-stays : (j : ℕ) (old new : Cell) (r : Row) → (view_of s.log).cell j ≡ Some old → Take.update_of old r ≡ Put new → (b : Bool) → eqb i j ≡ b
+      → cond b (Some new) ((view_of s.log).cell i) ≡ Some (Measured e+ e- r+ r-)
   put-stays j old new r held q true e =
       let same : i ≡ j = eqb-true i j e in
-      let is : Good old ≡ Good (Measured e+ e- r+ r-) = sym held ∙ ap (view_of s.log).cell (sym same) ∙ g in
+      let is : Some old ≡ Some (Measured e+ e- r+ r-) = sym held ∙ ap (view_of s.log).cell (sym same) ∙ g in
       let cell : old ≡ Measured e+ e- r+ r- = cc in
       absurd (never-put r new (ap (λ (c : Cell). Take.update_of c r) (sym cell) ∙ q))
   put-stays j old new r held q false e = g
 
-  measured-stays : (c : Call) → CallBytes c → (view_of (step s c).left.log).cell i ≡ Good (Measured e+ e- r+ r-)
+  measured-stays : (c : Call) → CallBytes c → (view_of (step s c).left.log).cell i ≡ Some (Measured e+ e- r+ r-)
   unfolding step changed
   measured-stays (ask address day slot out) k = g
   measured-stays lapse k = ap (λ (x : View). x.cell i) (lapsed-seen s.log s.held) ∙ lapse-back s i ∙ g
   measured-stays (reply y) k =
       ap (λ (x : View). x.cell i) (taken-seen s.log s.figures s.held y k)
-      ∙ decided-cases (λ (o : Step). (changed o.result.change (view_of s.log)).cell i ≡ Good (Measured e+ e- r+ r-)) (view_of s.log) s.figures s.held y
+      ∙ decided-cases (λ (o : Step). (changed o.result.change (view_of s.log)).cell i ≡ Some (Measured e+ e- r+ r-)) (view_of s.log) s.figures s.held y
       (λ e. g) (λ h e.
       record {
         few = λ n. g;
@@ -605,12 +601,12 @@ module _ (s : State) (i e+ e- r+ r- : ℕ) (g : (view_of s.log).cell i ≡ Good 
         refused = λ j o n. g;
         bad-cell = λ j o n. g;
         counted = λ j o ok c good.
-            update-cases (λ (o : Step). (changed o.result.change (view_of s.log)).cell i ≡ Good (Measured e+ e- r+ r-)) _ s.held o.ask.day j c s.figures
+            update-cases (λ (o : Step). (changed o.result.change (view_of s.log)).cell i ≡ Some (Measured e+ e- r+ r-)) _ s.held o.ask.day j c s.figures
             (Take.update_of c (row_of y)) (λ new q done. put-stays j c new (row_of y) good q (eqb i j) refl) g g g;
       })
 
-run-stays : (calls : List Call) (s : State) (i e+ e- r+ r- : ℕ) → AllBytes calls → (view_of s.log).cell i ≡ Good (Measured e+ e- r+ r-)
-    → (view_of (run s calls).left.log).cell i ≡ Good (Measured e+ e- r+ r-)
+run-stays : (calls : List Call) (s : State) (i e+ e- r+ r- : ℕ) → AllBytes calls → (view_of s.log).cell i ≡ Some (Measured e+ e- r+ r-)
+    → (view_of (run s calls).left.log).cell i ≡ Some (Measured e+ e- r+ r-)
 unfolding run_of
 run-stays [] s i e+ e- r+ r- k g = g
 run-stays (c ∷ calls) s i e+ e- r+ r- k g = run-stays calls (step s c).left i e+ e- r+ r- k.1 (measured-stays s i e+ e- r+ r- g c k.0)
@@ -660,24 +656,24 @@ module _ (b : LogAndRows) (start : Start b) (calls : List Call) (k : AllBytes ca
   bytes : AllBytes first × AllBytes (reply m.heard ∷ m.after)
   bytes = bytes-split first (reply m.heard ∷ m.after) (subst AllBytes parts k)
 
-  filled : (of : List ℕ) × ((view_of (step t (reply m.heard)).left.log).cell j ≡ Good (measured_by of))
+  filled : (of : List ℕ) × ((view_of (step t (reply m.heard)).left.log).cell j ≡ Some (measured_by of))
   unfolding step slice_answer all_zero cells_of
   filled =
       let l = interval-below h m.day m.slot j (interval-on h m.day m.slot m.date m.slot_on) in
       let w = met b start first bytes.0 j l in
-      let held : t.held ≡ Open m.address m.day m.slot = m.still m.between [] (sym (append-nil m.between)) in
+      let held : t.held ≡ opened_for m.address m.day m.slot = m.still m.between [] (sym (append-nil m.between)) in
       let small = came-byte m.address xs (subst Bytes m.bytes bytes.1.0) in
       let fit = row-fits-four (count_at xs 0) (count_at xs 1) (count_at xs 2) (count_at xs 3)
       (record { e_plus = fits 0; e_minus = fits 1; r_plus = fits 2; r_minus = fits 3 }) in
       let into = taken-into (log_and_rows t.log t.figures) h m.address m.day m.slot m.date w.0 four m.slot_on w.1 small fit in
       let z = after-measured w.0 four nonzero in (
         z.0,
-        ap₂ (λ (o : OpenAsk) (y : List ℕ). (view_of (Take.taken (log_and_rows t.log t.figures) o y).left.log).cell j) held m.bytes
-            ∙ into.cell ∙ ap Good z.1,
+        ap₂ (λ (o : Option OpenAsk) (y : List ℕ). (view_of (Take.taken (log_and_rows t.log t.figures) o y).left.log).cell j) held m.bytes
+            ∙ into.cell ∙ ap Some z.1,
       )
 
   -- the whole history's `kept`: a slice that came and is not all zeros is not lost, its cell is measured
-  pub kept : (of : List ℕ) × ((view_of (ran b calls).left.log).cell i ≡ Good (measured_by of))
+  pub kept : (of : List ℕ) × ((view_of (ran b calls).left.log).cell i ≡ Some (measured_by of))
   unfolding run_of
   kept =
       let w = filled in

@@ -7,6 +7,7 @@ use native.Mathlib.Omega.{arith}
 use lib.Dec.{eqb, leb, lit≤}
 use lib.ListN.{length}
 use borrow.Author.Tests.{leb-true, lt-leb, eq-eqb, ne_eqb}
+use Rattle.std.specs.Prelude.{Err, Ok, Result}
 use Rattle.test_laws.proofs.Test.{both, either}
 use Rattle.byte_numbers.specs.Number.{Bytes, number, bytes_of}
 use Rattle.byte_numbers.proofs.NumberLaws.{bytes_of-number}
@@ -35,8 +36,8 @@ use Rattle.meter_command.specs.Judgement.{argument_fits, verdict_of, verdict_by}
 use Rattle.meter_command.specs.Command.{parameter_byte, parameter_in, data_in, command_of, detail_in}
 use Rattle.meter_command.specs.Verdict.{number_of, is_done}
 use Rattle.meter_command.specs.declared.access.Met.TheVariants.{Own}
-use Rattle.meter_command.specs.declared.verdict.Verdict.{Verdict}
-use Rattle.meter_command.specs.declared.verdict.Verdict.TheVariants.{Done, WrongLength, NoAccess, WrongArgument}
+use Rattle.meter_command.specs.declared.verdict.Refusal.{Refusal}
+use Rattle.meter_command.specs.declared.verdict.Refusal.TheVariants.{WrongLength, NoAccess, WrongArgument}
 use Rattle.meter.specs.Effect.{renewed, after_by}
 use Rattle.meter.specs.Reply.{Outcome, is_sound, met, is_heard, heard, replied, answer_of}
 use Rattle.meter.proofs.KeepLaws.{answer-sound}
@@ -81,29 +82,30 @@ one_number a b x y e =
 -- ---- what an unlock is told
 
 unlock-verdict : (k : Passwords) (a : ℕ) (level : Access) (p : List ℕ) → length p ≡ 8
-    → unlock_verdict k (command_of (framed (a ∷ 31 ∷ 0 ∷ level_byte level ∷ p))) (framed (a ∷ 31 ∷ 0 ∷ level_byte level ∷ p)) ≡ cond (eqb (number p) (password_for k (level_byte level))) Done NoAccess
+    → unlock_verdict k (command_of (framed (a ∷ 31 ∷ 0 ∷ level_byte level ∷ p))) (framed (a ∷ 31 ∷ 0 ∷ level_byte level ∷ p)) ≡ cond (eqb (number p) (password_for k (level_byte level))) (Ok tt) (Err NoAccess)
 unfolding unlock_verdict framed
 unlock-verdict k a level p h =
     let m : List ℕ = 0 ∷ level_byte level ∷ p in
     let l : length (framed (a ∷ 31 ∷ m)) ≡ 14 = length-by a 31 m ∙ omega (arith, h) in
     let eight : length m ≡ 10 = omega (arith, h) in
-    ap₂ (λ (b : Bool) (n : ℕ). cond b (told n) WrongLength) (eq-eqb (length (framed (a ∷ 31 ∷ m))) 14 l) (number_by a 31 m eight) ∙ named level
+    ap₂ (λ (b : Bool) (n : ℕ). cond b (told n) (Err WrongLength)) (eq-eqb (length (framed (a ∷ 31 ∷ m))) 14 l) (number_by a 31 m eight) ∙ named level
   where
-    told : ℕ → Verdict
-    told n = cond (leb (level_byte level) 1) (cond (eqb n (password_for k (level_byte level))) Done NoAccess) WrongArgument
+    told : ℕ → Result Unit Refusal
+    told n = cond (leb (level_byte level) 1) (cond (eqb n (password_for k (level_byte level))) (Ok tt) (Err NoAccess)) (Err WrongArgument)
 
-    named : (x : Access) → cond (leb (level_byte x) 1) (cond (eqb (number p) (password_for k (level_byte x))) Done NoAccess) WrongArgument
-        ≡ cond (eqb (number p) (password_for k (level_byte x))) Done NoAccess
+    named : (x : Access) → ◌≡◌ {A = Result Unit Refusal}
+        (cond (leb (level_byte x) 1) (cond (eqb (number p) (password_for k (level_byte x))) (Ok tt) (Err NoAccess)) (Err WrongArgument))
+        (cond (eqb (number p) (password_for k (level_byte x))) (Ok tt) (Err NoAccess))
     named access.Main = refl
     named access.Auxiliary = refl
 
-number-told : (v : Verdict) (r : Record) (s f out : List ℕ) → answer_number (replied v r s f out) ≡ number_of v
+number-told : (v : Result Unit Refusal) (r : Record) (s f out : List ℕ) → answer_number (replied v r s f out) ≡ number_of v
 unfolding replied
 number-told v r s f out = either (λ (o : Outcome). answer_number o ≡ number_of v) (is_done v) refl refl
 
 -- 0 where the number is the level's, else 14
 abbrev told_by : Passwords → Access → List ℕ → ℕ
-told_by k level p = number_of (cond (eqb (number p) (password_for k (level_byte level))) Done NoAccess)
+told_by k level p = number_of (cond (eqb (number p) (password_for k (level_byte level))) (Ok tt) (Err NoAccess))
 
 told : (r : Record) (s : List ℕ) (level : Access) (p room : List ℕ) → is_sound r s ≡ true → r.address < 256 → Eight p → 64 ≤ length room
     → answer_number (answer_of r s (unlocking r level p) room) ≡ told_by r.passwords level p
@@ -192,7 +194,7 @@ module _ (level : Access) (new : List ℕ) (r : Record) (s out room : List ℕ) 
       let o = given level new r s out in
       let k = passwords_after r.passwords (level_byte level) (number new) in
       let same : eqb (number new) (password_for k (level_byte level)) ≡ true = eq-eqb _ _ (sym (its_own r.passwords level (number new))) in
-      let zero = after-told level new n.eight ∙ ap (λ (b : Bool). number_of (cond b Done NoAccess)) same in
+      let zero = after-told level new n.eight ∙ ap (λ (b : Bool). number_of (cond b (Ok tt) (Err NoAccess))) same in
       (zero, ap-level o zero)
     where
       ap-level : (o : Outcome) → answer_number (unlocked o level new room) ≡ 0 → Leaves (with_protection o.answer.after (opened (level_of level))) o.store (unlocked o level new room)
@@ -208,7 +210,7 @@ module _ (level : Access) (new : List ℕ) (r : Record) (s out room : List ℕ) 
       let k = passwords_after r.passwords (level_byte level) (number new) in
       let differs : eqb (number old) (password_for k (level_byte level)) ≡ false =
       ne_eqb _ _ (λ q. d (one_number old new e n.eight (q ∙ its_own r.passwords level (number new)))) in
-      let told = after-told level old e ∙ ap (λ (b : Bool). number_of (cond b Done NoAccess)) differs in
+      let told = after-told level old e ∙ ap (λ (b : Bool). number_of (cond b (Ok tt) (Err NoAccess))) differs in
       (told, refused-leaves _ _ _ _ (λ z. omega (arith, told, z)))
 
   -- demand 2's `other_stays`: what is tried on the other level is answered as before the change
@@ -216,5 +218,5 @@ module _ (level : Access) (new : List ℕ) (r : Record) (s out room : List ℕ) 
       → answer_number (unlocked (given level new r s out) (other level) tried room) ≡ answer_number (answer_of r s (unlocking r (other level) tried) room)
   other_stays tried e =
       after-told (other level) tried e
-      ∙ ap (λ (m : ℕ). number_of (cond (eqb (number tried) m) Done NoAccess)) (others r.passwords level (number new))
+      ∙ ap (λ (m : ℕ). number_of (cond (eqb (number tried) m) (Ok tt) (Err NoAccess))) (others r.passwords level (number new))
       ∙ sym (told r s (other level) tried room (passed r s (new_password r level new) out n.zero).sound n.address e n.room)

@@ -7,6 +7,7 @@ use native.Mathlib.Omega.{arith}
 use lib.Dec.{eqb, ltb, lit≤}
 use lib.ListN.{length}
 use borrow.Author.Tests.{eqb-true, eqb-false, lt-ltb, le-ltb, ltb-true, ltb-false}
+use Rattle.std.specs.Prelude.{Ok, Result}
 use Rattle.test_laws.proofs.Test.{both, either}
 use Rattle.slots.specs.Day.{slots_of}
 use Rattle.slots.proofs.DayLaws.{slots-at-most}
@@ -20,8 +21,7 @@ use Rattle.meter_record.proofs.RangeLaws.{within}
 use Rattle.meter_record.specs.Ranges.{is_within}
 use Rattle.meter_record.specs.With.{with_next}
 use Rattle.meter_record.specs.declared.record.Record.{Record}
-use Rattle.meter_record.specs.declared.record.RecordAnswer.{RecordAnswer}
-use Rattle.meter_record.specs.declared.record.RecordAnswer.TheVariants.{Done}
+use Rattle.meter_record.specs.declared.record.RecordError.{RecordError}
 use Rattle.meter.specs.Bench.{slice_put}
 use Rattle.meter.specs.Reply.{is_sound}
 use Rattle.meter.proofs.KeepLaws.{hands_back, put-sound}
@@ -62,7 +62,7 @@ free s next k j d n = go (ltb (first_from s k 0 places) places) refl
 -- ---- a sound meter's slice, as it is read
 
 slice-read : (m : Meter) (k : Key) (row room : List ℕ) → Fits m → is_sound m.kept m.store ≡ true → is_legal k (slots_of m.kept.minutes) ≡ true
-    → 64 ≤ length room → slice_of m.store k ≡ row → slice_back m k room ≡ decoded.Slice (four_counts row)
+    → 64 ≤ length room → slice_of m.store k ≡ row → slice_back m k room ≡ Ok (decoded.Slice (four_counts row))
 slice-read m k row room f sound legal space e =
     let r = m.kept in
     let slots = slots_of r.minutes in
@@ -82,7 +82,7 @@ whole r s h =
 
 -- demand 2's `others_stay`: a slice of another key reads as before, but for the one in the place in turn
 pub others_stay : (m : Meter) (x : Record) (k j : Key) (row room : List ℕ) → let o = slice_put m.kept m.store k row in let n : Meter = record { kept = x; store = o.left } in
-    o.result ≡ Done x → Fits m → Fits n → is_legal j (slots_of m.kept.minutes) ≡ true → (j ≡ k → ⊥)
+    o.result ≡ Ok x → Fits m → Fits n → is_legal j (slots_of m.kept.minutes) ≡ true → (j ≡ k → ⊥)
     → (is_kept m.store k ≡ false → key_at m.store m.kept.next ≡ j → ⊥) → 64 ≤ length room → slice_back n j room ≡ slice_back m j room
 others_stay m x k j row room h f g legal d n space =
     let r = m.kept in
@@ -93,7 +93,7 @@ others_stay m x k j row room h f g legal d n space =
     let other = differs k j (λ e. d (sym e)) in
     let place = free s r.next k j other (λ e. differs (key_at s r.next) j (n e)) in
     let same : slice_of o.left j ≡ slice_of s j = ap (λ (t : List ℕ). slice_of t j) p.left ∙ put-keeps-others s r.next k j row w.long w.next other place in
-    let sound : is_sound x o.left ≡ true = ap (λ (z : RecordAnswer). hands_back z o.left) (sym h) ∙ put-sound r s k row in
+    let sound : is_sound x o.left ≡ true = ap (λ (z : Result Record RecordError). hands_back z o.left) (sym h) ∙ put-sound r s k row in
     let still : is_legal j (slots_of x.minutes) ≡ true = ap (λ (i : ℕ). is_legal j (slots_of i)) p.after ∙ legal in
     slice-read (record { kept = x; store = o.left }) j (slice_of s j) room g sound still space same
     ∙ sym (slice-read m j (slice_of s j) room f p.sound legal space refl)
@@ -255,7 +255,7 @@ module _ (m : Meter) (q : Slice) (sound : is_sound m.kept m.store ≡ true) (leg
 
   -- demand 2's `lasts`: a slice that was not there is still read after fewer than 2,976 others
   pub lasts : (ps : List Slice) (room : List ℕ) → none_has q.key ps ≡ true → length ps < 2976
-      → let n = put_all m (q ∷ ps) in Fits n → 64 ≤ length room → slice_back n q.key room ≡ decoded.Slice (four_counts q.counts)
+      → let n = put_all m (q ∷ ps) in Fits n → 64 ≤ length room → slice_back n q.key room ≡ Ok (decoded.Slice (four_counts q.counts))
   unfolding put_all
   lasts ps room none l fits space =
       let f = first in

@@ -8,20 +8,17 @@ use lib.Dec.{eqb, leb, ltb, lit≤}
 use lib.Ieee.{le, fits, of_bits}
 use lib.ListN.{length, replicate, length-replicate}
 use borrow.Author.Tests.{le-leb, eq-eqb, eqb-false}
+use Rattle.std.specs.Prelude.{Err, Float, None, Ok, Option, Result, Some}
 use Rattle.test_laws.proofs.Test.{either}
 use Rattle.byte_numbers.specs.Place.{byte_at}
 use Rattle.calendar.specs.Date.{is_date, days_in_month, month_lengths}
 use Rattle.calendar.specs.Time.{is_time}
 use Rattle.calendar.specs.declared.time.DateTime.{DateTime}
-use Rattle.wire_values.specs.declared.power.Power.{Power}
-use Rattle.wire_values.specs.declared.power.Power.TheVariants as power
-use Rattle.wire_values.specs.declared.power.PowersAnswer.{PowersAnswer}
-use Rattle.wire_values.specs.declared.power.PowersAnswer.TheVariants as powers
 use Rattle.wire_values.specs.Displayed.{energies_of}
-use Rattle.wire_values.specs.declared.displayed.EnergiesAnswer.{EnergiesAnswer}
-use Rattle.wire_values.specs.declared.displayed.EnergiesAnswer.TheVariants as energies
 use Rattle.wire_values.specs.Power.{power_of, powers_of}
 use Rattle.wire_values.specs.declared.telemetry.Telemetry.{Telemetry}
+use Rattle.wire_values.specs.declared.displayed.Energies.{Energies}
+use Rattle.wire_values.specs.declared.power.Powers.{Powers}
 use Rattle.frame.specs.Sealing.{framed, is_sealed}
 use Rattle.frame.proofs.SealingLaws.{length-framed, crc_fits-framed}
 use Rattle.parameters.specs.Code.{reading_code}
@@ -44,9 +41,10 @@ use Rattle.reader.proofs.FormLaws.{fault-above}
 use Rattle.reader.specs.Reply as decoding
 use Rattle.reader.specs.Reply.{decoded_of, read_figures, read_as, phase_figures, powers_figure, power_figure, energies_figure, figures_of}
 use Rattle.reader.specs.Rows.{reply_data}
-use Rattle.reader.specs.declared.form.Reply.{Reply}
-use Rattle.reader.specs.declared.form.Reply.TheVariants.{Malformed, Refused, Answered}
 use Rattle.reader.specs.declared.reply.Decoded.{Decoded}
+use Rattle.reader.specs.declared.reply.DecodeError.{DecodeError}
+use Rattle.reader.specs.declared.form.ReplyError.{ReplyError}
+use Rattle.reader.specs.declared.form.ReplyError.TheVariants.{Malformed, Refused}
 use Rattle.meter_clock.specs.Protection.{is_protection}
 use Rattle.meter_clock.specs.Season.{is_fitting}
 use Rattle.meter_clock.specs.declared.season.Season.TheVariants.{Winter}
@@ -78,20 +76,20 @@ asked-most r s q out h =
 
 -- ---- the reader's 27 is for nothing else
 
-No27 : Decoded → Type 0
+No27 : Result Decoded DecodeError → Type 0
 No27 d = decoding.number_of d ≡ 27 → ⊥
 
 phases-no-27 : (detail : ℕ) (bs : List ℕ) → No27 (phase_figures detail bs)
 unfolding phase_figures No27
 phases-no-27 detail bs = either No27 (eqb detail 0) (all (powers_of bs)) (one (power_of bs 0))
   where
-    all : (p : PowersAnswer) → No27 (powers_figure p)
-    all (powers.Finite p) h = omega (arith, h)
-    all powers.NotFinite h = omega (arith, h)
+    all : (p : Option Powers) → No27 (powers_figure p)
+    all (Some p) h = omega (arith, h)
+    all None h = omega (arith, h)
 
-    one : (p : Power) → No27 (power_figure p)
-    one (power.Finite p) h = omega (arith, h)
-    one power.NotFinite h = omega (arith, h)
+    one : (p : Option Float) → No27 (power_figure p)
+    one (Some p) h = omega (arith, h)
+    one None h = omega (arith, h)
 
 figures-no-27 : (p : Parameter) (detail : ℕ) (bs : List ℕ) → (parameter_row p).readable ≡ true → No27 (read_figures p detail bs)
 unfolding read_figures No27
@@ -108,10 +106,10 @@ figures-no-27 parameter.SixSlices detail bs e h = omega (arith, h)
 figures-no-27 parameter.Password detail bs e h = false≢true e
 figures-no-27 parameter.Unknown detail bs e h = false≢true e
 
-energies-no-27 : (e : EnergiesAnswer) → No27 (energies_figure e)
+energies-no-27 : (e : Option Energies) → No27 (energies_figure e)
 unfolding No27
-energies-no-27 (energies.Finite e) h = omega (arith, h)
-energies-no-27 energies.NotFinite h = omega (arith, h)
+energies-no-27 (Some e) h = omega (arith, h)
+energies-no-27 None h = omega (arith, h)
 
 as-no-27 : (x : Reading) (p : Parameter) (detail : ℕ) (bs : List ℕ) → opens_to x (parameter_row p) ≡ true → No27 (read_as x p detail bs)
 unfolding read_as
@@ -129,13 +127,13 @@ decoded-no-27 q y a h = go (reply_of q.address (reading_code q.reading) q.parame
     k : request.Asked p q most_slots
     k = request.asked p q most_slots a
 
-    go : (r : Reply) → reply_of q.address (reading_code q.reading) q.parameter (6 + data_bytes (subject_for p q most_slots)) y ≡ r → ⊥
-    go (Malformed fault) e = omega (arith, simp (a, e) at h, fault-above fault)
-    go (Refused result) e = omega (arith, simp (a, e) at h)
-    go Answered e =
+    go : (r : Result Unit ReplyError) → reply_of q.address (reading_code q.reading) q.parameter (6 + data_bytes (subject_for p q most_slots)) y ≡ r → ⊥
+    go (Err (Malformed fault)) e = omega (arith, simp (a, e) at h, fault-above fault)
+    go (Err (Refused result)) e = omega (arith, simp (a, e) at h)
+    go (Ok tt) e =
         let n : decoding.number_of (figures_of (subject_for p q most_slots) (reply_data y)) ≡ 27 = simp (a, e) at h in
         as-no-27 q.reading p q.detail (reply_data y) k.open-to
-        (ap (λ (s : Subject). decoding.number_of (figures_of s (reply_data y))) (sym k.subject) ∙ n)
+        (ap (λ (s : Option Subject). decoding.number_of (figures_of s (reply_data y))) (sym k.subject) ∙ n)
 
 -- demand 2's `out_of_range`: no record answers with 0 what the reader gives 27
 pub out_of_range : (q : Request) (y : List ℕ) → decoding.number_of (decoded_of q y) ≡ 27

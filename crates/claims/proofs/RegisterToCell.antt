@@ -9,6 +9,7 @@ use lib.Dec.{eqb, leb, ltb, lit≤}
 use lib.ListN.{length, take, drop}
 use lib.Seq.{take_at}
 use borrow.Author.Tests.{eq-eqb, ne_eqb, eqb-true, le-leb, le-ltb, lt-ltb}
+use Rattle.std.specs.Prelude.{Ok, Some}
 use Rattle.test_laws.proofs.Test.{both}
 use Rattle.refusal.specs.Outcome as call
 use Rattle.byte_numbers.specs.Number.{Bytes, bytes_of}
@@ -38,7 +39,6 @@ use Rattle.meter_record.specs.declared.record.Record.{Record}
 use Rattle.meter_command.specs.Command.{parameter_byte, command_of}
 use Rattle.meter_reply_data.specs.Reading.{data_of}
 use Rattle.meter.specs.Reply.{Outcome, answer_of}
-use Rattle.reader.specs.declared.form.Form.TheVariants.{WellFormed}
 use Rattle.byte_numbers.proofs.ByteLaws.{bytes-append}
 use Rattle.log_header.specs.Header.{is_header, sound_of}
 use Rattle.log_header.proofs.HeaderLaws.{header-ranges, sound-log}
@@ -48,10 +48,7 @@ use Rattle.log_header.proofs.IntervalLaws.{interval-at}
 use Rattle.energy_log.specs.View.{view_of}
 use Rattle.log_cell.specs.declared.cell.Cell.{Cell}
 use Rattle.log_cell.specs.declared.cell.Cell.TheVariants.{Gap, Empty, Measured}
-use Rattle.log_cell.specs.declared.cell.CellAnswer.TheVariants.{Good}
 use Rattle.log_header.specs.declared.header.Header.{Header}
-use Rattle.log_header.specs.declared.header.LogHeader.TheVariants.{Sound}
-use Rattle.log_header.specs.declared.interval.Interval.TheVariants.{At}
 use Rattle.day_rows.specs.LogAndRows.{LogAndRows}
 use Rattle.log_file.proofs.FileLaws.{written-front}
 use Rattle.logger.specs.Ask as Ask
@@ -59,11 +56,10 @@ use Rattle.logger.specs.Reply.{slice_form, result_of, row_of}
 use Rattle.wire_values.specs.Row.{row, row_at, is_zero, alike}
 use Rattle.wire_values.specs.declared.row.Row.{Row}
 use Rattle.logger.specs.Take as Take
-use Rattle.logger.specs.declared.ask.Asked.{Asked}
-use Rattle.logger.specs.declared.ask.AskAnswer.TheVariants as ask
-use Rattle.logger.specs.declared.take.Taken.{Taken}
+use Rattle.logger.specs.Ask.{Asked}
+use Rattle.logger.specs.Take.{Taken}
 use Rattle.logger.specs.declared.take.Update.TheVariants.{Put, Keep, Conflict}
-use Rattle.logger.specs.declared.held.OpenAsk.TheVariants.{Open}
+use Rattle.logger.specs.Held.{opened_for}
 use Rattle.logger.proofs.BookLaws.{effect, update_number}
 use Rattle.logger.proofs.SeasonLaws.{ask_refused}
 use Rattle.logger.proofs.HeardLaws.{Hears, heard-number, heard-held, heard-cell, heard-lent}
@@ -160,16 +156,16 @@ there-on h day slot date t = go (is_date h.start) refl
     go false e = exists-undated h day slot e
 
 -- a slot that exists by its date is one of the log's intervals, at the index of its day and number
-pub interval-on : (h : Header) (day slot : ℕ) (date : Date) → SlotOn h day slot date → interval_of h day slot ≡ At (day * slots_of h.minutes + slot)
+pub interval-on : (h : Header) (day slot : ℕ) (date : Date) → SlotOn h day slot date → interval_of h day slot ≡ Some (day * slots_of h.minutes + slot)
 interval-on h day slot date t = interval-at h day slot t.day_in t.slot_in (there-on h day slot date t)
 
-ask-whole : (s : List ℕ) (h : Header) (address day slot : ℕ) (date : Date) (room : List ℕ) → sound_of s ≡ Sound h → SlotOn h day slot date → 8 ≤ length room
-    → asking s address day slot room ≡ Ask.answered ask.Done (Open address day slot) (written room 0 (Ask.ask_frame h address day slot))
+ask-whole : (s : List ℕ) (h : Header) (address day slot : ℕ) (date : Date) (room : List ℕ) → sound_of s ≡ Some h → SlotOn h day slot date → 8 ≤ length room
+    → asking s address day slot room ≡ Ask.answered (Ok tt) (opened_for address day slot) (written room 0 (Ask.ask_frame h address day slot))
 unfolding Ask.asked
 ask-whole s h address day slot date room p t l = rw (le-ltb (length room) 8 l, p, interval-on h day slot date t) refl
 
 -- from the register's `asked`: an ask for a slot that exists is done, and its frame reads that date's slice
-pub asked : (s : List ℕ) (h : Header) (address day slot : ℕ) (date : Date) (room : List ℕ) → sound_of s ≡ Sound h → SlotOn h day slot date → 8 ≤ length room
+pub asked : (s : List ℕ) (h : Header) (address day slot : ℕ) (date : Date) (room : List ℕ) → sound_of s ≡ Some h → SlotOn h day slot date → 8 ≤ length room
     → AskedFor (asking s address day slot room) address day slot date room
 asked s h address day slot date room p t l =
     let whole = ask-whole s h address day slot date room p t l in
@@ -182,7 +178,7 @@ asked s h address day slot date room p t l =
     }
 
 -- from the register's `skipped`, CR 5: an ask for a slot of the hour that the March day does not have gets 22
-pub skipped : (s : List ℕ) (h : Header) (address day slot : ℕ) (date : Date) (room : List ℕ) → sound_of s ≡ Sound h → OnDay h day date
+pub skipped : (s : List ℕ) (h : Header) (address day slot : ℕ) (date : Date) (room : List ℕ) → sound_of s ≡ Some h → OnDay h day date
     → is_skipped h date slot ≡ true → 8 ≤ length room → Ask.number_of (asking s address day slot room).result.answer ≡ 22
 skipped s h address day slot date room p on e l =
     let start = (header-ranges h (sound-log s h p).ranges).start in
@@ -256,7 +252,7 @@ answer-result : (address : ℕ) (xs : List ℕ) → result_of (slice_answer addr
 unfolding slice_answer framed
 answer-result address xs = refl
 
-answer-formed : (address : ℕ) (xs : List ℕ) (d : Date) (slot : ℕ) → address < 256 → slice_form address (slice_answer address xs) ≡ WellFormed
+answer-formed : (address : ℕ) (xs : List ℕ) (d : Date) (slot : ℕ) → address < 256 → slice_form address (slice_answer address xs) ≡ Ok tt
 answer-formed address xs d slot a =
     ap (slice_form address) (sym (answer-is address xs)) ∙ reply-formed (request address d slot) (row_bytes xs) 8 (body_bytes address xs a) (eight xs)
 
@@ -361,13 +357,13 @@ module _ (b : LogAndRows) (h : Header) (address day slot : ℕ) (date : Date) (c
   }
 
   -- also for the cells of a whole history
-  pub taken-into : TakenInto (Take.taken b (Open address day slot) y) h i c xs
+  pub taken-into : TakenInto (Take.taken b (opened_for address day slot) y) h i c xs
   taken-into =
       let found = answer-row address xs fits in
       record {
         number = heard-number b h address day slot i y c heard ∙ ap (λ (k : Row). update_number (Take.update_of c k)) found ∙ number-after xs c;
         held = heard-held b h address day slot i y c heard;
-        cell = heard-cell b h address day slot i y c heard ∙ ap (λ (k : Row). Good (effect (Take.update_of c k) c)) found ∙ ap Good (cell-after xs c);
+        cell = heard-cell b h address day slot i y c heard ∙ ap (λ (k : Row). Some (effect (Take.update_of c k) c)) found ∙ ap Some (cell-after xs c);
         lent = heard-lent b h address day slot i y c heard;
       }
 

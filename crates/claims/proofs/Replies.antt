@@ -7,6 +7,7 @@ use native.Mathlib.Omega.{arith}
 use lib.Dec.{eqb, ltb, lit≤}
 use lib.ListN.{length, take, drop}
 use borrow.Author.Tests.{ltb-false, le-ltb, eq-eqb}
+use Rattle.std.specs.Prelude.{Err, Ok, Result}
 use Rattle.test_laws.proofs.Test.{both}
 use Rattle.byte_numbers.specs.Number.{Bytes, bytes_of}
 use Rattle.byte_numbers.specs.Place.{written}
@@ -39,9 +40,9 @@ use Rattle.meter_command.specs.Judgement.{verdict_of, verdict_by, read_verdict}
 use Rattle.meter_command.proofs.JudgementLaws.{read-accepted}
 use Rattle.meter_command.specs.Command.{function_in, parameter_byte, parameter_in, request_in, command_of}
 use Rattle.meter_command.specs.Verdict.{result_of, is_done}
-use Rattle.meter_command.specs.declared.verdict.Verdict.{Verdict}
-use Rattle.meter_command.specs.declared.verdict.Verdict.TheVariants.{Done, TooShort, Unsound, Silent, UnknownFunction, UnknownParameter}
-use Rattle.meter_command.specs.declared.verdict.Verdict.TheVariants.{NotOpen, WrongLength, ByAddressZero, NoAccess, WrongArgument}
+use Rattle.meter_command.specs.declared.verdict.Refusal.{Refusal}
+use Rattle.meter_command.specs.declared.verdict.Refusal.TheVariants.{TooShort, Unsound, Silent, UnknownFunction, UnknownParameter}
+use Rattle.meter_command.specs.declared.verdict.Refusal.TheVariants.{NotOpen, WrongLength, ByAddressZero, NoAccess, WrongArgument}
 use Rattle.meter_reply_data.specs.Reading.{figures_as, six_bytes, data_of}
 use Rattle.meter.specs.Reply as meter
 use Rattle.meter.specs.Reply.{is_sound, met, heard, verdict_on, function_for, head_of, done, replied, answer_of}
@@ -51,7 +52,7 @@ use Rattle.reader.specs.Form.{length_for, form_of, reply_of}
 use Rattle.reader.proofs.FormLaws.{formed-answers}
 use Rattle.reader.specs.Rows.{reply_data, six_of as six_in}
 use Rattle.reader.specs.Reply.{decoded_of}
-use Rattle.reader.specs.declared.reply.Decoded.TheVariants as decoded
+use Rattle.reader.specs.declared.reply.DecodeError.TheVariants as decoded_error
 use Rattle.claims.specs.Demand1.{answer_number}
 use Rattle.claims.specs.Figures.{own_as}
 use Rattle.claims.specs.Demand2.{answered, reply_in, FitsRequest}
@@ -63,47 +64,47 @@ use Rattle.claims.proofs.Wire.{OfBytes, nil, bytes-cons, slice_fits, as_bytes, r
 -- ---- what an answer with 0 has passed
 
 -- the verdict that is done is one alone
-pub done-only : (v : Verdict) → is_done v ≡ true → v ≡ Done
-done-only Done h = refl
-done-only TooShort h = absurd (false≢true h)
-done-only Unsound h = absurd (false≢true h)
-done-only Silent h = absurd (false≢true h)
-done-only UnknownFunction h = absurd (false≢true h)
-done-only UnknownParameter h = absurd (false≢true h)
-done-only NotOpen h = absurd (false≢true h)
-done-only WrongLength h = absurd (false≢true h)
-done-only ByAddressZero h = absurd (false≢true h)
-done-only NoAccess h = absurd (false≢true h)
-done-only WrongArgument h = absurd (false≢true h)
+pub done-only : (v : Result Unit Refusal) → is_done v ≡ true → v ≡ Ok tt
+done-only (Ok tt) h = refl
+done-only (Err TooShort) h = absurd (false≢true h)
+done-only (Err Unsound) h = absurd (false≢true h)
+done-only (Err Silent) h = absurd (false≢true h)
+done-only (Err UnknownFunction) h = absurd (false≢true h)
+done-only (Err UnknownParameter) h = absurd (false≢true h)
+done-only (Err NotOpen) h = absurd (false≢true h)
+done-only (Err WrongLength) h = absurd (false≢true h)
+done-only (Err ByAddressZero) h = absurd (false≢true h)
+done-only (Err NoAccess) h = absurd (false≢true h)
+done-only (Err WrongArgument) h = absurd (false≢true h)
 
 -- what an answer with 0 has passed: room, a sound meter and the verdict; and the answer whole
 pub record Passed (r : Record) (s f out : List ℕ) : Type 0 where
   pub room : 64 ≤ length out
   pub sound : is_sound r s ≡ true
-  pub verdict : verdict_on r f ≡ Done
-  pub whole : answer_of r s f out ≡ done Done r s f out
+  pub verdict : verdict_on r f ≡ Ok tt
+  pub whole : answer_of r s f out ≡ done (Ok tt) r s f out
 
 -- an answer with 0 has passed these
 pub passed : (r : Record) (s f out : List ℕ) → answer_number (answer_of r s f out) ≡ 0 → Passed r s f out
 unfolding answer_of replied
 passed r s f out h = go (ltb (length out) 64) refl (is_sound r s) refl (heard r f) refl (verdict_on r f) refl
   where
-    go : (a : Bool) → ltb (length out) 64 ≡ a → (b : Bool) → is_sound r s ≡ b → (c : Bool) → heard r f ≡ c → (v : Verdict) → verdict_on r f ≡ v
+    go : (a : Bool) → ltb (length out) 64 ≡ a → (b : Bool) → is_sound r s ≡ b → (c : Bool) → heard r f ≡ c → (v : Result Unit Refusal) → verdict_on r f ≡ v
         → Passed r s f out
     go true e b k c l v m = absurd (omega (arith, simp e at h))
     go false e false k c l v m = absurd (omega (arith, simp (e, k) at h))
     go false e true k false l v m = absurd (omega (arith, simp (e, k, l) at h))
-    go false e true k true l Done m = record { room = ltb-false (length out) 64 e; sound = k; verdict = m; whole = simp (e, k, l, m) }
-    go false e true k true l TooShort m = absurd (omega (arith, simp (e, k, l, m) at h))
-    go false e true k true l Unsound m = absurd (omega (arith, simp (e, k, l, m) at h))
-    go false e true k true l Silent m = absurd (omega (arith, simp (e, k, l, m) at h))
-    go false e true k true l UnknownFunction m = absurd (omega (arith, simp (e, k, l, m) at h))
-    go false e true k true l UnknownParameter m = absurd (omega (arith, simp (e, k, l, m) at h))
-    go false e true k true l NotOpen m = absurd (omega (arith, simp (e, k, l, m) at h))
-    go false e true k true l WrongLength m = absurd (omega (arith, simp (e, k, l, m) at h))
-    go false e true k true l ByAddressZero m = absurd (omega (arith, simp (e, k, l, m) at h))
-    go false e true k true l NoAccess m = absurd (omega (arith, simp (e, k, l, m) at h))
-    go false e true k true l WrongArgument m = absurd (omega (arith, simp (e, k, l, m) at h))
+    go false e true k true l (Ok tt) m = record { room = ltb-false (length out) 64 e; sound = k; verdict = m; whole = simp (e, k, l, m) }
+    go false e true k true l (Err TooShort) m = absurd (omega (arith, simp (e, k, l, m) at h))
+    go false e true k true l (Err Unsound) m = absurd (omega (arith, simp (e, k, l, m) at h))
+    go false e true k true l (Err Silent) m = absurd (omega (arith, simp (e, k, l, m) at h))
+    go false e true k true l (Err UnknownFunction) m = absurd (omega (arith, simp (e, k, l, m) at h))
+    go false e true k true l (Err UnknownParameter) m = absurd (omega (arith, simp (e, k, l, m) at h))
+    go false e true k true l (Err NotOpen) m = absurd (omega (arith, simp (e, k, l, m) at h))
+    go false e true k true l (Err WrongLength) m = absurd (omega (arith, simp (e, k, l, m) at h))
+    go false e true k true l (Err ByAddressZero) m = absurd (omega (arith, simp (e, k, l, m) at h))
+    go false e true k true l (Err NoAccess) m = absurd (omega (arith, simp (e, k, l, m) at h))
+    go false e true k true l (Err WrongArgument) m = absurd (omega (arith, simp (e, k, l, m) at h))
 
 -- ---- the request's frame, as the meter takes it apart
 
@@ -129,19 +130,19 @@ unfolding subject_for
 asks-for p q slots o g = rw (o, g) refl
 
 -- a request that is answered with 0 asks for something
-pub asked : (r : Record) (q : Request) → verdict_on r (request_frame q) ≡ Done → askable (subject_of q (slots_of r.minutes)) ≡ true
+pub asked : (r : Record) (q : Request) → verdict_on r (request_frame q) ≡ Ok tt → askable (subject_of q (slots_of r.minutes)) ≡ true
 unfolding verdict_of verdict_by subject_of
 asked r q h =
     let slots = slots_of r.minutes in
     let f = request_frame q in
-    let v : read_verdict r (command_of f) ≡ Done = sym (ap (λ (fn : Function). verdict_by fn (met r f) r (command_of f) f) (request-read q)) ∙ h in
+    let v : read_verdict r (command_of f) ≡ Ok tt = sym (ap (λ (fn : Function). verdict_by fn (met r f) r (command_of f) f) (request-read q)) ∙ h in
     let a = read-accepted r (command_of f) (ap is_done v) in
     ap₂ (λ (n : ℕ) (x : Request). askable (subject_for (parameter_of n) x slots)) (sym (request-parameter q)) (sym (request-again q))
     ∙ asks-for (parameter_in f) (request_in f) slots a.opens a.fits
 
 -- the reply's bytes before its CRC
 body : (r : Record) (s : List ℕ) (q : Request)
-    → head_of Done (command_of (request_frame q)) ++ data_of r s (command_of (request_frame q)) ≡ reply_body q (figures_as q.reading (parameter_of q.parameter) r s q)
+    → head_of (Ok tt) (command_of (request_frame q)) ++ data_of r s (command_of (request_frame q)) ≡ reply_body q (figures_as q.reading (parameter_of q.parameter) r s q)
 unfolding head_of function_for data_of request_frame framed parameter_byte bytes_of
 body r s q = rw (reading-back q.reading) refl
 
@@ -248,7 +249,7 @@ abbrev refusal_body : Request → ℕ → List ℕ
 refusal_body q k = q.address ∷ (128 + reading_code q.reading) ∷ q.parameter ∷ k ∷ []
 
 refusal-decoded : (q : Request) (k : ℕ) → k < 256 → eqb k 0 ≡ false → FitsRequest q → askable (subject_of q most_slots) ≡ true
-    → decoded_of q (framed (refusal_body q k)) ≡ decoded.MeterRefused k
+    → decoded_of q (framed (refusal_body q k)) ≡ Err (decoded_error.MeterRefused k)
 unfolding decoded_of reply_of form_of length_for form.function_for form.head_of framed bytes_of
 refusal-decoded q k small n f h =
     let code = 128 + reading_code q.reading in
@@ -265,7 +266,7 @@ refusal-decoded q k small n f h =
     )
 
 -- the refusal frame that a request gets
-refusal-head : (q : Request) (v : Verdict) → is_done v ≡ false → head_of v (command_of (request_frame q)) ≡ refusal_body q (result_of v)
+refusal-head : (q : Request) (v : Result Unit Refusal) → is_done v ≡ false → head_of v (command_of (request_frame q)) ≡ refusal_body q (result_of v)
 unfolding head_of function_for request_frame framed parameter_byte bytes_of
 refusal-head q v e = simp (e, reading-back q.reading, code_below q.reading)
 
@@ -274,22 +275,22 @@ record Told (k : ℕ) : Type 0 where
   byte : k < 256
   some : eqb k 0 ≡ false
 
-result-told : (v : Verdict) → is_done v ≡ false → Told (result_of v)
-result-told Done e = absurd (false≢true (sym e))
-result-told TooShort e = record { byte = lit≤ tt; some = refl }
-result-told Unsound e = record { byte = lit≤ tt; some = refl }
-result-told Silent e = record { byte = lit≤ tt; some = refl }
-result-told UnknownFunction e = record { byte = lit≤ tt; some = refl }
-result-told UnknownParameter e = record { byte = lit≤ tt; some = refl }
-result-told NotOpen e = record { byte = lit≤ tt; some = refl }
-result-told WrongLength e = record { byte = lit≤ tt; some = refl }
-result-told ByAddressZero e = record { byte = lit≤ tt; some = refl }
-result-told NoAccess e = record { byte = lit≤ tt; some = refl }
-result-told WrongArgument e = record { byte = lit≤ tt; some = refl }
+result-told : (v : Result Unit Refusal) → is_done v ≡ false → Told (result_of v)
+result-told (Ok tt) e = absurd (false≢true (sym e))
+result-told (Err TooShort) e = record { byte = lit≤ tt; some = refl }
+result-told (Err Unsound) e = record { byte = lit≤ tt; some = refl }
+result-told (Err Silent) e = record { byte = lit≤ tt; some = refl }
+result-told (Err UnknownFunction) e = record { byte = lit≤ tt; some = refl }
+result-told (Err UnknownParameter) e = record { byte = lit≤ tt; some = refl }
+result-told (Err NotOpen) e = record { byte = lit≤ tt; some = refl }
+result-told (Err WrongLength) e = record { byte = lit≤ tt; some = refl }
+result-told (Err ByAddressZero) e = record { byte = lit≤ tt; some = refl }
+result-told (Err NoAccess) e = record { byte = lit≤ tt; some = refl }
+result-told (Err WrongArgument) e = record { byte = lit≤ tt; some = refl }
 
 -- and decoded
-refusal-of : (q : Request) (v : Verdict) → FitsRequest q → askable (subject_of q most_slots) ≡ true → is_done v ≡ false
-    → decoded_of q (framed (head_of v (command_of (request_frame q)))) ≡ decoded.MeterRefused (result_of v)
+refusal-of : (q : Request) (v : Result Unit Refusal) → FitsRequest q → askable (subject_of q most_slots) ≡ true → is_done v ≡ false
+    → decoded_of q (framed (head_of v (command_of (request_frame q)))) ≡ Err (decoded_error.MeterRefused (result_of v))
 refusal-of q v f h e =
     let t = result-told v e in
     ap (λ (body : List ℕ). decoded_of q (framed body)) (refusal-head q v e) ∙ refusal-decoded q (result_of v) t.byte t.some f h
@@ -303,7 +304,7 @@ refused-whole r s f out room sound hear d = simp (le-ltb (length out) 64 room, s
 -- demand 2's `refused`: the refusal frame that a request gets decodes to 24 with its result
 pub refused : (r : Record) (s : List ℕ) (q : Request) (out : List ℕ) → FitsRequest q → askable (subject_of q most_slots) ≡ true
     → 64 ≤ length out → is_sound r s ≡ true → heard r (request_frame q) ≡ true → is_done (verdict_on r (request_frame q)) ≡ false
-    → decoded_of q (reply_in (answered r s q out)) ≡ decoded.MeterRefused (result_of (verdict_on r (request_frame q)))
+    → decoded_of q (reply_in (answered r s q out)) ≡ Err (decoded_error.MeterRefused (result_of (verdict_on r (request_frame q))))
 refused r s q out f h room sound hear d =
     let v = verdict_on r (request_frame q) in
     let frame = framed (head_of v (command_of (request_frame q))) in

@@ -6,6 +6,7 @@ use Prim.Native.Nat.{ℕ, ◌+◌, ◌*◌, ◌-◌, ◌/◌, ◌%◌, ◌≤◌
 use native.Mathlib.Omega.{arith}
 use lib.Dec.{T, eqb, leb, ltb}
 use borrow.Author.Tests.{eq-eqb, eqb-true, lt-ltb, ltb-true, ltb-false, leb-true, le-leb}
+use Rattle.std.specs.Prelude.{Err, Ok, Result}
 use Rattle.test_laws.proofs.Test.{both, passed, either}
 use Rattle.calendar.specs.Count.{starts}
 use Rattle.calendar.proofs.CountLaws.{every_piece, at_piece}
@@ -17,8 +18,8 @@ use Rattle.calendar.specs.Time.{is_time, second_number, century_seconds, time_of
 use Rattle.calendar.proofs.TimeLaws.{time-ranges, time-of, time-at, time-past, second_below, same_second, of_day, later-that-day, earlier-that-day}
 use Rattle.calendar.specs.declared.date.Date.{Date}
 use Rattle.calendar.specs.declared.time.DateTime.{DateTime}
-use Rattle.calendar.specs.declared.time.TimeAnswer.{TimeAnswer}
-use Rattle.calendar.specs.declared.time.TimeAnswer.TheVariants as time
+use Rattle.calendar.specs.declared.time.TimeError.{TimeError}
+use Rattle.calendar.specs.declared.time.TimeError.TheVariants as time
 use Rattle.meter_clock.specs.Season.{on_hour, sunday, chosen_date, winter_date, summer_date, is_switchable, same_date, same_time}
 use Rattle.meter_clock.specs.Season.{shows, switched, into_winter, into_summer, in_season, reached, next_time}
 use Rattle.meter_clock.proofs.SecondLaws.{fitting}
@@ -32,8 +33,7 @@ use Rattle.meter_record.specs.Ranges.{is_within}
 use Rattle.meter_record.specs.Record.{later, second_of}
 use Rattle.meter_record.specs.With.{with_protection, with_time}
 use Rattle.meter_record.specs.declared.record.Record.{Record}
-use Rattle.meter_record.specs.declared.record.RecordAnswer.{RecordAnswer}
-use Rattle.meter_record.specs.declared.record.RecordAnswer.TheVariants.{Done}
+use Rattle.meter_record.specs.declared.record.RecordError.{RecordError}
 use Rattle.claims.specs.Demand2Second.{days_to_month, days_to, seconds_to, Follows, HourOn, last_second, SundayHour, Begins, EndsAt, record_after}
 use Rattle.claims.proofs.Again.{is_handed}
 
@@ -75,7 +75,7 @@ seconds-agree t e =
 
 -- ---- the second that would be reached
 
-follows_is : (t u : DateTime) → is_time t ≡ true → Follows t u → seconds_later t 1 ≡ time.At u
+follows_is : (t u : DateTime) → is_time t ≡ true → Follows t u → seconds_later t 1 ≡ Ok u
 unfolding seconds_later
 follows_is t u e f =
     let n : second_number u ≡ second_number t + 1 = sym (seconds-agree u f.time) ∙ f.one_more ∙ ap (λ (n : ℕ). n + 1) (seconds-agree t e) in
@@ -204,7 +204,7 @@ hours-beside u k =
     let a = both (is_time u && leb 3600 (second_number u)) (ltb (second_number u + 3600) century_seconds) k in
     (leb-true 3600 (second_number u) (both (is_time u) (leb 3600 (second_number u)) a.0).1, ltb-true (second_number u + 3600) century_seconds a.1)
 
-hour-back : (u : DateTime) → is_time u ≡ true → is_switchable u ≡ true → (v : DateTime) × ((seconds_earlier u 3600 ≡ time.At v) × HourOn v u)
+hour-back : (u : DateTime) → is_time u ≡ true → is_switchable u ≡ true → (v : DateTime) × ((seconds_earlier u 3600 ≡ Ok v) × HourOn v u)
 unfolding seconds_earlier time_back
 hour-back u e k =
     let n = (hours-beside u k).0 in
@@ -213,7 +213,7 @@ hour-back u e k =
     let apart : seconds_to u ≡ seconds_to v + 3600 = omega (arith, seconds-agree u e, seconds-agree v w.valid, w.number, n) in
     (v, (simp (e, le-leb 3600 (second_number u) n) (time-at (second_number u - 3600) v w), record { early = w.valid; late = e; apart = apart }))
 
-hour-on : (u : DateTime) → is_time u ≡ true → is_switchable u ≡ true → (v : DateTime) × ((seconds_later u 3600 ≡ time.At v) × HourOn u v)
+hour-on : (u : DateTime) → is_time u ≡ true → is_switchable u ≡ true → (v : DateTime) × ((seconds_later u 3600 ≡ Ok v) × HourOn u v)
 unfolding seconds_later
 hour-on u e k =
     let w = time-of (second_number u + 3600) (hours-beside u k).1 in
@@ -221,7 +221,7 @@ hour-on u e k =
     let apart : seconds_to v ≡ seconds_to u + 3600 = omega (arith, seconds-agree u e, seconds-agree v w.valid, w.number) in
     (v, (simp e (time-at (second_number u + 3600) v w), record { early = e; late = w.valid; apart = apart }))
 
-last-past : seconds_later last_second 1 ≡ time.OutOfRange
+last-past : seconds_later last_second 1 ≡ Err time.OutOfRange
 unfolding seconds_later seconds_to days_to days_to_month
 last-past =
     let last : second_number last_second + 1 ≡ century_seconds = ap (λ (k : ℕ). k + 1) (sym (seconds-agree last_second last-is-time)) in
@@ -230,16 +230,16 @@ last-past =
 -- ---- what the clock shows
 
 -- a second that is done is the record's own
-second_is : (r x : Record) → second_of r ≡ Done x → (is_within r ≡ true) × (x ≡ later r)
+second_is : (r x : Record) → second_of r ≡ Ok x → (is_within r ≡ true) × (x ≡ later r)
 unfolding second_of
 second_is r x h = go (is_within r) refl
   where
     go : (b : Bool) → is_within r ≡ b → (is_within r ≡ true) × (x ≡ later r)
-    go true e = (e, ap (λ (a : RecordAnswer). record_after a r) (sym (simp e at h)))
+    go true e = (e, ap (λ (a : Result Record RecordError). record_after a r) (sym (simp e at h)))
     go false e = absurd (false≢true (ap is_handed (simp e at h)))
 
 -- demand 2's `done`: a record within its ranges has its second
-pub done : (r : Record) → is_within r ≡ true → (x : Record) × (second_of r ≡ Done x)
+pub done : (r : Record) → is_within r ≡ true → (x : Record) × (second_of r ≡ Ok x)
 unfolding second_of
 done r e = (later r, simp e)
 
@@ -255,13 +255,13 @@ choices-kept t = go (seconds_later t.clock 1) refl
     by Summer u = either Kept (same_time u (winter_date t.winter u.date.year)) refl refl
     by Winter u = either Kept (same_time u (summer_date t.summer u.date.year)) refl refl
 
-    go : (a : TimeAnswer) → seconds_later t.clock 1 ≡ a → Kept (next_time t)
-    go (time.At u) e = simp e (by t.season u)
-    go time.NotATime e = simp e
-    go time.OutOfRange e = simp e
+    go : (a : Result DateTime TimeError) → seconds_later t.clock 1 ≡ a → Kept (next_time t)
+    go (Ok u) e = simp e (by t.season u)
+    go (Err time.NotATime) e = simp e
+    go (Err time.OutOfRange) e = simp e
 
 -- what a second at hand gives
-module _ (r x : Record) (h : second_of r ≡ Done x) where
+module _ (r x : Record) (h : second_of r ≡ Ok x) where
   abbrev t : Time
   t = r.time
 
@@ -315,12 +315,12 @@ module _ (r x : Record) (h : second_of r ≡ Done x) where
           omega (arith, w.in_month, m)
 
   -- the season ends there, and the time an hour from it is shown
-  to-winter : (u v : DateTime) → Follows t.clock u → t.season ≡ Summer → Begins t.winter 10 3 u → seconds_earlier u 3600 ≡ time.At v
+  to-winter : (u v : DateTime) → Follows t.clock u → t.season ≡ Summer → Begins t.winter 10 3 u → seconds_earlier u 3600 ≡ Ok v
       → x.time ≡ shows t v Winter
   unfolding in_season into_winter switched
   to-winter u v f e b q = would u f Summer e ∙ simp (begins-same 10 3 october u f.time t.winter b, q)
 
-  to-summer : (u v : DateTime) → Follows t.clock u → t.season ≡ Winter → Begins t.summer 3 2 u → seconds_later u 3600 ≡ time.At v
+  to-summer : (u v : DateTime) → Follows t.clock u → t.season ≡ Winter → Begins t.summer 3 2 u → seconds_later u 3600 ≡ Ok v
       → x.time ≡ shows t v Summer
   unfolding in_season into_summer switched
   to-summer u v f e b q = would u f Winter e ∙ simp (begins-same 3 2 march u f.time t.summer b, q)

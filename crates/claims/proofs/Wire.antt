@@ -8,6 +8,7 @@ use native.Mathlib.Omega.{arith}
 use lib.Dec.{eqb, leb, ltb, lit≤}
 use lib.ListN.{length, take, get_or}
 use borrow.Author.Tests.{eq-eqb}
+use Rattle.std.specs.Prelude.{Ok}
 use Rattle.test_laws.proofs.Test.{both}
 use Rattle.byte_numbers.specs.Number.{Bytes, bytes_of}
 use Rattle.byte_numbers.proofs.NumberLaws.{bytes-bytes_of}
@@ -46,7 +47,6 @@ use Rattle.meter_record.specs.Widths.{FitsRecord}
 use Rattle.meter_record.specs.declared.record.Record.{Record}
 use Rattle.meter_reply_data.specs.Reading.{phase, power_data, six_bytes, displayed_of, figures_of, figures_as}
 use Rattle.reader.specs.Form.{length_for, function_for, head_of, form_of}
-use Rattle.reader.specs.declared.form.Form.TheVariants.{WellFormed}
 use Rattle.claims.proofs.Reading.{code_below}
 
 -- ---- lists of bytes
@@ -212,7 +212,7 @@ reply_body q figures = q.address ∷ reading_code q.reading ∷ q.parameter ∷ 
 
 -- it is well formed for the reader that asked
 pub reply-formed : (q : Request) (figures : List ℕ) (n : ℕ) → OfBytes (reply_body q figures) → length figures ≡ n
-    → form_of q.address (reading_code q.reading) q.parameter (6 + n) (framed (reply_body q figures)) ≡ WellFormed
+    → form_of q.address (reading_code q.reading) q.parameter (6 + n) (framed (reply_body q figures)) ≡ Ok tt
 unfolding form_of length_for function_for head_of framed
 reply-formed q figures n b e =
     let l : length (framed (reply_body q figures)) ≡ 6 + n = length-framed (reply_body q figures) ∙ omega (arith, e) in

@@ -9,6 +9,7 @@ use native.Mathlib.Omega.{arith}
 use lib.Dec.{eqb, leb, ltb, lit≤}
 use lib.ListN.{length, take}
 use borrow.Author.Tests.{eq-eqb, ne_eqb, eqb-true, leb-true}
+use Rattle.std.specs.Prelude.{Ok}
 use Rattle.test_laws.proofs.Test.{both}
 use Rattle.byte_numbers.specs.Number.{bytes_of}
 use Rattle.byte_numbers.specs.Place.{number_at, written}
@@ -43,7 +44,6 @@ use Rattle.meter_command.proofs.KeepLaws.{changed, zeroed}
 use Rattle.meter_command.specs.Judgement.{argument_fits}
 use Rattle.meter_command.specs.Command.{function_in, parameter_byte, command_of, detail_in, data_in}
 use Rattle.meter_command.specs.declared.access.Met.TheVariants.{Own}
-use Rattle.meter_command.specs.declared.verdict.Verdict.TheVariants.{Done}
 use Rattle.meter_reply_data.specs.Reading.{is_read, data_of}
 use Rattle.meter.specs.Effect.{after_by, renewed}
 use Rattle.meter.specs.Reply.{is_sound, met, function_for, head_of, answer_of}
@@ -62,14 +62,14 @@ use Rattle.claims.proofs.WireRefusals.{has-parameter}
 -- ---- the reply to a command that has no data
 
 command-reply : (r : Record) (s f out : List ℕ) → is_read (function_in f) ≡ false → answer_number (answer_of r s f out) ≡ 0
-    → reply_in (answer_of r s f out) ≡ framed (head_of Done (command_of f))
+    → reply_in (answer_of r s f out) ≡ framed (head_of (Ok tt) (command_of f))
 unfolding data_of head_of
 command-reply r s f out e h =
     let p = passed r s f out h in
     let none : data_of r s (command_of f) ≡ [] = simp e in
-    let l : length (framed (head_of Done (command_of f))) ≡ 6 = length-framed (head_of Done (command_of f)) in
-    ap reply_in p.whole ∙ ap (λ (d : List ℕ). take (6 + length d) (written out 0 (framed (head_of Done (command_of f) ++ d)))) none
-    ∙ front-again out (framed (head_of Done (command_of f))) 6 l (omega (arith, p.room))
+    let l : length (framed (head_of (Ok tt) (command_of f))) ≡ 6 = length-framed (head_of (Ok tt) (command_of f)) in
+    ap reply_in p.whole ∙ ap (λ (d : List ℕ). take (6 + length d) (written out 0 (framed (head_of (Ok tt) (command_of f) ++ d)))) none
+    ∙ front-again out (framed (head_of (Ok tt) (command_of f))) 6 l (omega (arith, p.room))
 
 -- ---- a frame that names the meter
 

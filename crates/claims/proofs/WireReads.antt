@@ -9,6 +9,7 @@ use native.Mathlib.Omega.{arith}
 use lib.Dec.{eqb, leb, lit≤}
 use lib.ListN.{length}
 use borrow.Author.Tests.{eq-eqb}
+use Rattle.std.specs.Prelude.{None, Option}
 use Rattle.test_laws.proofs.Test.{both}
 use Rattle.byte_numbers.specs.Number.{bytes_of}
 use Rattle.parameters.specs.Code.{reading_code}
@@ -29,7 +30,6 @@ use Rattle.request.specs.Request.{request_frame}
 use Rattle.request.specs.Subject.{unused, is_phase, subject_of, subject_for, askable}
 use Rattle.request.specs.declared.request.Request.{Request}
 use Rattle.request.specs.declared.subject.Subject.{Subject}
-use Rattle.request.specs.declared.subject.Subject.TheVariants.{Nothing}
 use Rattle.meter_clock.specs.declared.season.SwitchDate.{SwitchDate}
 use Rattle.meter_clock.specs.Season.{summer_date, winter_date}
 use Rattle.meter_store.specs.Store.{key_of, slice_of, six_of, count_at, row_bytes, store_bytes}
@@ -97,7 +97,7 @@ module _ (r : Record) (s out : List ℕ) (a : ℕ) (n : Named r s out a) where
     phase_c = plain p 3 _ b (lit≤ tt) (h 3) (e 3);
   }
 
-  by-detail : (b : Bool) (f : Subject) → askable f ≡ true → askable (cond b f Nothing) ≡ b
+  by-detail : (b : Bool) (f : Option Subject) → askable f ≡ true → askable (cond b f None) ≡ b
   by-detail true f h = h
   by-detail false f h = refl
 

@@ -8,6 +8,7 @@ use native.Mathlib.Omega.{arith}
 use lib.Dec.{eqb, leb, ltb, lit≤}
 use lib.ListN.{length, take}
 use borrow.Author.Tests.{ltb-false, ltb-true, lt-leb, le-leb}
+use Rattle.std.specs.Prelude.{Err, Ok, Result}
 use Rattle.byte_numbers.specs.Place.{byte_at, written}
 use Rattle.parameters.specs.Code.{function_of, reading_code}
 use Rattle.frame.specs.Sealing.{framed}
@@ -20,9 +21,9 @@ use Rattle.request.specs.declared.request.Request.{Request}
 use Rattle.meter_record.specs.declared.record.Record.{Record}
 use Rattle.meter_command.specs.Command.{named, parameter_byte, command_of}
 use Rattle.meter_command.specs.Verdict.{number_of, result_of, is_done}
-use Rattle.meter_command.specs.declared.verdict.Verdict.{Verdict}
-use Rattle.meter_command.specs.declared.verdict.Verdict.TheVariants.{Done, TooShort, Unsound, Silent, UnknownFunction, UnknownParameter}
-use Rattle.meter_command.specs.declared.verdict.Verdict.TheVariants.{NotOpen, WrongLength, ByAddressZero, NoAccess, WrongArgument}
+use Rattle.meter_command.specs.declared.verdict.Refusal.{Refusal}
+use Rattle.meter_command.specs.declared.verdict.Refusal.TheVariants.{TooShort, Unsound, Silent, UnknownFunction, UnknownParameter}
+use Rattle.meter_command.specs.declared.verdict.Refusal.TheVariants.{NotOpen, WrongLength, ByAddressZero, NoAccess, WrongArgument}
 use Rattle.meter.specs.Reply.{is_sound, heard, verdict_on, function_for, head_of, replied, answer_of}
 use Rattle.claims.specs.Demand1.{answer_number}
 use Rattle.claims.specs.Demand2.{reply_in}
@@ -62,25 +63,25 @@ request_displayed q room e h = request-written q room 4 (ap reading_code e) h
 result_for : ℕ → ℕ
 result_for n = cond (eqb n 10) 1 (cond (eqb n 11) 2 (cond (eqb n 14) 4 (cond (eqb n 16) 4 3)))
 
-record Told (v : Verdict) (n : ℕ) : Type 0 where
+record Told (v : Result Unit Refusal) (n : ℕ) : Type 0 where
   refusal : is_done v ≡ false
   result : result_of v ≡ result_for n
 
-told : (v : Verdict) (n : ℕ) → number_of v ≡ n → 10 ≤ n → Told v n
+told : (v : Result Unit Refusal) (n : ℕ) → number_of v ≡ n → 10 ≤ n → Told v n
 unfolding result_for
-told Done n e l = absurd (omega (arith, e, l))
-told TooShort n e l = absurd (omega (arith, e, l))
-told Unsound n e l = record { refusal = refl; result = ap result_for e }
-told Silent n e l = absurd (omega (arith, e, l))
-told UnknownFunction n e l = record { refusal = refl; result = ap result_for e }
-told UnknownParameter n e l = record { refusal = refl; result = ap result_for e }
-told NotOpen n e l = record { refusal = refl; result = ap result_for e }
-told WrongLength n e l = record { refusal = refl; result = ap result_for e }
-told ByAddressZero n e l = record { refusal = refl; result = ap result_for e }
-told NoAccess n e l = record { refusal = refl; result = ap result_for e }
-told WrongArgument n e l = record { refusal = refl; result = ap result_for e }
+told (Ok tt) n e l = absurd (omega (arith, e, l))
+told (Err TooShort) n e l = absurd (omega (arith, e, l))
+told (Err Unsound) n e l = record { refusal = refl; result = ap result_for e }
+told (Err Silent) n e l = absurd (omega (arith, e, l))
+told (Err UnknownFunction) n e l = record { refusal = refl; result = ap result_for e }
+told (Err UnknownParameter) n e l = record { refusal = refl; result = ap result_for e }
+told (Err NotOpen) n e l = record { refusal = refl; result = ap result_for e }
+told (Err WrongLength) n e l = record { refusal = refl; result = ap result_for e }
+told (Err ByAddressZero) n e l = record { refusal = refl; result = ap result_for e }
+told (Err NoAccess) n e l = record { refusal = refl; result = ap result_for e }
+told (Err WrongArgument) n e l = record { refusal = refl; result = ap result_for e }
 
-top_set : (v : Verdict) (n : ℕ) → is_done v ≡ false → function_for v n ≡ top_bit n
+top_set : (v : Result Unit Refusal) (n : ℕ) → is_done v ≡ false → function_for v n ≡ top_bit n
 unfolding function_for
 top_set v n e = go (ltb n 128) refl
   where
@@ -92,7 +93,7 @@ top_set v n e = go (ltb n 128) refl
 abbrev refusal_of : List ℕ → ℕ → ℕ → List ℕ
 refusal_of f p n = byte_at f 0 ∷ top_bit (byte_at f 1) ∷ p ∷ result_for n ∷ []
 
-head-is : (v : Verdict) (f : List ℕ) (n : ℕ) → Told v n → head_of v (command_of f) ≡ refusal_of f (parameter_byte f) n
+head-is : (v : Result Unit Refusal) (f : List ℕ) (n : ℕ) → Told v n → head_of v (command_of f) ≡ refusal_of f (parameter_byte f) n
 unfolding head_of
 head-is v f n t = ap₂ (λ (x y : ℕ). byte_at f 0 ∷ x ∷ parameter_byte f ∷ y ∷ []) (top_set v (byte_at f 1) t.refusal) t.result
 

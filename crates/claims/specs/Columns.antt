@@ -1,7 +1,7 @@
 -- Where a cell's counts stand: in the log in memory, in its file, and in a day's report. What is seen of a log, a cell that is measured with four counts, does
 -- not show two of them exchanged wherever the log is written and read; here bytes and numbers are counted out as the papers have them. Proofs: `columns`,
 -- proofs/Claims.antt.
-use Rattle.std.specs.Prelude.{◌≡◌, Bool, cond, not, List, [], ◌∷◌, ◌++◌, ℕ, zero, suc, ◌+◌, ◌*◌, ◌/◌, ◌%◌, ◌^◌, ◌≤◌, ◌<◌, length, take, drop, get_or}
+use Rattle.std.specs.Prelude.{◌≡◌, Bool, cond, not, List, [], ◌∷◌, ◌++◌, ℕ, zero, suc, ◌+◌, ◌*◌, ◌/◌, ◌%◌, ◌^◌, ◌≤◌, ◌<◌, length, take, drop, get_or, None, Ok, Option, Some}
 use Rattle.refusal.specs.Outcome.{outcome}
 use Rattle.byte_numbers.specs.Number.{Bytes}
 use Rattle.byte_numbers.specs.Place.{byte_at, written}
@@ -12,18 +12,12 @@ use Rattle.log_header.specs.Header.{sound_of}
 use Rattle.energy_log.specs.View.{view_of}
 use Rattle.log_cell.specs.declared.cell.Cell.{Cell}
 use Rattle.log_cell.specs.declared.cell.Cell.TheVariants.{Gap, Empty, Measured}
-use Rattle.log_cell.specs.declared.cell.CellAnswer.{CellAnswer}
-use Rattle.log_cell.specs.declared.cell.CellAnswer.TheVariants.{Good, Bad}
 use Rattle.log_header.specs.declared.header.Header.{Header}
-use Rattle.log_header.specs.declared.header.LogHeader.TheVariants.{Sound}
 use Rattle.day_rows.specs.LogAndRows.{LogAndRows, log_and_rows}
 use Rattle.day_rows.specs.Rows.{Right, figures_of, all_figures}
 use Rattle.day_report.specs.Report.{report_of}
-use Rattle.day_report.specs.declared.report.ReportAnswer.TheVariants as report
 use Rattle.log_file.specs.Read.{read_file}
 use Rattle.log_file.specs.Write.{written_file}
-use Rattle.log_file.specs.declared.read.ReadAnswer.TheVariants as read
-use Rattle.log_file.specs.declared.write.WriteAnswer.TheVariants as write
 use Rattle.claims.specs.Demand3.{Start}
 use Rattle.claims.specs.RegisterToCell.{OnDay, is_skipped, comes_twice}
 
@@ -89,7 +83,7 @@ file_in h cs lapses = framed (head_in h ++ rows_in 0 cs lapses)
 
 -- these cells are those that are seen of a log
 pub record AreCells (s : List ℕ) (cs : List Cell) : Type 0 where
-  pub each : (i : ℕ) → i < length cs → (view_of s).cell i ≡ Good (get_or cs i Gap)
+  pub each : (i : ℕ) → i < length cs → (view_of s).cell i ≡ Some (get_or cs i Gap)
 
 -- ---- in a day's report
 
@@ -99,9 +93,9 @@ sum_where there f slot zero = 0
 sum_where there f slot (suc n) = cond (there slot) (f slot) 0 + sum_where there f (suc slot) n
 
 -- what a cell counts for; bytes that are no cell count for nothing
-abbrev pub of_cell : (Cell → ℕ) → CellAnswer → ℕ
-of_cell f (Good c) = f c
-of_cell f Bad = 0
+abbrev pub of_cell : (Cell → ℕ) → Option Cell → ℕ
+of_cell f (Some c) = f c
+of_cell f None = 0
 
 abbrev pub gap : Cell → ℕ
 gap Gap = 1
@@ -120,7 +114,7 @@ measured (Measured e+ e- r+ r-) = 1
 
 -- "the number of gaps, empties and measured cells, and four sums of counts", over the slots of a day that exist; and `doubled`, "the lent row's eighth number",
 -- "counts the measured ones among" those of the hour that comes twice (document 02, CR 5)
-unfoldable pub row_on : Header → (ℕ → CellAnswer) → ℕ → Date → List ℕ
+unfoldable pub row_on : Header → (ℕ → Option Cell) → ℕ → Date → List ℕ
 row_on h cell day date =
     let slots = slots_of h.minutes in
     let sum : (ℕ → Bool) → (Cell → ℕ) → ℕ = λ there f. sum_where there (λ slot. of_cell f (cell (day * slots + slot))) 0 slots in
@@ -131,19 +125,19 @@ row_on h cell day date =
 
 pub record Columns : Type 0 where
   -- the log in memory: its header's bytes, and of every cell that is seen its own
-  pub head : (s : List ℕ) (h : Header) → Bytes s → sound_of s ≡ Sound h → take 14 s ≡ head_in h
-  pub image : (s : List ℕ) (h : Header) (i : ℕ) (c : Cell) → sound_of s ≡ Sound h → (view_of s).cell i ≡ Good c
+  pub head : (s : List ℕ) (h : Header) → Bytes s → sound_of s ≡ Some h → take 14 s ≡ head_in h
+  pub image : (s : List ℕ) (h : Header) (i : ℕ) (c : Cell) → sound_of s ≡ Some h → (view_of s).cell i ≡ Some c
       → InImage s (h.days * slots_of h.minutes) i (numbers_of c) ((view_of s).lapses i)
   -- its file: every start's is written, these bytes and no others, and they are read as that log
   pub file_written : (b : LogAndRows) (start : Start b) (cs : List Cell) (out : List ℕ) → let h = start.header in let n = h.days * slots_of h.minutes in
       length cs ≡ n → AreCells b.log cs → 14 + 10 * n + 2 ≤ length out
       → written_file (view_of b.log) out
-      ≡ outcome (write.Done (14 + 10 * n + 2)) (file_in h cs (view_of b.log).lapses ++ drop (14 + 10 * n + 2) out)
+      ≡ outcome (Ok (14 + 10 * n + 2)) (file_in h cs (view_of b.log).lapses ++ drop (14 + 10 * n + 2) out)
   pub file_read : (b : LogAndRows) (start : Start b) (cs : List Cell) (out figs : List ℕ) → let h = start.header in let n = length b.log in
       length cs ≡ h.days * slots_of h.minutes → AreCells b.log cs → n ≤ length out → figures_of h ≤ length figs
       → read_file (file_in h cs (view_of b.log).lapses) out figs
-      ≡ outcome (read.Done n) (log_and_rows (b.log ++ drop n out) (all_figures h (view_of b.log).cell ++ drop (figures_of h) figs))
+      ≡ outcome (Ok n) (log_and_rows (b.log ++ drop n out) (all_figures h (view_of b.log).cell ++ drop (figures_of h) figs))
   -- the report of a day: which number is whose
-  pub reported : (b : LogAndRows) (h : Header) (day : ℕ) (date : Date) (row : List ℕ) → sound_of b.log ≡ Sound h → Right h (view_of b.log).cell b.figures
+  pub reported : (b : LogAndRows) (h : Header) (day : ℕ) (date : Date) (row : List ℕ) → sound_of b.log ≡ Some h → Right h (view_of b.log).cell b.figures
       → day < h.days → OnDay h day date → 8 ≤ length row
-      → report_of (sound_of b.log) b.figures day row ≡ outcome report.Done (written row 0 (row_on h (view_of b.log).cell day date))
+      → report_of (sound_of b.log) b.figures day row ≡ outcome (Ok tt) (written row 0 (row_on h (view_of b.log).cell day date))

@@ -4,7 +4,7 @@
 --
 -- The meter answers by `answer_of` (meter/specs/Reply.antt), which the contract of `answer` cites: its definitions are the instruction's, page
 -- by page. The reader decodes by `decoded_of` (reader/specs/Reply.antt), that of `decode`. Proofs: `demand-2`, proofs/Claims.antt.
-use Rattle.std.specs.Prelude.{◌≡◌, true, false, cond, List, ℕ, ◌≤◌, ◌<◌, length, take}
+use Rattle.std.specs.Prelude.{◌≡◌, true, false, cond, List, ℕ, ◌≤◌, ◌<◌, length, take, Err}
 use Rattle.byte_numbers.specs.Number.{Bytes}
 use Rattle.byte_numbers.specs.Place.{number_at}
 use Rattle.parameters.specs.Table.{parameter_of}
@@ -16,7 +16,7 @@ use Rattle.request.specs.Subject.{key_of, subject_of, most_slots, askable}
 use Rattle.request.specs.declared.request.Request.{Request}
 use Rattle.reader.specs.Reply.{decoded_of}
 use Rattle.reader.specs.Rows as rows
-use Rattle.reader.specs.declared.reply.Decoded.TheVariants as decoded
+use Rattle.reader.specs.declared.reply.DecodeError.TheVariants as decoded_error
 use Rattle.meter_clock.specs.Protection.{shut, opened}
 use Rattle.meter_store.specs.Store.{six_of, cleared}
 use Rattle.meter_record.specs.Widths.{FitsRecord}
@@ -28,7 +28,6 @@ use Rattle.meter_command.specs.Verdict.{result_of, is_done}
 use Rattle.meter.specs.Effect.{is_slice}
 use Rattle.meter.specs.Reply.{Outcome, is_sound, heard, verdict_on, answer_of}
 use Rattle.meter_round_trip.specs.Inquiry as inquiry
-use Rattle.meter_round_trip.specs.declared.Inquired.TheVariants.{Told}
 use Rattle.claims.specs.Demand1.{answer_number}
 use Rattle.claims.specs.Figures.{own_as}
 use Rattle.claims.specs.Changes.{Permitted, Leaves}
@@ -55,9 +54,9 @@ pub record Demand2 : Type 0 where
       → answer_number (answered r s q out) ≡ 0 → rows.six_of (rows.reply_data (reply_in (answered r s q out))) ≡ six_of s (key_of q)
   pub refused : (r : Record) (s : List ℕ) (q : Request) (out : List ℕ) → FitsRequest q → askable (subject_of q most_slots) ≡ true
       → 64 ≤ length out → is_sound r s ≡ true → heard r (request_frame q) ≡ true → is_done (verdict_on r (request_frame q)) ≡ false
-      → decoded_of q (reply_in (answered r s q out)) ≡ decoded.MeterRefused (result_of (verdict_on r (request_frame q)))
+      → decoded_of q (reply_in (answered r s q out)) ≡ Err (decoded_error.MeterRefused (result_of (verdict_on r (request_frame q))))
   pub inquired : (r : Record) (s : List ℕ) (q : Request) (out : List ℕ) → FitsRecord r → Bytes s → FitsRequest q
-      → let o = inquiry.inquired r s q out in inquiry.number_of o.answer ≡ 0 → o.answer ≡ Told (own_as q.reading (parameter_of q.parameter) r s q)
+      → let o = inquiry.inquired r s q out in inquiry.number_of o.answer ≡ 0 → o.answer ≡ inquiry.told (own_as q.reading (parameter_of q.parameter) r s q)
   -- the rows that the console says after `inquire`: it hands all of the output to the reader's `six_slices`
   pub inquired_six : (r : Record) (s : List ℕ) (q : Request) (out : List ℕ) → Bytes s → FitsRequest q → parameter_of q.parameter ≡ parameter.SixSlices
       → let o = inquiry.inquired r s q out in inquiry.number_of o.answer ≡ 0 → rows.six_of (rows.reply_data o.out) ≡ six_of s (key_of q)

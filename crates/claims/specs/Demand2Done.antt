@@ -20,8 +20,7 @@ use Rattle.meter_command.specs.Judgement.{argument_fits}
 use Rattle.meter_command.specs.Command.{data_in, command_of}
 use Rattle.meter_command.specs.declared.access.Met.TheVariants.{Own}
 use Rattle.meter.specs.Reply.{is_sound, met, heard, answer_of}
-use Rattle.meter_round_trip.specs.Inquiry.{inquired}
-use Rattle.meter_round_trip.specs.declared.Inquired.TheVariants.{Told}
+use Rattle.meter_round_trip.specs.Inquiry.{inquired, told}
 use Rattle.claims.specs.Demand1.{answer_number}
 use Rattle.claims.specs.Demand2.{answered, FitsRequest}
 use Rattle.claims.specs.Figures.{own_as}
@@ -54,7 +53,7 @@ pub record Demand2Done : Type 0 where
       → askable (subject_of q (slots_of r.minutes)) ≡ true → answer_number (answered r s q out) ≡ 0
   -- the same as one call, `inquire` (that it leaves the store, `Demand1Inquire` says)
   pub inquired_done : (r : Record) (s : List ℕ) (q : Request) (out : List ℕ) → Ready r s (request_frame q) out → FitsRecord r → Bytes s → FitsRequest q
-      → askable (subject_of q (slots_of r.minutes)) ≡ true → (inquired r s q out).answer ≡ Told (own_as q.reading (parameter_of q.parameter) r s q)
+      → askable (subject_of q (slots_of r.minutes)) ≡ true → (inquired r s q out).answer ≡ told (own_as q.reading (parameter_of q.parameter) r s q)
   -- a change and a zeroing of a parameter that can be changed or zeroed, of its length, by the meter's own address, with the access it needs and a
   -- right argument
   pub change_done : (r : Record) (s f out : List ℕ) → let c = command_of f in Ready r s f out → met r f ≡ Own → c.function ≡ function.Change → let w = c.row in

@@ -1,7 +1,7 @@
 -- Demand 2, the second. Document 01, "Clock": "One call is one second", with "Seasons" and "Protection". `pass_second` answers by `second_of`
 -- (meter_record/specs/Record.antt). What its clock shows is said here by a count of seconds, and the Sundays by a count of days, that the meter's calendar does not
 -- use, so that it and these claims cannot be wrong together. Proofs: `demand-2-second`, proofs/Claims.antt.
-use Rattle.std.specs.Prelude.{◌≡◌, Bool, true, false, cond, not, ◌&&◌, List, [], ◌∷◌, ℕ, zero, suc, ◌+◌, ◌*◌, ◌-◌, ◌/◌, ◌%◌, ◌≤◌, ◌<◌, eqb, ltb, get_or}
+use Rattle.std.specs.Prelude.{◌≡◌, Bool, true, false, cond, not, ◌&&◌, List, [], ◌∷◌, ℕ, zero, suc, ◌+◌, ◌*◌, ◌-◌, ◌/◌, ◌%◌, ◌≤◌, ◌<◌, eqb, ltb, get_or, Err, Ok, Result}
 use Rattle.calendar.specs.Time.{is_time}
 use Rattle.calendar.specs.declared.date.Date.{Date}
 use Rattle.calendar.specs.declared.time.DateTime.{DateTime}
@@ -19,8 +19,7 @@ use Rattle.meter_record.specs.Ranges.{is_within}
 use Rattle.meter_record.specs.Record.{second_of}
 use Rattle.meter_record.specs.With.{with_protection, with_time}
 use Rattle.meter_record.specs.declared.record.Record.{Record}
-use Rattle.meter_record.specs.declared.record.RecordAnswer.{RecordAnswer}
-use Rattle.meter_record.specs.declared.record.RecordAnswer.TheVariants.{Done, OutOfRange, Unsound}
+use Rattle.meter_record.specs.declared.record.RecordError.{RecordError}
 use Rattle.meter_command.specs.Command.{command_of}
 use Rattle.meter.specs.Reply.{is_sound, answer_of}
 use Rattle.claims.specs.Demand1.{answer_number}
@@ -79,10 +78,9 @@ EndsAt Winter t u = Begins t.summer 3 2 u
 -- ---- seconds and frames in a row
 
 -- the record after one of the bench's calls: a refused one leaves it
-abbrev pub record_after : RecordAnswer → Record → Record
-record_after (Done x) r = x
-record_after OutOfRange r = r
-record_after Unsound r = r
+abbrev pub record_after : Result Record RecordError → Record → Record
+record_after (Ok x) r = x
+record_after (Err refusal) r = r
 
 -- so many seconds
 unfoldable pub passing : ℕ → Record → Record
@@ -133,26 +131,26 @@ renews_or_locks function.Unknown = false
 
 pub record Demand2Second : Type 0 where
   -- a record within its ranges has its second; nothing of it changes but protection, the clock and the season
-  pub done : (r : Record) → is_within r ≡ true → (x : Record) × (second_of r ≡ Done x)
-  pub alone : (r x : Record) → second_of r ≡ Done x → x ≡ with_time (with_protection r x.protection) (shows r.time x.time.clock x.time.season)
+  pub done : (r : Record) → is_within r ≡ true → (x : Record) × (second_of r ≡ Ok x)
+  pub alone : (r x : Record) → second_of r ≡ Ok x → x ≡ with_time (with_protection r x.protection) (shows r.time x.time.clock x.time.season)
   -- "One call is one second": the clock goes on by one, and the season stays, where it does not end there. So an hour is not gone back "a second time at the next
   -- 03:00 of the same October day": that is in winter season, which does not end in October
-  pub goes_on : (r x : Record) (u : DateTime) → second_of r ≡ Done x → Follows r.time.clock u → (EndsAt r.time.season r.time u → ⊥)
+  pub goes_on : (r x : Record) (u : DateTime) → second_of r ≡ Ok x → Follows r.time.clock u → (EndsAt r.time.season r.time u → ⊥)
       → x.time ≡ shows r.time u r.time.season
-  pub not_twice : (r x : Record) (d : Date) → second_of r ≡ Done x → Follows r.time.clock (on_hour d 3) → r.time.season ≡ Winter → r.time.summer ≡ Automatic
+  pub not_twice : (r x : Record) (d : Date) → second_of r ≡ Ok x → Follows r.time.clock (on_hour d 3) → r.time.season ≡ Winter → r.time.summer ≡ Automatic
       → d.month ≡ 10 → x.time ≡ shows r.time (on_hour d 3) Winter
   -- "In summer season the second that would reach 03:00:00 on the last Sunday of October gives 02:00:00 and winter"; a date by hand goes back an hour too
-  pub into-winter : (r x : Record) (u : DateTime) → second_of r ≡ Done x → Follows r.time.clock u → r.time.season ≡ Summer → r.time.winter ≡ Automatic
+  pub into-winter : (r x : Record) (u : DateTime) → second_of r ≡ Ok x → Follows r.time.clock u → r.time.season ≡ Summer → r.time.winter ≡ Automatic
       → SundayHour 10 3 u → x.time ≡ shows r.time (on_hour u.date 2) Winter
-  pub into_winter_by_hand : (r x : Record) (u : DateTime) → second_of r ≡ Done x → Follows r.time.clock u → r.time.season ≡ Summer → r.time.winter ≡ ByHand u
+  pub into_winter_by_hand : (r x : Record) (u : DateTime) → second_of r ≡ Ok x → Follows r.time.clock u → r.time.season ≡ Summer → r.time.winter ≡ ByHand u
       → (x.time.season ≡ Winter) × HourOn x.time.clock u
   -- "In winter season the one that would reach 02:00:00 on the last Sunday of March gives 03:00:00 and summer"; by hand likewise
-  pub into-summer : (r x : Record) (u : DateTime) → second_of r ≡ Done x → Follows r.time.clock u → r.time.season ≡ Winter → r.time.summer ≡ Automatic
+  pub into-summer : (r x : Record) (u : DateTime) → second_of r ≡ Ok x → Follows r.time.clock u → r.time.season ≡ Winter → r.time.summer ≡ Automatic
       → SundayHour 3 2 u → x.time ≡ shows r.time (on_hour u.date 3) Summer
-  pub into_summer_by_hand : (r x : Record) (u : DateTime) → second_of r ≡ Done x → Follows r.time.clock u → r.time.season ≡ Winter → r.time.summer ≡ ByHand u
+  pub into_summer_by_hand : (r x : Record) (u : DateTime) → second_of r ≡ Ok x → Follows r.time.clock u → r.time.season ≡ Winter → r.time.summer ≡ ByHand u
       → (x.time.season ≡ Summer) × HourOn u x.time.clock
   -- "After 2099-12-31 23:59:59 the clock stands still"; every other time has a next
-  pub stands : (r x : Record) → second_of r ≡ Done x → r.time.clock ≡ last_second → x.time ≡ r.time
+  pub stands : (r x : Record) → second_of r ≡ Ok x → r.time.clock ≡ last_second → x.time ≡ r.time
   pub next : (t : DateTime) → is_time t ≡ true → (t ≡ last_second → ⊥) → (u : DateTime) × Follows t u
   -- "1 to 240 while open, else 0": so many quiet seconds take so many from those left, and the last ends the level. P10, by the meter's second: "239 quiet seconds
   -- keep the level, the 240th ends it"

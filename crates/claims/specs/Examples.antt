@@ -1,18 +1,16 @@
 -- The marked examples of document 01: "P: proved together as a single table". Proof: `marked`, proofs/Claims.antt, one computed test.
-use Rattle.std.specs.Prelude.{◌≡◌, Bool, true, false, not, ◌&&◌, List, [], ◌∷◌, ◌++◌, map, ℕ, zero, suc, eqb, replicate}
+use Rattle.std.specs.Prelude.{◌≡◌, Bool, true, false, not, ◌&&◌, List, [], ◌∷◌, ◌++◌, map, ℕ, zero, suc, eqb, replicate, None, Option, Some}
 use Rattle.refusal.specs.Outcome.{Outcome}
 use Rattle.byte_numbers.specs.Number.{bytes_of}
 use Rattle.frame.specs.Sealing.{framed}
 use Rattle.energy_log.specs.Fresh.{fresh_image}
 use Rattle.energy_log.specs.View.{view_of}
 use Rattle.log_cell.specs.declared.cell.Cell.TheVariants.{Gap, Empty, Measured}
-use Rattle.log_cell.specs.declared.cell.CellAnswer.{CellAnswer}
-use Rattle.log_cell.specs.declared.cell.CellAnswer.TheVariants.{Good, Bad}
+use Rattle.log_cell.specs.declared.cell.Cell.{Cell}
 use Rattle.day_rows.specs.LogAndRows.{log_and_rows}
 use Rattle.logger.specs.Ask.{asked}
 use Rattle.logger.specs.Book.{Call, ask, reply, Answer}
 use Rattle.logger.specs.Run.{State, state, run}
-use Rattle.logger.specs.declared.held.OpenAsk.TheVariants.{Closed}
 use Rattle.wire_values.specs.Telemetry.{telemetry_bytes}
 use Rattle.meter_clock.specs.Protection.{opened, quiet_second}
 use Rattle.meter_clock.specs.declared.protection.Level.TheVariants.{Main}
@@ -57,14 +55,14 @@ first_slot = ask 1 0 0 (replicate 8 0)
 
 three_replies : Outcome (List Answer) State
 three_replies =
-    run (state (log_and_rows fresh_log fresh_figures) Closed) (first_slot ∷ reply (slice-reply 0 0) ∷ first_slot ∷ reply (slice-reply 12 3) ∷ first_slot ∷ reply (slice-reply 13 3) ∷ [])
+    run (state (log_and_rows fresh_log fresh_figures) None) (first_slot ∷ reply (slice-reply 0 0) ∷ first_slot ∷ reply (slice-reply 12 3) ∷ first_slot ∷ reply (slice-reply 13 3) ∷ [])
 
 -- the counts of a measured cell
-counts_of : CellAnswer → List ℕ
-counts_of (Good (Measured e+ e- r+ r-)) = e+ ∷ e- ∷ r+ ∷ r- ∷ []
-counts_of (Good Gap) = []
-counts_of (Good Empty) = []
-counts_of Bad = []
+counts_of : Option Cell → List ℕ
+counts_of (Some (Measured e+ e- r+ r-)) = e+ ∷ e- ∷ r+ ∷ r- ∷ []
+counts_of (Some Gap) = []
+counts_of (Some Empty) = []
+counts_of None = []
 
 -- P5, P6: the number that a change of the telemetry gets, by a meter with that Ke and main access
 meter_with : ℕ → Record
@@ -93,7 +91,7 @@ examples =
     ∷ same (framed (0x01 ∷ 0x03 ∷ 0x00 ∷ 0x04 ∷ 0x00 ∷ 0x06 ∷ [])) (0x01 ∷ 0x03 ∷ 0x00 ∷ 0x04 ∷ 0x00 ∷ 0x06 ∷ 0x84 ∷ 0x09 ∷ [])
     ∷ same (framed (0x00 ∷ 0x00 ∷ 0x04 ∷ 0xD2 ∷ 0x27 ∷ [])) (0x00 ∷ 0x00 ∷ 0x04 ∷ 0xD2 ∷ 0x27 ∷ 0x79 ∷ 0x7B ∷ [])
     -- P4: ask address 1, 17 May, slot 0: what an ask for the log's first interval puts into eight lent bytes
-    ∷ same (asked (view_of fresh_log) Closed 1 0 0 (replicate 8 0)).left (0x01 ∷ 0x03 ∷ 0x24 ∷ 0x05 ∷ 0x11 ∷ 0x00 ∷ 0x53 ∷ 0x6B ∷ [])
+    ∷ same (asked (view_of fresh_log) None 1 0 0 (replicate 8 0)).left (0x01 ∷ 0x03 ∷ 0x24 ∷ 0x05 ∷ 0x11 ∷ 0x00 ∷ 0x53 ∷ 0x6B ∷ [])
     -- P5: Ke 20, P6: Ke 100
     ∷ same (map (change_gets 20) (2000 ∷ 250000 ∷ 1999 ∷ 250001 ∷ [])) (0 ∷ 0 ∷ 15 ∷ 15 ∷ [])
     ∷ same (map (change_gets 100) (400 ∷ 50000 ∷ [])) (0 ∷ 0 ∷ [])

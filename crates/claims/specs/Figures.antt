@@ -1,5 +1,5 @@
 -- The figures that a record and its store have for a read request, as the reader gives figures (`Decoded`).
-use Rattle.std.specs.Prelude.{cond, List, ℕ, ◌*◌, eqb}
+use Rattle.std.specs.Prelude.{cond, List, ℕ, ◌*◌, eqb, Err, Ok, Result}
 use Rattle.wire_values.specs.Power.{total_of}
 use Rattle.wire_values.specs.declared.displayed.Energies.{Energies}
 use Rattle.wire_values.specs.declared.displayed.KilowattHours.{KilowattHours}
@@ -18,10 +18,12 @@ use Rattle.meter_record.specs.declared.record.Record.{Record}
 use Rattle.meter_reply_data.specs.Reading.{phase, summer_shown, winter_shown}
 use Rattle.reader.specs.declared.reply.Decoded.{Decoded}
 use Rattle.reader.specs.declared.reply.Decoded.TheVariants as decoded
+use Rattle.reader.specs.declared.reply.DecodeError.{DecodeError}
+use Rattle.reader.specs.declared.reply.DecodeError.TheVariants as decoded_error
 
 -- "detail 0 answers the total and A, B, C, details 1 to 3 one phase"
-unfoldable pub own_power : Phases → ℕ → Decoded
-own_power p detail = cond (eqb detail 0) (decoded.Powers (record { total = total_of p; phases = p })) (decoded.OnePower (phase p detail))
+unfoldable pub own_power : Phases → ℕ → Result Decoded DecodeError
+own_power p detail = cond (eqb detail 0) (Ok (decoded.Powers (record { total = total_of p; phases = p }))) (Ok (decoded.OnePower (phase p detail)))
 
 -- a row of the store as four counts
 unfoldable pub four_counts : List ℕ → Row
@@ -42,21 +44,21 @@ four_energies ke k row = record {
 }
 
 -- the record's own figures for a request with function 3, and the store's; of six slices the rows are handed over beside it
-abbrev pub own_figures : Parameter → Record → List ℕ → Request → Decoded
+abbrev pub own_figures : Parameter → Record → List ℕ → Request → Result Decoded DecodeError
 own_figures parameter.ActivePower r s q = own_power r.active q.detail
 own_figures parameter.ReactivePower r s q = own_power r.reactive q.detail
-own_figures parameter.Address r s q = decoded.Address r.address
-own_figures parameter.Telemetry r s q = decoded.Telemetry r.telemetry
-own_figures parameter.SummerDate r s q = decoded.DateTime (summer_shown r.time)
-own_figures parameter.WinterDate r s q = decoded.DateTime (winter_shown r.time)
-own_figures parameter.Clock r s q = decoded.DateTime r.time.clock
-own_figures parameter.DisplayMask r s q = decoded.DisplayMask r.mask
-own_figures parameter.Slice r s q = decoded.Slice (four_counts (slice_of s (key_of q)))
-own_figures parameter.SixSlices r s q = decoded.SixSlices
-own_figures parameter.Password r s q = decoded.OutOfRange
-own_figures parameter.Unknown r s q = decoded.OutOfRange
+own_figures parameter.Address r s q = Ok (decoded.Address r.address)
+own_figures parameter.Telemetry r s q = Ok (decoded.Telemetry r.telemetry)
+own_figures parameter.SummerDate r s q = Ok (decoded.DateTime (summer_shown r.time))
+own_figures parameter.WinterDate r s q = Ok (decoded.DateTime (winter_shown r.time))
+own_figures parameter.Clock r s q = Ok (decoded.DateTime r.time.clock)
+own_figures parameter.DisplayMask r s q = Ok (decoded.DisplayMask r.mask)
+own_figures parameter.Slice r s q = Ok (decoded.Slice (four_counts (slice_of s (key_of q))))
+own_figures parameter.SixSlices r s q = Ok decoded.SixSlices
+own_figures parameter.Password r s q = Err decoded_error.OutOfRange
+own_figures parameter.Unknown r s q = Err decoded_error.OutOfRange
 
 -- and with function 4, "as their display shows them"
-abbrev pub own_as : Reading → Parameter → Record → List ℕ → Request → Decoded
+abbrev pub own_as : Reading → Parameter → Record → List ℕ → Request → Result Decoded DecodeError
 own_as Stored p r s q = own_figures p r s q
-own_as Displayed p r s q = decoded.Displayed (four_energies r.telemetry.ke r.ratios (slice_of s (key_of q)))
+own_as Displayed p r s q = Ok (decoded.Displayed (four_energies r.telemetry.ke r.ratios (slice_of s (key_of q))))

@@ -2,7 +2,7 @@
 --
 -- The bench answers by `answered` and `reply_of` (mercury_bench/specs/Reply.antt), the reader decodes by `decoded_of` (mercury/specs/Reply.antt):
 -- the definitions that the contracts of `answer` and `decode` cite. Proofs: `inverse`, proofs/Claims.antt.
-use Rattle.std.specs.Prelude.{◌≡◌, true, cond, List, ℕ, ◌^◌, ◌≤◌, ◌<◌, length, take, drop}
+use Rattle.std.specs.Prelude.{◌≡◌, true, cond, List, ℕ, ◌^◌, ◌≤◌, ◌<◌, length, take, drop, Err, Ok, Result}
 use Rattle.byte_numbers.specs.Number.{Bytes}
 use Rattle.byte_numbers.specs.Place.{byte_at, written}
 use Rattle.refusal.specs.Outcome.{outcome}
@@ -15,30 +15,29 @@ use Rattle.mercury.specs.Reply.{decoded_of, number_of}
 use Rattle.mercury.specs.Request.{request_frame}
 use Rattle.mercury.specs.declared.command.Command.{Command}
 use Rattle.mercury.specs.declared.command.Command.TheVariants as command
-use Rattle.mercury.specs.declared.form.Form.TheVariants.{WellFormed}
 use Rattle.mercury.specs.declared.form.Fault.TheVariants as fault
 use Rattle.mercury.specs.declared.reply.Decoded.{Decoded}
-use Rattle.mercury.specs.declared.reply.Decoded.TheVariants.{Tariffs, Load, Frequency, Malformed, NotDecimal}
+use Rattle.mercury.specs.declared.reply.Decoded.TheVariants.{Tariffs, Load, Frequency}
+use Rattle.mercury.specs.declared.reply.DecodeError.{DecodeError}
+use Rattle.mercury.specs.declared.reply.DecodeError.TheVariants.{Malformed}
 use Rattle.mercury_bench.specs.Meter.{is_within}
 use Rattle.mercury_bench.specs.Reply as bench
 use Rattle.mercury_bench.specs.Reply.{reply_of, command_in}
 use Rattle.mercury_bench.specs.declared.meter.Meter.{Meter}
-use Rattle.mercury_bench.specs.declared.reply.Answered.TheVariants.{Done}
 
 -- what a meter has, as the reader gives it
-abbrev pub own_figures : Command → Meter → Decoded
-own_figures command.Tariffs m = Tariffs m.tariffs
-own_figures command.Load m = Load m.load
-own_figures command.Frequency m = Frequency m.frequency
-own_figures command.Unknown m = Malformed fault.Command
+abbrev pub own_figures : Command → Meter → Result Decoded DecodeError
+own_figures command.Tariffs m = Ok (Tariffs m.tariffs)
+own_figures command.Load m = Ok (Load m.load)
+own_figures command.Frequency m = Ok (Frequency m.frequency)
+own_figures command.Unknown m = Err (Malformed fault.Command)
 
 -- a bench's meter that has an address and figures that were read
-abbrev pub with_figures : ℕ → Decoded → Meter → Meter
-with_figures address (Tariffs t) m = record { address = address; tariffs = t; load = m.load; frequency = m.frequency }
-with_figures address (Load l) m = record { address = address; tariffs = m.tariffs; load = l; frequency = m.frequency }
-with_figures address (Frequency f) m = record { address = address; tariffs = m.tariffs; load = m.load; frequency = f }
-with_figures address (Malformed fault) m = m
-with_figures address NotDecimal m = m
+abbrev pub with_figures : ℕ → Result Decoded DecodeError → Meter → Meter
+with_figures address (Ok (Tariffs t)) m = record { address = address; tariffs = t; load = m.load; frequency = m.frequency }
+with_figures address (Ok (Load l)) m = record { address = address; tariffs = m.tariffs; load = l; frequency = m.frequency }
+with_figures address (Ok (Frequency f)) m = record { address = address; tariffs = m.tariffs; load = m.load; frequency = f }
+with_figures address (Err refusal) m = m
 
 -- the numbers are those of a Rattle value: an address of 32 bits, and bytes
 pub record FitsMeter (m : Meter) : Type 0 where
@@ -55,11 +54,11 @@ digit_bytes command.Unknown = 0
 pub record Inverse : Type 0 where
   -- a request to a meter whose figures are legal is answered, and its reply decodes to them
   pub answered : (m : Meter) (c : Command) (out : List ℕ) → FitsMeter m → is_within m ≡ true → is_known c ≡ true → 64 ≤ length out
-      → bench.answered m (request_frame m.address (code_of c)) out ≡ outcome (Done (length (reply_of c m))) (written out 0 (reply_of c m))
+      → bench.answered m (request_frame m.address (code_of c)) out ≡ outcome (Ok (length (reply_of c m))) (written out 0 (reply_of c m))
   pub decoded : (m : Meter) (c : Command) → FitsMeter m → is_within m ≡ true → is_known c ≡ true
       → decoded_of m.address (code_of c) (reply_of c m) ≡ own_figures c m
   -- the same of every answer with 0, whatever the request's bytes were
-  pub read : (m : Meter) (q out : List ℕ) (n : ℕ) → FitsMeter m → let o = bench.answered m q out in o.result ≡ Done n
+  pub read : (m : Meter) (q out : List ℕ) (n : ℕ) → FitsMeter m → let o = bench.answered m q out in o.result ≡ Ok n
       → decoded_of m.address (byte_at q command_place) (take n o.left) ≡ own_figures (command_in q) m
   -- the figures of every accepted reply, in any meter, give that reply back; and they are legal
   pub back : (address code : ℕ) (y : List ℕ) (m : Meter) → Bytes y → let d = decoded_of address code y in number_of d ≡ 0
@@ -67,5 +66,5 @@ pub record Inverse : Type 0 where
   pub legal : (address code : ℕ) (y : List ℕ) (m : Meter) → is_within m ≡ true → let d = decoded_of address code y in number_of d ≡ 0
       → is_within (with_figures address d m) ≡ true
   -- a well-formed reply is taken exactly where every half-byte of its figures is a digit; the seven bytes of 81 hex are not looked at
-  pub digits : (address code : ℕ) (y : List ℕ) → reply_form address code y ≡ WellFormed
+  pub digits : (address code : ℕ) (y : List ℕ) → reply_form address code y ≡ Ok tt
       → number_of (decoded_of address code y) ≡ cond (is_packed (take (digit_bytes (command_of code)) (drop data_place y))) 0 41

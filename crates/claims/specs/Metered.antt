@@ -1,7 +1,7 @@
 -- From the register to the cell, over a whole history: demand 3's asks, lapses and replies, "refused ones included, in any list and whatever bytes the
 -- replies hold". What `RegisterToCell` asks of a log holds after any of them; and a cell that was a gap at the start and is measured now holds a slice that
 -- came for its date and slot while its ask was open: a meter's, where a meter sent it. Proofs: `metered`, proofs/Claims.antt.
-use Rattle.std.specs.Prelude.{◌≡◌, false, List, [], ◌∷◌, ◌++◌, ℕ, ◌+◌, ◌*◌, ◌<◌}
+use Rattle.std.specs.Prelude.{◌≡◌, false, List, [], ◌∷◌, ◌++◌, ℕ, ◌+◌, ◌*◌, ◌<◌, Some}
 use Rattle.byte_numbers.specs.Number.{Bytes}
 use Rattle.calendar.specs.declared.date.Date.{Date}
 use Rattle.slots.specs.Day.{slots_of}
@@ -11,13 +11,12 @@ use Rattle.meter.specs.Reply.{answer_of}
 use Rattle.energy_log.specs.View.{view_of}
 use Rattle.log_cell.specs.declared.cell.Cell.{Cell}
 use Rattle.log_cell.specs.declared.cell.Cell.TheVariants.{Gap, Measured}
-use Rattle.log_cell.specs.declared.cell.CellAnswer.TheVariants.{Good}
 use Rattle.log_header.specs.declared.header.Header.{Header}
 use Rattle.day_rows.specs.LogAndRows.{LogAndRows, log_and_rows}
 use Rattle.logger.specs.Ask as Ask
 use Rattle.logger.specs.Book.{Call, ask, reply, AllBytes}
 use Rattle.logger.specs.Run.{State, run}
-use Rattle.logger.specs.declared.held.OpenAsk.TheVariants.{Open}
+use Rattle.logger.specs.Held.{opened_for}
 use Rattle.claims.specs.Demand1.{answer_number}
 use Rattle.claims.specs.Demand2.{reply_in}
 use Rattle.claims.specs.Demand3.{Start, begin, ran}
@@ -39,7 +38,7 @@ pub record Came (s : State) (h : Header) (calls : List Call) (i : ℕ) (row : Li
   pub slot_on : SlotOn h day slot date
   pub index : day * slots_of h.minutes + slot ≡ i
   pub asked : let t = (run s before).left in AskedFor (Ask.asked (view_of t.log) t.held address day slot room) address day slot date room
-  pub still : (front back : List Call) → between ≡ front ++ back → (run s (before ++ (ask address day slot room ∷ front))).left.held ≡ Open address day slot
+  pub still : (front back : List Call) → between ≡ front ++ back → (run s (before ++ (ask address day slot room ∷ front))).left.held ≡ opened_for address day slot
   pub bytes : heard ≡ slice_answer address row
 
 -- a meter, of some record and store, that answers a frame 0, which a sound one alone does, and with these bytes
@@ -64,13 +63,13 @@ pub record Metered : Type 0 where
   pub again : (b : LogAndRows) (start : Start b) (calls : List Call) → AllBytes calls → let s = (ran b calls).left in
       (now : Start (log_and_rows s.log s.figures)) × (now.header ≡ start.header)
   -- a gap that is measured after them: its counts came for it
-  pub measured : (b : LogAndRows) (start : Start b) (calls : List Call) → AllBytes calls → (i e+ e- r+ r- : ℕ) → (view_of b.log).cell i ≡ Good Gap
-      → (view_of (ran b calls).left.log).cell i ≡ Good (Measured e+ e- r+ r-) → Came (begin b) start.header calls i (e+ ∷ e- ∷ r+ ∷ r- ∷ [])
+  pub measured : (b : LogAndRows) (start : Start b) (calls : List Call) → AllBytes calls → (i e+ e- r+ r- : ℕ) → (view_of b.log).cell i ≡ Some Gap
+      → (view_of (ran b calls).left.log).cell i ≡ Some (Measured e+ e- r+ r-) → Came (begin b) start.header calls i (e+ ∷ e- ∷ r+ ∷ r- ∷ [])
   -- and are a meter's slice of its date and slot, where meters answered
   pub by_meters : (b : LogAndRows) (start : Start b) (calls : List Call) → AllBytes calls → (meters : FromMeters (begin b) start.header calls)
-      → (i e+ e- r+ r- : ℕ) → (view_of b.log).cell i ≡ Good Gap → (view_of (ran b calls).left.log).cell i ≡ Good (Measured e+ e- r+ r-)
+      → (i e+ e- r+ r- : ℕ) → (view_of b.log).cell i ≡ Some Gap → (view_of (ran b calls).left.log).cell i ≡ Some (Measured e+ e- r+ r-)
       → let row = e+ ∷ e- ∷ r+ ∷ r- ∷ [] in
       (m : Came (begin b) start.header calls i row) × (Measured e+ e- r+ r- ≡ measured_by (slice_on (meters i row m).store m.date m.slot))
   -- and the other half: what came and is not all zeros is not lost, the cell is measured
   pub kept : (b : LogAndRows) (start : Start b) (calls : List Call) → AllBytes calls → (i : ℕ) (row : List ℕ) → Came (begin b) start.header calls i row
-      → ((k : ℕ) → count_at row k < 65536) → all_zero row ≡ false → (of : List ℕ) × ((view_of (ran b calls).left.log).cell i ≡ Good (measured_by of))
+      → ((k : ℕ) → count_at row k < 65536) → all_zero row ≡ false → (of : List ℕ) × ((view_of (ran b calls).left.log).cell i ≡ Some (measured_by of))

@@ -6,7 +6,7 @@
 -- reply are written out in bytes; the counts are the store's own. A log that exchanges two counts wherever it names them, or asks for another day, breaks it.
 -- It is said once for both intervals, and for every slot that exists, which is said by the calendar too: the hour that the October day has twice "under one key" (document 02, CR 5) is such.
 -- Proofs: `register-to-cell`, proofs/Claims.antt.
-use Rattle.std.specs.Prelude.{◌≡◌, Bool, true, false, cond, ◌&&◌, List, [], ◌∷◌, ◌++◌, ◌⊎◌, ℕ, ◌+◌, ◌*◌, ◌≤◌, ◌<◌, eqb, leb, ltb, length, take, drop}
+use Rattle.std.specs.Prelude.{◌≡◌, Bool, true, false, cond, ◌&&◌, List, [], ◌∷◌, ◌++◌, ◌⊎◌, ℕ, ◌+◌, ◌*◌, ◌≤◌, ◌<◌, eqb, leb, ltb, length, take, drop, Some, None}
 use Rattle.refusal.specs.Outcome as call
 use Rattle.byte_numbers.specs.Number.{Bytes, bytes_of}
 use Rattle.frame.specs.Sealing.{framed}
@@ -22,16 +22,14 @@ use Rattle.log_header.specs.Header.{is_header, sound_of}
 use Rattle.energy_log.specs.View.{view_of}
 use Rattle.log_cell.specs.declared.cell.Cell.{Cell}
 use Rattle.log_cell.specs.declared.cell.Cell.TheVariants.{Gap, Empty, Measured}
-use Rattle.log_cell.specs.declared.cell.CellAnswer.TheVariants.{Good}
 use Rattle.log_header.specs.declared.header.Header.{Header}
-use Rattle.log_header.specs.declared.header.LogHeader.TheVariants.{Sound}
 use Rattle.day_rows.specs.LogAndRows.{LogAndRows}
 use Rattle.day_rows.specs.Rows.{Right}
 use Rattle.logger.specs.Ask as Ask
 use Rattle.logger.specs.Take as Take
-use Rattle.logger.specs.declared.ask.Asked.{Asked}
-use Rattle.logger.specs.declared.take.Taken.{Taken}
-use Rattle.logger.specs.declared.held.OpenAsk.TheVariants.{Closed, Open}
+use Rattle.logger.specs.Ask.{Asked}
+use Rattle.logger.specs.Take.{Taken}
+use Rattle.logger.specs.Held.{opened_for}
 use Rattle.claims.specs.Demand1.{answer_number}
 use Rattle.claims.specs.Demand2.{reply_in}
 use Rattle.claims.specs.Changes.{Leaves}
@@ -114,14 +112,14 @@ pub record MeterAt (r : Record) (store : List ℕ) (minutes address : ℕ) : Typ
 -- a log with this header and right figures, whose cell with index i is c
 pub record LogWith (b : LogAndRows) (h : Header) (i : ℕ) (c : Cell) : Type 0 where
   pub bytes : Bytes b.log
-  pub lent : sound_of b.log ≡ Sound h
+  pub lent : sound_of b.log ≡ Some h
   pub figures : Right h (view_of b.log).cell b.figures
-  pub cell : (view_of b.log).cell i ≡ Good c
+  pub cell : (view_of b.log).cell i ≡ Some c
 
 -- ---- one round: the ask, with none open; the meter's answer to the frame that it made; and that reply, taken with the ask that was left open
 
 abbrev pub asking : List ℕ → ℕ → ℕ → ℕ → List ℕ → call.Outcome Asked (List ℕ)
-asking s address day slot room = Ask.asked (view_of s) Closed address day slot room
+asking s address day slot room = Ask.asked (view_of s) None address day slot room
 
 abbrev pub answering : Record → List ℕ → call.Outcome Asked (List ℕ) → List ℕ → Outcome
 answering r store a out = answer_of r store (take 8 a.left) out
@@ -132,7 +130,7 @@ taking b a o = Take.taken b a.result.held (reply_in o)
 -- the ask is done and open, and its frame reads that date's slice; "Output past what was written is unchanged"
 pub record AskedFor (a : call.Outcome Asked (List ℕ)) (address day slot : ℕ) (date : Date) (room : List ℕ) : Type 0 where
   pub number : Ask.number_of a.result.answer ≡ 0
-  pub held : a.result.held ≡ Open address day slot
+  pub held : a.result.held ≡ opened_for address day slot
   pub wrote : a.left ≡ slice_frame address date slot ++ drop 8 room
 
 -- the meter answers 0 with its slice in 14 bytes, and changes nothing
@@ -145,18 +143,18 @@ pub record AnsweredBy (o : Outcome) (r : Record) (store : List ℕ) (address : �
 -- the reply is taken, 0 or 25, the ask is closed, and cell i of the log, which had c, has what the slice makes of it
 pub record TakenInto (t : call.Outcome Taken LogAndRows) (h : Header) (i : ℕ) (c : Cell) (row : List ℕ) : Type 0 where
   pub number : Take.number_of t.result.answer ≡ number_after c row
-  pub held : t.result.held ≡ Closed
-  pub cell : (view_of t.left.log).cell i ≡ Good (cell_after c row)
-  pub lent : sound_of t.left.log ≡ Sound h
+  pub held : t.result.held ≡ None
+  pub cell : (view_of t.left.log).cell i ≡ Some (cell_after c row)
+  pub lent : sound_of t.left.log ≡ Some h
 
 pub record RegisterToCell : Type 0 where
   -- every day of a log has its date
   pub dated : (h : Header) (day : ℕ) → is_header h ≡ true → day < h.days → (date : Date) × OnDay h day date
   -- the frame that an ask writes, on every day and for every address
-  pub asked : (s : List ℕ) (h : Header) (address day slot : ℕ) (date : Date) (room : List ℕ) → sound_of s ≡ Sound h → SlotOn h day slot date → 8 ≤ length room
+  pub asked : (s : List ℕ) (h : Header) (address day slot : ℕ) (date : Date) (room : List ℕ) → sound_of s ≡ Some h → SlotOn h day slot date → 8 ≤ length room
       → AskedFor (asking s address day slot room) address day slot date room
   -- "22 also for a slot that doesn't exist" (CR 5)
-  pub skipped : (s : List ℕ) (h : Header) (address day slot : ℕ) (date : Date) (room : List ℕ) → sound_of s ≡ Sound h → OnDay h day date
+  pub skipped : (s : List ℕ) (h : Header) (address day slot : ℕ) (date : Date) (room : List ℕ) → sound_of s ≡ Some h → OnDay h day date
       → is_skipped h date slot ≡ true → 8 ≤ length room → Ask.number_of (asking s address day slot room).result.answer ≡ 22
   -- and what comes of it
   pub joined : (r : Record) (store : List ℕ) (b : LogAndRows) (h : Header) (address day slot : ℕ) (date : Date) (c : Cell) (room out : List ℕ)

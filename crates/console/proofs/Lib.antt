@@ -1,3 +1,2 @@
 pub mod FormLaws
-pub mod LineLaws
 pub mod ValueLaws

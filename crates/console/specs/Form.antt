@@ -1,11 +1,9 @@
 -- A line's form: which of some names begins it, and the numbers that follow. Source: the console's page, "Words are separated by single
 -- spaces, numbers are decimal without sign"; a number too large for its argument is not read.
-use Rattle.std.specs.Prelude.{ℕ, zero, suc, ◌+◌, ◌-◌, Bool, true, false, cond, List, [], ◌∷◌, eqb, ltb, length}
+use Rattle.std.specs.Prelude.{ℕ, zero, suc, ◌+◌, ◌-◌, Bool, true, false, cond, List, [], ◌∷◌, eqb, ltb, length, None, Option, Some}
 use Rattle.text.specs.Reading.{number_of_text}
-use Rattle.text.specs.declared.reading.NumberAnswer.{NumberAnswer}
 use Rattle.console.specs.Line.{spaces_in, word_at}
 use Rattle.console.specs.Value.{up_to}
-use Rattle.console.specs.declared.form.YearAnswer as Y
 
 -- the same bytes
 unfoldable pub same_bytes : List ℕ → List ℕ → Bool
@@ -24,7 +22,7 @@ unfoldable pub place_of : List ℕ → List ℕ → ℕ
 place_of w names = place_from w names 0 (suc (spaces_in names))
 
 -- a number was read, and is at most so large
-unfoldable pub is_up_to : ℕ → NumberAnswer → Bool
+unfoldable pub is_up_to : ℕ → Option ℕ → Bool
 is_up_to most a = up_to most (λ (n : ℕ). true) false a
 
 -- from the word with index k on, a number up to each of these
@@ -51,5 +49,5 @@ abbrev pub long_in : List ℕ → ℕ → ℕ
 long_in line k = number_in 4294967295 line k
 
 -- a year that one byte holds, from 2000
-unfoldable pub year_of : ℕ → Y.YearAnswer
-year_of y = cond (ltb y 2000) Y.TheVariants.OutOfRange (cond (ltb 2255 y) Y.TheVariants.OutOfRange (Y.TheVariants.Year (y - 2000)))
+unfoldable pub year_of : ℕ → Option ℕ
+year_of y = cond (ltb y 2000) None (cond (ltb 2255 y) None (Some (y - 2000)))

@@ -6,9 +6,6 @@ mod form;
 mod line;
 mod value;
 
-pub use form::{YearAnswer, are_numbers, byte, is_form, long, place_of, short, year};
+pub use form::{are_numbers, byte, is_form, long, place_of, short, year};
 pub use line::{is_passed_over, part, spaces, without_return, word};
-pub use value::{
-    BYTE, ByteAnswer, BytesAnswer, LONG, LongAnswer, SHORT, ShortAnswer, byte_word, long_word,
-    read_bytes, short_word,
-};
+pub use value::{BYTE, LONG, SHORT, byte_word, long_word, read_bytes, short_word};

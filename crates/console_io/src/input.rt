@@ -18,13 +18,12 @@ pub struct Taken {
     pub rest: Rest,
 }
 
-const NEWLINE: u8 = 10;
+const NEWLINE: u8 = b'\n';
 
-// #
-const COMMENT: u8 = 35;
+const COMMENT: u8 = b'#';
 
 // What no call is named.
-const UNREAD: u8 = 63;
+const UNREAD: u8 = b'?';
 
 // The longest line that is read, and its carriage return.
 pub const LINE_ROOM: usize = 4097;
@@ -53,7 +52,7 @@ pub fn next_line<R: Read>(
             return Ok(Taken {
                 ended: false,
                 length: fitting(line, n, long),
-                rest: rest,
+                rest,
             });
         }
         // Stored where there is room.
@@ -73,7 +72,7 @@ fn filled<R: Read>(reader: &mut R, block: &mut [u8], rest: Rest) -> io::Result<R
         return Ok(rest);
     }
     let end = reader.read(block)?;
-    Ok(Rest { at: 0, end: end })
+    Ok(Rest { at: 0, end })
 }
 
 fn ended() -> Taken {

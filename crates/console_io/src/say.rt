@@ -26,9 +26,18 @@ pub fn number_line(rt: HostRuntime, n: u8) {
     end_of(rt, n);
 }
 
+// A call's number and the bytes that it gave, where there are any.
+pub fn bytes_line(rt: HostRuntime, n: u8, bytes: &[u8]) {
+    first(rt, n);
+    if !bytes.is_empty() {
+        hex(rt, bytes);
+    }
+    end_of(rt, n);
+}
+
 // A call's number, as the first word.
 pub fn first(rt: HostRuntime, n: u8) {
-    let _ = rt.stdout().print(n as u64);
+    let _ = rt.stdout().print(u64::from(n));
 }
 
 pub fn end(rt: HostRuntime) {
@@ -38,10 +47,7 @@ pub fn end(rt: HostRuntime) {
 // Ends the answer of a call with this number. Whoever types is told what a refusal means.
 pub fn end_of(rt: HostRuntime, n: u8) {
     end(rt);
-    if n == refusal::DONE {
-        return;
-    }
-    if crate::typed::is_typed(rt) {
+    if n != refusal::DONE && crate::typed::is_typed(rt) {
         refused(rt, n);
     }
 }
@@ -51,7 +57,7 @@ pub fn refused(rt: HostRuntime, n: u8) {
     let mut words = [0u8; refusal_words::WORDS_MOST];
     let length = refusal_words::put_words(n, &mut words);
     tell(rt, b"refused ");
-    let _ = rt.stderr().print(n as u64);
+    let _ = rt.stderr().print(u64::from(n));
     tell(rt, b": ");
     tell(rt, console::part(&words, length));
     tell(rt, b"\n");
@@ -63,7 +69,7 @@ pub fn number(rt: HostRuntime, n: u64) {
 }
 
 pub fn short(rt: HostRuntime, n: u16) {
-    number(rt, n as u64);
+    number(rt, u64::from(n));
 }
 
 // The digits of at most 64 bytes, as many as a frame has.
@@ -83,26 +89,17 @@ pub fn float(rt: HostRuntime, x: f32) {
 }
 
 pub fn float_bits(rt: HostRuntime, bits: u32) {
-    let mut low_first = [0u8; 4];
-    byte_numbers::put_u32(&mut low_first, 0, bits);
-    hex(
-        rt,
-        &[low_first[3], low_first[2], low_first[1], low_first[0]],
-    );
+    hex(rt, &bits.to_be_bytes());
 }
 
 pub fn six_bytes(rt: HostRuntime, bytes: [u8; 6]) {
-    number(rt, bytes[0] as u64);
-    number(rt, bytes[1] as u64);
-    number(rt, bytes[2] as u64);
-    number(rt, bytes[3] as u64);
-    number(rt, bytes[4] as u64);
-    number(rt, bytes[5] as u64);
+    for byte in bytes {
+        number(rt, u64::from(byte));
+    }
 }
 
 pub fn four_counts(rt: HostRuntime, a: u16, b: u16, c: u16, d: u16) {
-    short(rt, a);
-    short(rt, b);
-    short(rt, c);
-    short(rt, d);
+    for count in [a, b, c, d] {
+        short(rt, count);
+    }
 }

@@ -1,50 +1,43 @@
 -- What a line of the log makes of the log, of its figures and of the open ask. Source: the console's page, "Log and reader"; the calls are the logger's.
 -- The image and the figures that the console keeps beside it (document 02, CR 8) are `LogAndRows`; a line that is lent no figures is told of the image alone.
-use Rattle.std.specs.Prelude.{ℕ, cond, List, [], ◌∷◌, ◌++◌, eqb, ltb, length, take, drop, replicate}
+use Rattle.std.specs.Prelude.{ℕ, cond, List, [], ◌∷◌, ◌++◌, eqb, ltb, length, take, drop, replicate, Err, None, Ok, Option, Result, Some}
 use Rattle.refusal.specs.Outcome.{Outcome, outcome}
 use Rattle.frame.specs.Layout.{read_size}
 use Rattle.log_header.specs.declared.header.Header.{Header}
-use Rattle.energy_log.specs.declared.fresh.FreshAnswer.{FreshAnswer}
-use Rattle.energy_log.specs.declared.fresh.FreshAnswer.TheVariants as fresh
+use Rattle.energy_log.specs.declared.fresh.FreshError.{FreshError}
 use Rattle.day_rows.specs.LogAndRows.{LogAndRows, log_and_rows}
 use Rattle.day_rows.specs.Fresh.{fresh_with}
-use Rattle.log_file.specs.declared.read.ReadAnswer.{ReadAnswer}
 use Rattle.log_file.specs.Read.{if_read}
+use Rattle.log_file.specs.declared.read.ReadError.{ReadError}
 use Rattle.energy_log.specs.View.{view_of}
 use Rattle.logger.specs.Ask.{asked}
 use Rattle.logger.specs.Lapse.{lapsed}
 use Rattle.logger.specs.Take.{taken}
-use Rattle.logger.specs.declared.no_reply.Lapsed.{Lapsed}
-use Rattle.logger.specs.declared.take.Taken.{Taken}
+use Rattle.logger.specs.Lapse.{Lapsed}
+use Rattle.logger.specs.Take.{Taken}
 use Rattle.logger.specs.declared.held.OpenAsk.{OpenAsk}
-use Rattle.logger.specs.declared.held.OpenAsk.TheVariants.{Closed}
 use Rattle.console.specs.Line.{part_of, spaces_in}
 use Rattle.console.specs.Form.{is_form, byte_in, short_in, year_of}
-use Rattle.console.specs.declared.form.YearAnswer.{YearAnswer}
-use Rattle.console.specs.declared.form.YearAnswer.TheVariants.{Year, OutOfRange}
-use Rattle.console.specs.declared.value.BytesAnswer.{BytesAnswer}
-use Rattle.console.specs.declared.value.BytesAnswer.TheVariants.{Bytes, Unread}
 use Rattle.console_log.specs.Words.{reply_read}
 use Rattle.console_log.specs.declared.logs.ConsoleLog.{ConsoleLog}
 
 -- the same log, with this ask
-abbrev pub with_ask : ConsoleLog → OpenAsk → ConsoleLog
+abbrev pub with_ask : ConsoleLog → Option OpenAsk → ConsoleLog
 with_ask kept held = record { length = kept.length; held = held }
 
 -- a new log has no ask open; a refused one leaves all as it was
-unfoldable pub kept_after : FreshAnswer → ConsoleLog → ConsoleLog
-kept_after (fresh.Done n) kept = record { length = n; held = Closed }
-kept_after fresh.OutOfRange kept = kept
-kept_after fresh.TooShort kept = kept
+unfoldable pub kept_after : Result ℕ FreshError → ConsoleLog → ConsoleLog
+kept_after (Ok n) kept = record { length = n; held = None }
+kept_after (Err refusal) kept = kept
 
-abbrev pub new_log : ConsoleLog → Outcome FreshAnswer LogAndRows → Outcome ConsoleLog LogAndRows
+abbrev pub new_log : ConsoleLog → Outcome (Result ℕ FreshError) LogAndRows → Outcome ConsoleLog LogAndRows
 new_log kept o = outcome (kept_after o.result kept) o.left
 
 -- a log read from a file likewise
-unfoldable pub kept_loaded : ReadAnswer → ConsoleLog → ConsoleLog
-kept_loaded read kept = if_read read kept (λ n. record { length = n; held = Closed })
+unfoldable pub kept_loaded : Result ℕ ReadError → ConsoleLog → ConsoleLog
+kept_loaded read kept = if_read read kept (λ n. record { length = n; held = None })
 
-abbrev pub loaded_log : ConsoleLog → Outcome ReadAnswer LogAndRows → Outcome ConsoleLog LogAndRows
+abbrev pub loaded_log : ConsoleLog → Outcome (Result ℕ ReadError) LogAndRows → Outcome ConsoleLog LogAndRows
 loaded_log kept o = outcome (kept_loaded o.result kept) o.left
 
 -- MONTH DAY DAYS MINUTES KE SEASONS behind the year
@@ -57,9 +50,9 @@ header_in line year = record {
   seasons = byte_in line 7;
 }
 
-unfoldable pub fresh_in : YearAnswer → List ℕ → LogAndRows → ConsoleLog → Outcome ConsoleLog LogAndRows
-fresh_in (Year year) line b kept = new_log kept (fresh_with (header_in line year) b.log b.figures)
-fresh_in OutOfRange line b kept = outcome kept b
+unfoldable pub fresh_in : Option ℕ → List ℕ → LogAndRows → ConsoleLog → Outcome ConsoleLog LogAndRows
+fresh_in (Some year) line b kept = new_log kept (fresh_with (header_in line year) b.log b.figures)
+fresh_in None line b kept = outcome kept b
 
 -- YEAR MONTH DAY DAYS MINUTES KE SEASONS; a line that cannot be read leaves all as it was
 unfoldable pub fresh_line : List ℕ → LogAndRows → ConsoleLog → Outcome ConsoleLog LogAndRows
@@ -98,10 +91,10 @@ reply_of y b kept =
     (reply_taken b kept (taken (log_and_rows (take kept.length b.log) b.figures) kept.held y))
 
 -- the bytes that were read are so many of a buffer's first
-unfoldable pub reply_in : BytesAnswer → List ℕ → LogAndRows → ConsoleLog → Outcome ConsoleLog LogAndRows
+unfoldable pub reply_in : Option ℕ → List ℕ → LogAndRows → ConsoleLog → Outcome ConsoleLog LogAndRows
 unfolding reply_of
-reply_in (Bytes n) buffer b kept = reply_of (part_of n buffer) b kept
-reply_in Unread buffer b kept = outcome kept b
+reply_in (Some n) buffer b kept = reply_of (part_of n buffer) b kept
+reply_in None buffer b kept = outcome kept b
 
 -- BYTES, or none
 unfoldable pub reply_line : List ℕ → LogAndRows → ConsoleLog → Outcome ConsoleLog LogAndRows

@@ -1,19 +1,17 @@
 -- What stands in a line of the log or the reader. Source: the console's page, "Log and reader".
-use Rattle.std.specs.Prelude.{ℕ, ◌+◌, cond, List, eqb}
+use Rattle.std.specs.Prelude.{ℕ, ◌+◌, cond, List, eqb, None, Option, Some}
 use Rattle.refusal.specs.Outcome.{Outcome, outcome}
-use Rattle.console.specs.declared.value.BytesAnswer.{BytesAnswer}
 use Rattle.parameters.specs.declared.code.Reading.{Reading}
 use Rattle.request.specs.declared.request.Request.{Request}
 use Rattle.console.specs.Line.{spaces_in, word_at}
 use Rattle.console.specs.Value.{bytes_read}
 use Rattle.console.specs.Form.{byte_in}
-use Rattle.console.specs.declared.value.BytesAnswer.TheVariants.{Bytes, Unread}
 
 -- the bytes of the word behind so many, into a lent buffer; "without BYTES: none"
-unfoldable pub reply_read : List ℕ → ℕ → List ℕ → Outcome BytesAnswer (List ℕ)
+unfoldable pub reply_read : List ℕ → ℕ → List ℕ → Outcome (Option ℕ) (List ℕ)
 reply_read line before out =
     cond (eqb (spaces_in line) before) (bytes_read (word_at before line) out)
-    (cond (eqb before (spaces_in line + 1)) (outcome (Bytes 0) out) (outcome Unread out))
+    (cond (eqb before (spaces_in line + 1)) (outcome (Some 0) out) (outcome None out))
 
 -- ADDRESS PARAMETER OFFSET TARIFF DETAIL
 abbrev pub request_in : Reading → List ℕ → Request

@@ -5,24 +5,22 @@ ghost use Rattle.day_rows.specs.LogAndRows.{log_and_rows};
 ghost use Rattle.day_rows.specs.Fresh.{fresh_with};
 ghost use Rattle.log_file.specs.Read.{read_file};
 ghost use Rattle.console.specs.Form.{short_in, year_of};
-ghost use Rattle.console_log.specs.Log.{kept_after, new_log, kept_loaded, loaded_log, fresh_in, fresh_line};
+ghost use Rattle.console_log.specs.Log.{new_log, loaded_log, fresh_in, fresh_line};
 ghost use Rattle.console_log.specs.Log.{asked_for, ask_line, lapse_of, lapse_line, reply_of, reply_line};
 
 use calendar::Date;
-use console::{BYTE, BytesAnswer, SHORT, YearAnswer, byte};
+use console::{BYTE, SHORT, byte};
 use console_io::say;
-use day_report::ReportAnswer;
-use energy_log::FreshAnswer;
-use log_cell::{Cell, CellAnswer};
-use log_file::ReadAnswer;
-use log_header::{Header, Interval, LogHeader};
-use logger::{AskAnswer, OpenAsk, TakeAnswer};
+use log_cell::Cell;
+use log_header::Header;
+use logger::{AskError, OpenAsk, TakeError};
+use refusal::Numbered;
 
 // What is kept of the log beside its image and its figures: its length, 0 where there is no log, and the open ask.
 #[derive(Clone, Copy)]
 pub struct ConsoleLog {
     pub length: usize,
-    pub held: OpenAsk,
+    pub held: Option<OpenAsk>,
 }
 
 // All stays as it was.
@@ -34,6 +32,7 @@ fn unread(rt: HostRuntime, kept: ConsoleLog) -> ConsoleLog
 }
 
 // YEAR MONTH DAY DAYS MINUTES KE SEASONS
+#[tactic(auto, unfolding(crate::specs::Log::fresh_line))]
 pub fn fresh(
     rt: HostRuntime,
     line: &[u8],
@@ -44,12 +43,13 @@ pub fn fresh(
     ensures { outcome result (log_and_rows image.new figures.new)
         ≡ fresh_line line.now (log_and_rows image.old figures.old) kept }
 {
-    if console::is_form(line, &[SHORT, BYTE, BYTE, BYTE, BYTE, SHORT, BYTE]) {
-        return fresh_from(rt, line, image, figures, kept);
+    if !console::is_form(line, &[SHORT, BYTE, BYTE, BYTE, BYTE, SHORT, BYTE]) {
+        return unread(rt, kept);
     }
-    unread(rt, kept)
+    fresh_from(rt, line, image, figures, kept)
 }
 
+#[tactic(auto, unfolding(crate::specs::Log::fresh_in))]
 fn fresh_from(
     rt: HostRuntime,
     line: &[u8],
@@ -60,17 +60,16 @@ fn fresh_from(
     ensures { outcome result (log_and_rows image.new figures.new)
         ≡ fresh_in (year_of (short_in line.now 1)) line.now (log_and_rows image.old figures.old) kept }
 {
-    let YearAnswer::Year(year) = console::year(line, 1) else {
+    let Some(year) = console::year(line, 1) else {
         say::number_line(rt, refusal::OUT_OF_RANGE);
         return kept;
     };
-    let start = Date {
-        year: year,
-        month: byte(line, 2),
-        day: byte(line, 3),
-    };
     let header = Header {
-        start: start,
+        start: Date {
+            year,
+            month: byte(line, 2),
+            day: byte(line, 3),
+        },
         days: byte(line, 4),
         minutes: byte(line, 5),
         ke: console::short(line, 6),
@@ -79,6 +78,7 @@ fn fresh_from(
     fresh_of(rt, header, image, figures, kept)
 }
 
+#[tactic(auto, unfolding(crate::specs::Log::kept_after))]
 fn fresh_of(
     rt: HostRuntime,
     h: Header,
@@ -91,23 +91,11 @@ fn fresh_of(
 {
     let answer = day_rows::fresh_log(h, image, figures);
     say::number_line(rt, answer.number());
-    kept_after(answer, kept)
-}
-
-fn kept_after(answer: FreshAnswer, kept: ConsoleLog) -> ConsoleLog
-    ensures { result ≡ kept_after answer kept }
-{
-    match answer {
-        FreshAnswer::Done(n) => ConsoleLog {
-            length: n,
-            held: OpenAsk::Closed,
-        },
-        FreshAnswer::OutOfRange => kept,
-        FreshAnswer::TooShort => kept,
-    }
+    answer.map_or(kept, |length| ConsoleLog { length, held: None })
 }
 
 // The bytes of a file.
+#[tactic(auto, unfolding(crate::specs::Log::kept_loaded))]
 pub fn loaded(
     rt: HostRuntime,
     bytes: &[u8],
@@ -120,37 +108,21 @@ pub fn loaded(
 {
     let answer = log_file::read_file(bytes, image, figures);
     say::number_line(rt, answer.number());
-    kept_loaded(answer, kept)
-}
-
-fn kept_loaded(answer: ReadAnswer, kept: ConsoleLog) -> ConsoleLog
-    ensures { result ≡ kept_loaded answer kept }
-{
-    match answer {
-        ReadAnswer::Done(n) => ConsoleLog {
-            length: n,
-            held: OpenAsk::Closed,
-        },
-        ReadAnswer::WrongMark => kept,
-        ReadAnswer::WrongVersion => kept,
-        ReadAnswer::WrongHeader => kept,
-        ReadAnswer::WrongLength => kept,
-        ReadAnswer::WrongCrc => kept,
-        ReadAnswer::WrongCell => kept,
-        ReadAnswer::TooShort => kept,
-    }
+    answer.map_or(kept, |length| ConsoleLog { length, held: None })
 }
 
 // ADDRESS DAY SLOT
+#[tactic(auto, unfolding(crate::specs::Log::ask_line))]
 pub fn ask(rt: HostRuntime, line: &[u8], image: &[u8], kept: ConsoleLog) -> ConsoleLog
     ensures { result ≡ ask_line line.now image.now kept }
 {
-    if console::is_form(line, &[BYTE, BYTE, BYTE]) {
-        return ask_for(rt, image, kept, byte(line, 1), byte(line, 2), byte(line, 3));
+    if !console::is_form(line, &[BYTE, BYTE, BYTE]) {
+        return unread(rt, kept);
     }
-    unread(rt, kept)
+    ask_for(rt, image, kept, byte(line, 1), byte(line, 2), byte(line, 3))
 }
 
+#[tactic(auto, unfolding(crate::specs::Log::asked_for))]
 fn ask_for(
     rt: HostRuntime,
     image: &[u8],
@@ -162,65 +134,50 @@ fn ask_for(
     ensures { result ≡ asked_for image.now kept address day slot }
 {
     let mut frame = [0u8; frame::layout::READ_BYTES];
-    let held = kept.held;
-    let asked = logger::put_ask(
-        console::part(image, kept.length),
-        held,
-        address,
-        day,
-        slot,
-        &mut frame,
-    );
-    let answer = asked.answer;
-    say_asked(rt, answer, &frame);
-    let after = asked.held;
+    let log = console::part(image, kept.length);
+    let asked = logger::put_ask(log, kept.held, address, day, slot, &mut frame);
+    say_asked(rt, asked.answer, &frame);
     ConsoleLog {
-        length: kept.length,
-        held: after,
+        held: asked.held,
+        ..kept
     }
 }
 
-fn say_asked(rt: HostRuntime, answer: AskAnswer, frame: &[u8]) {
-    let number = answer.number();
-    say::first(rt, number);
-    match answer {
-        AskAnswer::Done => say::hex(rt, frame),
-        AskAnswer::TooShort => {}
-        AskAnswer::Unsound => {}
-        AskAnswer::AlreadyOpen => {}
-        AskAnswer::NotInLog => {}
+fn say_asked(rt: HostRuntime, answer: Result<(), AskError>, frame: &[u8]) {
+    say::first(rt, answer.number());
+    if answer.is_ok() {
+        say::hex(rt, frame);
     }
-    say::end_of(rt, number);
+    say::end_of(rt, answer.number());
 }
 
+#[tactic(auto, unfolding(crate::specs::Log::lapse_line))]
 pub fn lapse(rt: HostRuntime, line: &[u8], image: &mut [u8], kept: ConsoleLog) -> ConsoleLog
     ensures { outcome result image.new ≡ lapse_line line.now image.old kept }
 {
-    if console::spaces(line) == 0 {
-        return lapse_of(rt, image, kept);
+    if console::spaces(line) != 0 {
+        return unread(rt, kept);
     }
-    unread(rt, kept)
+    lapse_of(rt, image, kept)
 }
 
+#[tactic(auto, unfolding(crate::specs::Log::lapse_of))]
 fn lapse_of(rt: HostRuntime, image: &mut [u8], kept: ConsoleLog) -> ConsoleLog
     ensures { outcome result image.new ≡ lapse_of image.old kept }
 {
-    let length = kept.length;
-    let held = kept.held;
-    if image.len() < length {
+    if image.len() < kept.length {
         return unread(rt, kept);
     }
-    let lapsed = logger::lapse(&mut image[..length], held);
-    let answer = lapsed.answer;
-    say::number_line(rt, answer.number());
-    let after = lapsed.held;
+    let lapsed = logger::lapse(&mut image[..kept.length], kept.held);
+    say::number_line(rt, lapsed.answer.number());
     ConsoleLog {
-        length: length,
-        held: after,
+        held: lapsed.held,
+        ..kept
     }
 }
 
 // BYTES, or none
+#[tactic(auto, unfolding(crate::specs::Log::reply_line, crate::specs::Log::reply_in))]
 pub fn reply(
     rt: HostRuntime,
     line: &[u8],
@@ -233,11 +190,12 @@ pub fn reply(
 {
     let mut bytes = [0u8; 2048];
     match crate::reads::reply_bytes(line, 1, &mut bytes) {
-        BytesAnswer::Bytes(n) => reply_of(rt, console::part(&bytes, n), image, figures, kept),
-        BytesAnswer::Unread => unread(rt, kept),
+        Some(n) => reply_of(rt, console::part(&bytes, n), image, figures, kept),
+        None => unread(rt, kept),
     }
 }
 
+#[tactic(auto, unfolding(crate::specs::Log::reply_of))]
 fn reply_of(
     rt: HostRuntime,
     bytes: &[u8],
@@ -248,49 +206,39 @@ fn reply_of(
     ensures { outcome result (log_and_rows image.new figures.new)
         ≡ reply_of bytes.now (log_and_rows image.old figures.old) kept }
 {
-    let length = kept.length;
-    let held = kept.held;
-    if image.len() < length {
+    if image.len() < kept.length {
         return unread(rt, kept);
     }
-    let taken = logger::take_reply(&mut image[..length], figures, held, bytes);
-    let answer = taken.answer;
-    say_taken(rt, answer);
-    let after = taken.held;
+    let taken = logger::take_reply(&mut image[..kept.length], figures, kept.held, bytes);
+    say_taken(rt, taken.answer);
     ConsoleLog {
-        length: length,
-        held: after,
+        held: taken.held,
+        ..kept
     }
 }
 
-fn say_taken(rt: HostRuntime, answer: TakeAnswer) {
-    let number = answer.number();
-    say::first(rt, number);
+fn say_taken(rt: HostRuntime, answer: Result<(), TakeError>) {
+    say::first(rt, answer.number());
     match answer {
-        TakeAnswer::Done => {}
-        TakeAnswer::TooShort => {}
-        TakeAnswer::NoAskOpen => {}
-        TakeAnswer::NotInLog => {}
-        TakeAnswer::Malformed(fault) => crate::reads::say_fault(rt, fault),
-        TakeAnswer::MeterRefused(result) => say::number(rt, result as u64),
-        TakeAnswer::OtherCounts => {}
-        TakeAnswer::Unsound => {}
+        Err(TakeError::Malformed(fault)) => crate::reads::say_fault(rt, fault),
+        Err(TakeError::MeterRefused(result)) => say::number(rt, u64::from(result)),
+        _ => {}
     }
-    say::end_of(rt, number);
+    say::end_of(rt, answer.number());
 }
 
-pub fn open_ask(rt: HostRuntime, line: &[u8], held: OpenAsk) {
+pub fn open_ask(rt: HostRuntime, line: &[u8], held: Option<OpenAsk>) {
     if console::spaces(line) != 0 {
         say::unread(rt);
         return;
     }
     say::first(rt, refusal::DONE);
     match held {
-        OpenAsk::Closed => say::put(rt, b" closed"),
-        OpenAsk::Open(address, day, slot) => {
-            say::number(rt, address as u64);
-            say::number(rt, day as u64);
-            say::number(rt, slot as u64);
+        None => say::put(rt, b" closed"),
+        Some(OpenAsk { address, day, slot }) => {
+            say::number(rt, u64::from(address));
+            say::number(rt, u64::from(day));
+            say::number(rt, u64::from(slot));
         }
     }
     say::end(rt);
@@ -306,36 +254,30 @@ pub fn cell(rt: HostRuntime, line: &[u8], image: &[u8]) {
 }
 
 fn cell_of(rt: HostRuntime, image: &[u8], day: u8, slot: u8) {
-    match log_header::sound(image) {
-        LogHeader::Sound(h) => match log_header::interval_of(h, day, slot) {
-            Interval::At(i) => say_cell(
-                rt,
-                energy_log::cell_at(image, i),
-                energy_log::lapses_at(image, i),
-            ),
-            Interval::Outside => say::number_line(rt, refusal::NOT_IN_LOG),
-        },
-        LogHeader::Unsound => say::number_line(rt, refusal::UNSOUND),
-    }
+    let Some(h) = log_header::sound(image) else {
+        return say::number_line(rt, refusal::UNSOUND);
+    };
+    let Some(i) = log_header::interval_of(h, day, slot) else {
+        return say::number_line(rt, refusal::NOT_IN_LOG);
+    };
+    let Some(c) = energy_log::cell_at(image, i) else {
+        return say::number_line(rt, refusal::UNSOUND);
+    };
+    say_cell(rt, c, energy_log::lapses_at(image, i));
 }
 
-fn say_cell(rt: HostRuntime, answer: CellAnswer, lapses: u8) {
-    match answer {
-        CellAnswer::Good(c) => {
-            say::first(rt, refusal::DONE);
-            match c {
-                Cell::Gap => say::put(rt, b" gap"),
-                Cell::Empty => say::put(rt, b" empty"),
-                Cell::Measured(ep, em, rp, rm) => {
-                    say::put(rt, b" measured");
-                    say::four_counts(rt, ep, em, rp, rm);
-                }
-            }
-            say::number(rt, lapses as u64);
-            say::end(rt);
+fn say_cell(rt: HostRuntime, c: Cell, lapses: u8) {
+    say::first(rt, refusal::DONE);
+    match c {
+        Cell::Gap => say::put(rt, b" gap"),
+        Cell::Empty => say::put(rt, b" empty"),
+        Cell::Measured(ep, em, rp, rm) => {
+            say::put(rt, b" measured");
+            say::four_counts(rt, ep, em, rp, rm);
         }
-        CellAnswer::Bad => say::number_line(rt, refusal::UNSOUND),
     }
+    say::number(rt, u64::from(lapses));
+    say::end(rt);
 }
 
 // DAY
@@ -350,24 +292,11 @@ pub fn report(rt: HostRuntime, line: &[u8], image: &[u8], figures: &[u32]) {
 fn report_of(rt: HostRuntime, image: &[u8], figures: &[u32], day: u8) {
     let mut row = [0u32; day_rows::REPORT_NUMBERS];
     let answer = day_report::day_report(image, figures, day, &mut row);
-    let number = answer.number();
-    say::first(rt, number);
-    match answer {
-        ReportAnswer::Done => say_row(rt, row),
-        ReportAnswer::TooShort => {}
-        ReportAnswer::Unsound => {}
-        ReportAnswer::NotInLog => {}
+    say::first(rt, answer.number());
+    if answer.is_ok() {
+        for figure in row {
+            say::number(rt, u64::from(figure));
+        }
     }
-    say::end_of(rt, number);
-}
-
-fn say_row(rt: HostRuntime, row: [u32; day_rows::REPORT_NUMBERS]) {
-    say::number(rt, row[0] as u64);
-    say::number(rt, row[1] as u64);
-    say::number(rt, row[2] as u64);
-    say::number(rt, row[3] as u64);
-    say::number(rt, row[4] as u64);
-    say::number(rt, row[5] as u64);
-    say::number(rt, row[6] as u64);
-    say::number(rt, row[7] as u64);
+    say::end_of(rt, answer.number());
 }

@@ -3,27 +3,23 @@ ghost use Rattle.std.specs.Prelude.{◌≡◌};
 ghost use Rattle.refusal.specs.Outcome.{outcome};
 ghost use Rattle.console_log.specs.Words.{reply_read, request_in};
 
-use console::{BYTE, BytesAnswer, byte};
+use console::{BYTE, byte};
 use console_io::say;
 use parameters::code::Reading;
-use reader::{Decoded, Fault};
-use request::{Request, RequestAnswer};
-use wire_values::Energies;
+use reader::{DecodeError, Decoded, Fault};
+use refusal::Numbered;
+use request::Request;
 
 // The reply of a line whose words before it are so many: none where it ends there.
-pub fn reply_bytes(line: &[u8], before: usize, bytes: &mut [u8]) -> BytesAnswer
+#[tactic(auto, unfolding(crate::specs::Words::reply_read))]
+pub fn reply_bytes(line: &[u8], before: usize, bytes: &mut [u8]) -> Option<usize>
     ensures { outcome result bytes.new ≡ reply_read line.now before bytes.old }
 {
-    let last = console::spaces(line);
-    if last == before {
-        return console::read_bytes(console::word(line, before), bytes);
+    match before.checked_sub(console::spaces(line)) {
+        Some(0) => console::read_bytes(console::word(line, before), bytes),
+        Some(1) => Some(0),
+        _ => None,
     }
-    if last < before {
-        if before - last == 1 {
-            return BytesAnswer::Bytes(0);
-        }
-    }
-    BytesAnswer::Unread
 }
 
 // ADDRESS PARAMETER OFFSET TARIFF DETAIL
@@ -31,7 +27,7 @@ pub fn request_in(reading: Reading, line: &[u8]) -> Request
     ensures { result ≡ request_in reading line.now }
 {
     Request {
-        reading: reading,
+        reading,
         address: byte(line, 1),
         parameter: byte(line, 2),
         offset: byte(line, 3),
@@ -51,22 +47,19 @@ pub fn request(rt: HostRuntime, reading: Reading, line: &[u8]) {
 fn request_of(rt: HostRuntime, q: Request) {
     let mut frame = [0u8; frame::layout::READ_BYTES];
     let answer = request::put_request(q, &mut frame);
-    let number = answer.number();
-    say::first(rt, number);
-    match answer {
-        RequestAnswer::Done => say::hex(rt, &frame),
-        RequestAnswer::TooShort => {}
-        RequestAnswer::OutOfRange => {}
+    say::first(rt, answer.number());
+    if answer.is_ok() {
+        say::hex(rt, &frame);
     }
-    say::end_of(rt, number);
+    say::end_of(rt, answer.number());
 }
 
 // A request's five numbers, and BYTES, or none.
 pub fn decode(rt: HostRuntime, reading: Reading, line: &[u8]) {
     let mut bytes = [0u8; 2048];
     match reply_bytes(line, 6, &mut bytes) {
-        BytesAnswer::Bytes(n) => decode_from(rt, reading, line, console::part(&bytes, n)),
-        BytesAnswer::Unread => say::unread(rt),
+        Some(n) => decode_from(rt, reading, line, console::part(&bytes, n)),
+        None => say::unread(rt),
     }
 }
 
@@ -86,17 +79,22 @@ fn decode_of(rt: HostRuntime, q: Request, reply: &[u8]) {
     say::end_of(rt, number);
 }
 
-pub fn say_figures(rt: HostRuntime, decoded: Decoded, reply: &[u8]) {
+pub fn say_figures(rt: HostRuntime, decoded: Result<Decoded, DecodeError>, reply: &[u8]) {
     match decoded {
-        Decoded::OutOfRange => {}
-        Decoded::Malformed(fault) => say_fault(rt, fault),
-        Decoded::MeterRefused(result) => say::number(rt, result as u64),
-        Decoded::NotFinite => {}
-        Decoded::Address(address) => say::number(rt, address as u64),
+        Ok(figures) => say_decoded(rt, figures, reply),
+        Err(DecodeError::Malformed(fault)) => say_fault(rt, fault),
+        Err(DecodeError::MeterRefused(result)) => say::number(rt, u64::from(result)),
+        Err(_) => {}
+    }
+}
+
+fn say_decoded(rt: HostRuntime, figures: Decoded, reply: &[u8]) {
+    match figures {
+        Decoded::Address(address) => say::number(rt, u64::from(address)),
         Decoded::Telemetry(t) => {
-            say::number(rt, t.k as u64);
-            say::number(rt, t.ke as u64);
-            say::number(rt, t.reserve as u64);
+            say::number(rt, u64::from(t.k));
+            say::number(rt, u64::from(t.ke));
+            say::number(rt, u64::from(t.reserve));
         }
         Decoded::DateTime(t) => {
             let mut bytes = [0u8; 6];
@@ -109,55 +107,32 @@ pub fn say_figures(rt: HostRuntime, decoded: Decoded, reply: &[u8]) {
             say::six_bytes(rt, bytes);
         }
         Decoded::Powers(p) => {
-            let phases = p.phases;
-            say::float(rt, p.total);
-            say::float(rt, phases.a);
-            say::float(rt, phases.b);
-            say::float(rt, phases.c);
+            for power in [p.total, p.phases.a, p.phases.b, p.phases.c] {
+                say::float(rt, power);
+            }
         }
         Decoded::OnePower(x) => say::float(rt, x),
         Decoded::Slice(c) => {
-            say::number(rt, c.e_plus as u64);
-            say::number(rt, c.e_minus as u64);
-            say::number(rt, c.r_plus as u64);
-            say::number(rt, c.r_minus as u64);
+            for energy in [c.e_plus, c.e_minus, c.r_plus, c.r_minus] {
+                say::number(rt, u64::from(energy));
+            }
         }
-        Decoded::SixSlices => say_rows(rt, reader::six_slices(reply)),
-        Decoded::Displayed(e) => say_energies(rt, e),
+        Decoded::SixSlices => {
+            for [ep, em, rp, rm] in reader::six_slices(reply) {
+                say::four_counts(rt, ep, em, rp, rm);
+            }
+        }
+        Decoded::Displayed(e) => {
+            for energy in [e.e_plus, e.e_minus, e.r_plus, e.r_minus] {
+                say::float_bits(rt, energy.0);
+            }
+        }
     }
-}
-
-fn say_energies(rt: HostRuntime, e: Energies) {
-    let e_plus = e.e_plus;
-    let e_minus = e.e_minus;
-    let r_plus = e.r_plus;
-    let r_minus = e.r_minus;
-    say::float_bits(rt, e_plus.0);
-    say::float_bits(rt, e_minus.0);
-    say::float_bits(rt, r_plus.0);
-    say::float_bits(rt, r_minus.0);
 }
 
 // The length received, which a 50 comes with.
 pub fn say_fault(rt: HostRuntime, fault: Fault) {
-    match fault {
-        Fault::Length(n) => say::number(rt, n as u64),
-        Fault::Crc => {}
-        Fault::Address => {}
-        Fault::Function => {}
-        Fault::Parameter => {}
+    if let Fault::Length(n) = fault {
+        say::number(rt, n as u64);
     }
-}
-
-fn say_rows(rt: HostRuntime, six: [[u16; 4]; 6]) {
-    say_row(rt, six[0]);
-    say_row(rt, six[1]);
-    say_row(rt, six[2]);
-    say_row(rt, six[3]);
-    say_row(rt, six[4]);
-    say_row(rt, six[5]);
-}
-
-fn say_row(rt: HostRuntime, counts: [u16; 4]) {
-    say::four_counts(rt, counts[0], counts[1], counts[2], counts[3]);
 }

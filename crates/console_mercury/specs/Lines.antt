@@ -1,26 +1,22 @@
 -- What a line about the Mercury 206 makes of the bench's meter and of an output for frames, and what it is answered. Source: the console's page,
 -- "Mercury 206"; what a call answers is document 02's, CR 1.
-use Rattle.std.specs.Prelude.{ℕ, Bool, cond, List, [], ◌∷◌, eqb, leb, replicate}
+use Rattle.std.specs.Prelude.{ℕ, Bool, cond, List, [], ◌∷◌, eqb, leb, replicate, Err, None, Ok, Option, Result, Some}
 use Rattle.refusal.specs.Outcome.{Outcome, outcome, check}
 use Rattle.text.specs.Ascii.{ascii}
 use Rattle.frame.specs.Layout.{longest}
 use Rattle.console.specs.Form.{place_of, are_numbers, is_form, byte_in, long_in}
 use Rattle.console.specs.Line.{part_of, spaces_in, word_at}
 use Rattle.console.specs.Value.{bytes_read}
-use Rattle.console.specs.declared.value.BytesAnswer.{BytesAnswer}
-use Rattle.console.specs.declared.value.BytesAnswer.TheVariants as bytes
 use Rattle.mercury.specs.Layout.{bare_size}
 use Rattle.mercury.specs.Reply.{decoded_of}
 use Rattle.mercury.specs.Request as request
-use Rattle.mercury.specs.declared.request.RequestAnswer.{RequestAnswer}
-use Rattle.mercury.specs.declared.request.RequestAnswer.TheVariants as request-answer
 use Rattle.mercury_bench.specs.Reply as bench
 use Rattle.mercury_bench.specs.declared.meter.Meter.{Meter}
-use Rattle.mercury_bench.specs.declared.reply.Answered.{Answered}
-use Rattle.mercury_bench.specs.declared.reply.Answered.TheVariants as answered
+use Rattle.mercury_bench.specs.declared.reply.AnswerError.{AnswerError}
+use Rattle.mercury.specs.declared.request.RequestError.{RequestError}
 use Rattle.console_mercury.specs.Setting.{meter_line}
-use Rattle.console_mercury.specs.declared.setting.MeterLine.{MeterLine}
-use Rattle.console_mercury.specs.declared.setting.MeterLine.TheVariants as line
+use Rattle.console_mercury.specs.declared.setting.LineError.{LineError}
+use Rattle.console_mercury.specs.declared.setting.LineError.TheVariants as line
 use Rattle.console_mercury.specs.declared.answer.Answer.{Answer}
 use Rattle.console_mercury.specs.declared.answer.Answer.TheVariants.{Unread, Number, Frame, Told}
 use Rattle.console_mercury.specs.declared.answer.Called.{Called}
@@ -34,23 +30,21 @@ long = 4294967295
 
 -- ---- mercury-frame BYTES: "number and reply; silence: `40` alone"
 
-abbrev pub reply_length : Answered → ℕ
-reply_length (answered.Done n) = n
-reply_length answered.TooShort = 0
-reply_length answered.OutOfRange = 0
-reply_length (answered.Silent fault) = 0
+abbrev pub reply_length : Result ℕ AnswerError → ℕ
+reply_length (Ok n) = n
+reply_length (Err refusal) = 0
 
-abbrev pub replied : Outcome Answered (List ℕ) → Outcome Answer (List ℕ)
+abbrev pub replied : Outcome (Result ℕ AnswerError) (List ℕ) → Outcome Answer (List ℕ)
 replied o = outcome (Frame (bench.number_of o.result) (reply_length o.result)) o.left
 
 unfoldable pub frame_of : Meter → List ℕ → List ℕ → Outcome Answer (List ℕ)
 frame_of m f out = replied (bench.answered m f out)
 
 -- the bytes that were read are so many of a buffer's first
-unfoldable pub frame_in : BytesAnswer → List ℕ → Meter → List ℕ → Outcome Answer (List ℕ)
+unfoldable pub frame_in : Option ℕ → List ℕ → Meter → List ℕ → Outcome Answer (List ℕ)
 unfolding frame_of
-frame_in (bytes.Bytes n) buffer m out = frame_of m (part_of n buffer) out
-frame_in bytes.Unread buffer m out = outcome Unread out
+frame_in (Some n) buffer m out = frame_of m (part_of n buffer) out
+frame_in None buffer m out = outcome Unread out
 
 unfoldable pub frame_line : Meter → List ℕ → List ℕ → Outcome Answer (List ℕ)
 unfolding frame_in
@@ -60,12 +54,11 @@ frame_line m line out =
 
 -- ---- mercury-ask ADDRESS COMMAND: "a request's frame"
 
-abbrev pub request_length : RequestAnswer → ℕ
-request_length request-answer.Done = bare_size
-request_length request-answer.TooShort = 0
-request_length request-answer.UnknownCommand = 0
+abbrev pub request_length : Result Unit RequestError → ℕ
+request_length (Ok done) = bare_size
+request_length (Err refusal) = 0
 
-abbrev pub asked : Outcome RequestAnswer (List ℕ) → Outcome Answer (List ℕ)
+abbrev pub asked : Outcome (Result Unit RequestError) (List ℕ) → Outcome Answer (List ℕ)
 asked o = outcome (Frame (request.number_of o.result) (request_length o.result)) o.left
 
 unfoldable pub ask_of : ℕ → ℕ → List ℕ → Outcome Answer (List ℕ)
@@ -80,9 +73,9 @@ ask_line line out = cond (is_form line (long ∷ byte ∷ [])) (ask_of (long_in 
 abbrev pub decoded_from : List ℕ → List ℕ → Answer
 decoded_from line reply = Told (decoded_of (long_in line 1) (byte_in line 2) reply)
 
-unfoldable pub decode_in : BytesAnswer → List ℕ → List ℕ → Answer
-decode_in (bytes.Bytes n) buffer line = decoded_from line (part_of n buffer)
-decode_in bytes.Unread buffer line = Unread
+unfoldable pub decode_in : Option ℕ → List ℕ → List ℕ → Answer
+decode_in (Some n) buffer line = decoded_from line (part_of n buffer)
+decode_in None buffer line = Unread
 
 unfoldable pub decode_bytes : List ℕ → Answer
 unfolding decode_in
@@ -106,10 +99,10 @@ abbrev pub is_named : List ℕ → Bool
 is_named line = leb (verb_of line) 3
 
 -- "27 for one above its digits, which keeps the ones before"
-abbrev pub setting_of : MeterLine → Meter → Called
-setting_of (line.Set after) m = record { answer = Number 0; after = after }
-setting_of line.OutOfRange m = record { answer = Number 27; after = m }
-setting_of line.Unread m = record { answer = Unread; after = m }
+abbrev pub setting_of : Result Meter LineError → Meter → Called
+setting_of (Ok after) m = record { answer = Number 0; after = after }
+setting_of (Err line.OutOfRange) m = record { answer = Number 27; after = m }
+setting_of (Err line.Unread) m = record { answer = Unread; after = m }
 
 -- what leaves the meter as it is
 unfoldable pub asked_by : ℕ → Meter → List ℕ → List ℕ → Outcome Answer (List ℕ)

@@ -1,21 +1,17 @@
 -- The line that sets the bench's Mercury 206. Source: the console's page: `mercury ADDRESS T1 T2 T3 T4 VOLTAGE CURRENT POWER FREQUENCY REST`, where
 -- VOLTAGE, CURRENT and FREQUENCY have 16 bits, the other numbers 32, and REST is 14 hex digits; 27 is a figure above its digits.
-use Rattle.std.specs.Prelude.{cond, List, [], ◌∷◌, ℕ, eqb, get_or}
+use Rattle.std.specs.Prelude.{cond, List, [], ◌∷◌, ℕ, eqb, get_or, Err, None, Ok, Option, Result, Some}
 use Rattle.refusal.specs.Outcome.{Outcome, check}
 use Rattle.console.specs.Form.{are_numbers, short_in, long_in}
 use Rattle.console.specs.Line.{spaces_in, word_at}
 use Rattle.console.specs.Value.{bytes_read}
-use Rattle.console.specs.declared.value.BytesAnswer.{BytesAnswer}
-use Rattle.console.specs.declared.value.BytesAnswer.TheVariants as bytes
 use Rattle.mercury.specs.declared.units.Load.{Load}
 use Rattle.mercury.specs.declared.units.Rest.{Rest}
 use Rattle.mercury.specs.declared.units.Tariffs.{Tariffs}
 use Rattle.mercury_bench.specs.Meter.{is_within}
 use Rattle.mercury_bench.specs.declared.meter.Meter.{Meter}
-use Rattle.console_mercury.specs.declared.setting.MeterLine.{MeterLine}
-use Rattle.console_mercury.specs.declared.setting.MeterLine.TheVariants.{Set, OutOfRange, Unread}
-use Rattle.console_mercury.specs.declared.setting.RestWord.{RestWord}
-use Rattle.console_mercury.specs.declared.setting.RestWord.TheVariants as word
+use Rattle.console_mercury.specs.declared.setting.LineError.{LineError}
+use Rattle.console_mercury.specs.declared.setting.LineError.TheVariants.{OutOfRange, Unread}
 
 -- "At first address 1234 and zeros"
 abbrev pub first_meter : Meter
@@ -27,10 +23,10 @@ first_meter = record {
 }
 
 -- the last word: seven bytes
-unfoldable pub rest_read : Outcome BytesAnswer (List ℕ) → BytesAnswer → RestWord
-rest_read o (bytes.Bytes n) =
+unfoldable pub rest_read : Outcome (Option ℕ) (List ℕ) → Option ℕ → Option Rest
+rest_read o (Some n) =
     cond (eqb n 7)
-    (word.Of (record {
+    (Some (record {
       0 = get_or o.left 0 0;
       1 = get_or o.left 1 0;
       2 = get_or o.left 2 0;
@@ -39,10 +35,10 @@ rest_read o (bytes.Bytes n) =
       5 = get_or o.left 5 0;
       6 = get_or o.left 6 0;
     }))
-    word.Unread
-rest_read o bytes.Unread = word.Unread
+    None
+rest_read o None = None
 
-unfoldable pub rest_in : List ℕ → RestWord
+unfoldable pub rest_in : List ℕ → Option Rest
 rest_in line = let o = bytes_read (word_at 10 line) (0 ∷ 0 ∷ 0 ∷ 0 ∷ 0 ∷ 0 ∷ 0 ∷ []) in rest_read o o.result
 
 abbrev pub tariffs_in : List ℕ → Tariffs
@@ -65,19 +61,19 @@ meter_in line rest = record {
 }
 
 -- 27 for a figure above its digits
-unfoldable pub checked : Meter → MeterLine
-checked m = cond (is_within m) (Set m) OutOfRange
+unfoldable pub checked : Meter → Result Meter LineError
+checked m = cond (is_within m) (Ok m) (Err OutOfRange)
 
-unfoldable pub with_rest : List ℕ → RestWord → MeterLine
-with_rest line (word.Of rest) = checked (meter_in line rest)
-with_rest line word.Unread = Unread
+unfoldable pub with_rest : List ℕ → Option Rest → Result Meter LineError
+with_rest line (Some rest) = checked (meter_in line rest)
+with_rest line None = Err Unread
 
 -- the largest number of each place
 abbrev pub most : List ℕ
 most = 4294967295 ∷ 4294967295 ∷ 4294967295 ∷ 4294967295 ∷ 4294967295 ∷ 65535 ∷ 65535 ∷ 4294967295 ∷ 65535 ∷ []
 
-unfoldable pub meter_line : List ℕ → MeterLine
+unfoldable pub meter_line : List ℕ → Result Meter LineError
 meter_line line =
-    check (eqb (spaces_in line) 10) Unread (
-    check (are_numbers line 1 most) Unread (
+    check (eqb (spaces_in line) 10) (Err Unread) (
+    check (are_numbers line 1 most) (Err Unread) (
     with_rest line (rest_in line)))

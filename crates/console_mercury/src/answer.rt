@@ -1,5 +1,5 @@
 // What a line about the Mercury 206 comes to.
-use mercury::Decoded;
+use mercury::{DecodeError, Decoded};
 use mercury_bench::Meter;
 
 #[derive(Clone, Copy)]
@@ -11,7 +11,7 @@ pub enum Answer {
     // A number, and how many bytes of the output are the frame: none where there is none.
     Frame(u8, usize),
     // What a reply tells.
-    Told(Decoded),
+    Told(Result<Decoded, DecodeError>),
 }
 
 // The answer, and the bench's meter that stands after the line.

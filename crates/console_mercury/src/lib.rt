@@ -10,5 +10,5 @@ mod verbs;
 
 pub use answer::{Answer, Called};
 pub use printed::print;
-pub use setting::{MeterLine, first, set};
+pub use setting::{LineError, first, set};
 pub use verbs::{called, is_named};

@@ -1,26 +1,19 @@
 // `mercury`: the figures of the bench's meter.
 ghost use Rattle.std.specs.Prelude.{◌≡◌};
-ghost use Rattle.console_mercury.specs.Setting.{first_meter, rest_in, tariffs_in, load_in, meter_in, checked, with_rest, meter_line};
+ghost use Rattle.console_mercury.specs.Setting.{first_meter, rest_in, tariffs_in, load_in, meter_in, meter_line};
 
-use console::{BytesAnswer, LONG, SHORT, long, short};
+use console::{LONG, SHORT, long, short};
 use mercury::units::{
     HundredthsOfAmpere, HundredthsOfHertz, Rest, TensOfWattHours, TenthsOfVolt, Watts,
 };
 use mercury::{Frequency, Load, Tariffs};
 use mercury_bench::Meter;
 
-#[derive(Clone, Copy)]
-pub enum MeterLine {
-    Set(Meter),
+#[derive(Clone, Copy, PartialEq, Eq)]
+pub enum LineError {
     // A figure above its digits.
     OutOfRange,
     // No line of the console's.
-    Unread,
-}
-
-#[derive(Clone, Copy)]
-enum RestWord {
-    Of(Rest),
     Unread,
 }
 
@@ -56,35 +49,19 @@ pub fn first() -> Meter
     }
 }
 
-pub fn set(line: &[u8]) -> MeterLine
+#[tactic(auto, unfolding(crate::specs::Setting::meter_line, crate::specs::Setting::with_rest, crate::specs::Setting::checked))]
+pub fn set(line: &[u8]) -> Result<Meter, LineError>
     ensures { result ≡ meter_line line.now }
 {
-    if console::spaces(line) != WORDS {
-        return MeterLine::Unread;
-    }
     let most = [LONG, LONG, LONG, LONG, LONG, SHORT, SHORT, LONG, SHORT];
-    if console::are_numbers(line, &most) {
-        return with_rest(line, rest_word(line));
+    if console::spaces(line) != WORDS || !console::are_numbers(line, &most) {
+        return Err(LineError::Unread);
     }
-    MeterLine::Unread
-}
-
-fn with_rest(line: &[u8], word: RestWord) -> MeterLine
-    ensures { result ≡ with_rest line.now word }
-{
-    match word {
-        RestWord::Of(rest) => checked(meter_in(line, rest)),
-        RestWord::Unread => MeterLine::Unread,
+    let meter = meter_in(line, rest_word(line).ok_or(LineError::Unread)?);
+    if !mercury_bench::is_within(meter) {
+        return Err(LineError::OutOfRange);
     }
-}
-
-fn checked(m: Meter) -> MeterLine
-    ensures { result ≡ checked m }
-{
-    if mercury_bench::is_within(m) {
-        return MeterLine::Set(m);
-    }
-    MeterLine::OutOfRange
+    Ok(meter)
 }
 
 fn meter_in(line: &[u8], rest: Rest) -> Meter
@@ -96,7 +73,7 @@ fn meter_in(line: &[u8], rest: Rest) -> Meter
         load: load_in(line),
         frequency: Frequency {
             frequency: HundredthsOfHertz(short(line, 9)),
-            rest: rest,
+            rest,
         },
     }
 }
@@ -122,18 +99,13 @@ fn load_in(line: &[u8]) -> Load
     }
 }
 
-fn rest_word(line: &[u8]) -> RestWord
+#[tactic(auto, unfolding(crate::specs::Setting::rest_in, crate::specs::Setting::rest_read))]
+fn rest_word(line: &[u8]) -> Option<Rest>
     ensures { result ≡ rest_in line.now }
 {
     let mut b = [0u8; REST_BYTES];
-    match console::read_bytes(console::word(line, REST), &mut b) {
-        BytesAnswer::Bytes(n) => {
-            if n == REST_BYTES {
-                RestWord::Of(Rest(b[0], b[1], b[2], b[3], b[4], b[5], b[6]))
-            } else {
-                RestWord::Unread
-            }
-        }
-        BytesAnswer::Unread => RestWord::Unread,
+    if console::read_bytes(console::word(line, REST), &mut b)? != REST_BYTES {
+        return None;
     }
+    Some(Rest(b[0], b[1], b[2], b[3], b[4], b[5], b[6]))
 }

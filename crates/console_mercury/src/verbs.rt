@@ -5,7 +5,7 @@ ghost use Rattle.console_mercury.specs.Lines.{verb_of, is_named, setting_of, ask
 
 use crate::answer::{Answer, Called};
 use crate::lines;
-use crate::setting::{MeterLine, set};
+use crate::setting::{LineError, set};
 use mercury_bench::Meter;
 
 const METER: usize = 0;
@@ -16,6 +16,7 @@ const ASK: usize = 2;
 
 const DECODE: usize = 3;
 
+#[tactic(auto, unfolding(crate::specs::Lines::verb_of, text::specs::Ascii::ascii))]
 fn verb_of(line: &[u8]) -> usize
     ensures { result ≡ verb_of line.now }
 {
@@ -33,6 +34,7 @@ pub fn is_named(line: &[u8]) -> bool
 }
 
 // Takes the bench's meter, and gives the one that stands after the line; frames go to the front of the output.
+#[tactic(auto, unfolding(crate::specs::Lines::called_line))]
 pub fn called(line: &[u8], m: Meter, out: &mut [u8]) -> Called
     ensures { outcome result out.new ≡ called_line m line.now out.old }
 {
@@ -47,6 +49,7 @@ pub fn called(line: &[u8], m: Meter, out: &mut [u8]) -> Called
 }
 
 // What leaves the meter as it is.
+#[tactic(auto, unfolding(crate::specs::Lines::asked_by))]
 fn asked(verb: usize, line: &[u8], m: Meter, out: &mut [u8]) -> Answer
     ensures { outcome result out.new ≡ asked_by verb m line.now out.old }
 {
@@ -59,19 +62,19 @@ fn asked(verb: usize, line: &[u8], m: Meter, out: &mut [u8]) -> Answer
 }
 
 // One that is refused or not read keeps the meter.
-fn setting(line: MeterLine, m: Meter) -> Called
+fn setting(line: Result<Meter, LineError>, m: Meter) -> Called
     ensures { result ≡ setting_of line m }
 {
     match line {
-        MeterLine::Set(after) => Called {
+        Ok(after) => Called {
             answer: Answer::Number(refusal::DONE),
-            after: after,
+            after,
         },
-        MeterLine::OutOfRange => Called {
+        Err(LineError::OutOfRange) => Called {
             answer: Answer::Number(refusal::OUT_OF_RANGE),
             after: m,
         },
-        MeterLine::Unread => Called {
+        Err(LineError::Unread) => Called {
             answer: Answer::Unread,
             after: m,
         },

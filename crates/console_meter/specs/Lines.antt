@@ -1,6 +1,6 @@
 -- What a line of the bench meter makes of record, store and output, and what it is answered. Source: the console's page, "Bench meter"; what a call
 -- answers is document 01's.
-use Rattle.std.specs.Prelude.{ℕ, cond, List, [], ◌∷◌, eqb, replicate}
+use Rattle.std.specs.Prelude.{ℕ, cond, List, [], ◌∷◌, eqb, replicate, None, Option, Some}
 use Rattle.refusal.specs.Outcome.{Outcome, outcome, check}
 use Rattle.text.specs.Ascii.{ascii}
 use Rattle.frame.specs.Layout.{longest}
@@ -14,11 +14,7 @@ use Rattle.meter_round_trip.specs.Inquiry as inquiry
 use Rattle.console.specs.Form.{place_of, is_form}
 use Rattle.console.specs.Line.{part_of, spaces_in, word_at}
 use Rattle.console.specs.Value.{bytes_read}
-use Rattle.console.specs.declared.value.BytesAnswer.{BytesAnswer}
-use Rattle.console.specs.declared.value.BytesAnswer.TheVariants as bytes
-use Rattle.console_meter.specs.SetLines.{record_after, byte, set_line}
-use Rattle.console_meter.specs.declared.set_answer.LineAnswer.{LineAnswer}
-use Rattle.console_meter.specs.declared.set_answer.LineAnswer.TheVariants as line-answer
+use Rattle.console_meter.specs.SetLines.{LineAnswer, record_after, byte, set_line}
 use Rattle.console_log.specs.Words.{request_in}
 use Rattle.console_meter.specs.declared.answer.Answer.{Answer}
 use Rattle.console_meter.specs.declared.answer.Answer.TheVariants.{Unread, Number, Reply, Recorded, Shown, Inquired}
@@ -42,8 +38,8 @@ unread r = called Unread r
 -- ---- meter, power, slice, second, ratio: the number, and the record that stands after it
 
 unfoldable pub set_answered : Record → LineAnswer → Called
-set_answered r (line-answer.Answered a) = called (Number (record_of.number_of a)) (record_after a r)
-set_answered r line-answer.Unread = unread r
+set_answered r (Some a) = called (Number (record_of.number_of a)) (record_after a r)
+set_answered r None = unread r
 
 abbrev pub set_of : Record → Outcome LineAnswer (List ℕ) → Outcome Called (List ℕ)
 set_of r o = outcome (set_answered r o.result) o.left
@@ -62,10 +58,10 @@ unfoldable pub frame_of : Record → List ℕ → List ℕ → List ℕ → Outc
 frame_of r f s out = replied (meter.answer_of r s f out)
 
 -- the bytes that were read are so many of a buffer's first
-unfoldable pub frame_in : BytesAnswer → List ℕ → Record → List ℕ → List ℕ → Outcome Called Left
+unfoldable pub frame_in : Option ℕ → List ℕ → Record → List ℕ → List ℕ → Outcome Called Left
 unfolding frame_of
-frame_in (bytes.Bytes n) buffer r s out = frame_of r (part_of n buffer) s out
-frame_in bytes.Unread buffer r s out = outcome (unread r) (left s out)
+frame_in (Some n) buffer r s out = frame_of r (part_of n buffer) s out
+frame_in None buffer r s out = outcome (unread r) (left s out)
 
 unfoldable pub frame_line : Record → List ℕ → List ℕ → List ℕ → Outcome Called Left
 unfolding frame_in

@@ -1,6 +1,7 @@
 // What a line of the bench meter comes to.
 use meter_record::Record;
-use meter_round_trip::Inquired;
+use meter_round_trip::InquiryError;
+use reader::Decoded;
 
 #[derive(Clone, Copy)]
 pub enum Answer {
@@ -15,7 +16,7 @@ pub enum Answer {
     // What its display shows.
     Shown,
     // What the reader says of the meter's own reply, which stands in the output.
-    Inquired(Inquired),
+    Inquired(Result<Decoded, InquiryError>),
 }
 
 // The answer, and the record that stands after the line.

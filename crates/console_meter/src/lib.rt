@@ -18,5 +18,5 @@ pub use making::first;
 pub use meters::called;
 pub use printed::print;
 pub use seconds::{seconds_between, seconds_later};
-pub use set_answer::{LineAnswer, record_after};
+pub use set_answer::record_after;
 pub use set_lines::set;

@@ -1,14 +1,12 @@
 // `meter`: a new meter.
 ghost use Rattle.std.specs.Prelude.{◌≡◌};
 ghost use Rattle.refusal.specs.Outcome.{outcome};
-ghost use Rattle.console.specs.Form.{short_in, year_of};
-ghost use Rattle.console_meter.specs.SetLines.{first_meter, telemetry_in, clock_in, made_in, made_from, meter_line, is_done};
+ghost use Rattle.console_meter.specs.SetLines.{first_meter, telemetry_in, clock_in, made_in, made_from, meter_line};
 
-use crate::set_answer::LineAnswer;
 use calendar::{Date, DateTime};
-use console::{BYTE, LONG, SHORT, YearAnswer, byte};
+use console::{BYTE, LONG, SHORT, byte};
 use meter_clock::Season;
-use meter_record::RecordAnswer;
+use meter_record::{Record, RecordError};
 use wire_values::Telemetry;
 
 const WINTER: u8 = 0;
@@ -16,7 +14,7 @@ const WINTER: u8 = 0;
 const SUMMER: u8 = 1;
 
 // The console's first meter, which `meter 1 30 400 100 0 2000 1 1 0 0 0 0` makes.
-pub fn first() -> RecordAnswer
+pub fn first() -> Result<Record, RecordError>
     ensures { result ≡ first_meter }
 {
     let telemetry = Telemetry {
@@ -24,13 +22,12 @@ pub fn first() -> RecordAnswer
         ke: 100,
         reserve: 0,
     };
-    let date = Date {
-        year: 0,
-        month: 1,
-        day: 1,
-    };
     let clock = DateTime {
-        date: date,
+        date: Date {
+            year: 0,
+            month: 1,
+            day: 1,
+        },
         hour: 0,
         minute: 0,
         second: 0,
@@ -39,37 +36,37 @@ pub fn first() -> RecordAnswer
 }
 
 // ADDRESS MINUTES K KE RESERVE YEAR MONTH DAY HOUR MINUTE SECOND SEASON; a new meter has an empty store.
-pub fn meter(line: &[u8], store: &mut [u8]) -> LineAnswer
+#[tactic(auto, unfolding(crate::specs::SetLines::meter_line, crate::specs::SetLines::new_meter))]
+pub fn meter(line: &[u8], store: &mut [u8]) -> Option<Result<Record, RecordError>>
     ensures { outcome result store.new ≡ meter_line line.now store.old }
 {
     let form = [
         BYTE, BYTE, LONG, SHORT, SHORT, SHORT, BYTE, BYTE, BYTE, BYTE, BYTE, BYTE,
     ];
-    if console::is_form(line, &form) {
-        let answer = made_from(line, console::year(line, 6));
-        if is_done(answer) {
-            meter_store::clear(store);
-        }
-        return LineAnswer::Answered(answer);
+    if !console::is_form(line, &form) {
+        return None;
     }
-    LineAnswer::Unread
+    let made = made_from(line, console::year(line, 6));
+    if made.is_ok() {
+        meter_store::clear(store);
+    }
+    Some(made)
 }
 
-fn made_from(line: &[u8], year: YearAnswer) -> RecordAnswer
+#[tactic(auto, unfolding(crate::specs::SetLines::made_from))]
+fn made_from(line: &[u8], year: Option<u8>) -> Result<Record, RecordError>
     ensures { result ≡ made_from line.now year }
 {
-    let YearAnswer::Year(y) = year else {
-        return RecordAnswer::OutOfRange;
-    };
-    let season = byte(line, 12);
-    match season {
-        WINTER => made_in(line, y, Season::Winter),
-        SUMMER => made_in(line, y, Season::Summer),
-        _ => RecordAnswer::OutOfRange,
+    let year = year.ok_or(RecordError::OutOfRange)?;
+    match byte(line, 12) {
+        WINTER => made_in(line, year, Season::Winter),
+        SUMMER => made_in(line, year, Season::Summer),
+        _ => Err(RecordError::OutOfRange),
     }
 }
 
-fn made_in(line: &[u8], year: u8, season: Season) -> RecordAnswer
+#[tactic(auto, unfolding(crate::specs::SetLines::made_in))]
+fn made_in(line: &[u8], year: u8, season: Season) -> Result<Record, RecordError>
     ensures { result ≡ made_in line.now year season }
 {
     meter_record::make(
@@ -94,25 +91,14 @@ fn telemetry(line: &[u8]) -> Telemetry
 fn clock(line: &[u8], year: u8) -> DateTime
     ensures { result ≡ clock_in line.now year }
 {
-    let date = Date {
-        year: year,
-        month: byte(line, 7),
-        day: byte(line, 8),
-    };
     DateTime {
-        date: date,
+        date: Date {
+            year,
+            month: byte(line, 7),
+            day: byte(line, 8),
+        },
         hour: byte(line, 9),
         minute: byte(line, 10),
         second: byte(line, 11),
-    }
-}
-
-fn is_done(answer: RecordAnswer) -> bool
-    ensures { result ≡ is_done answer }
-{
-    match answer {
-        RecordAnswer::Done(_) => true,
-        RecordAnswer::OutOfRange => false,
-        RecordAnswer::Unsound => false,
     }
 }

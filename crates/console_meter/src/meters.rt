@@ -5,10 +5,11 @@ ghost use Rattle.console_meter.specs.SetLines.{set_line};
 ghost use Rattle.console_meter.specs.Lines.{left, unread, set_answered, set_of, alone, frame_of, frame_line, inquire_line, called_line};
 
 use crate::answer::{Answer, Called};
-use crate::set_answer::LineAnswer;
-use console::{BYTE, BytesAnswer};
-use meter_record::Record;
+use crate::set_answer::record_after;
+use console::BYTE;
+use meter_record::{Record, RecordError};
 use parameters::code::Reading;
+use refusal::Numbered;
 
 const FRAME: usize = 0;
 
@@ -20,6 +21,7 @@ const INQUIRE: usize = 3;
 
 const INQUIRE_DISPLAYED: usize = 4;
 
+#[tactic(auto, unfolding(crate::specs::Lines::called_line, crate::specs::Lines::called_by, text::specs::Ascii::ascii))]
 pub fn called(line: &[u8], store: &mut [u8], r: Record, out: &mut [u8]) -> Called
     ensures { outcome result (left store.new out.new) ≡ called_line r line.now store.old out.old }
 {
@@ -53,32 +55,32 @@ fn set(line: &[u8], store: &mut [u8], r: Record) -> Called
     set_of(crate::set_lines::set(line, store, r), r)
 }
 
-fn set_of(answer: LineAnswer, r: Record) -> Called
+#[tactic(auto, unfolding(crate::specs::Lines::set_answered))]
+fn set_of(answer: Option<Result<Record, RecordError>>, r: Record) -> Called
     ensures { result ≡ set_answered r answer }
 {
-    match answer {
-        LineAnswer::Answered(given) => Called {
-            answer: Answer::Number(given.number()),
-            after: crate::set_answer::record_after(given, r),
-        },
-        LineAnswer::Unread => unread(r),
+    let Some(given) = answer else {
+        return unread(r);
+    };
+    Called {
+        answer: Answer::Number(given.number()),
+        after: record_after(given, r),
     }
 }
 
 // No words behind the first.
+#[tactic(auto, unfolding(crate::specs::Lines::alone))]
 fn alone(line: &[u8], answer: Answer, r: Record) -> Called
     ensures { result ≡ alone line.now answer r }
 {
-    if console::spaces(line) == 0 {
-        return Called {
-            answer: answer,
-            after: r,
-        };
+    if console::spaces(line) != 0 {
+        return unread(r);
     }
-    unread(r)
+    Called { answer, after: r }
 }
 
 // BYTES
+#[tactic(auto, unfolding(crate::specs::Lines::frame_line, crate::specs::Lines::frame_in))]
 fn frame(line: &[u8], store: &mut [u8], r: Record, out: &mut [u8]) -> Called
     ensures { outcome result (left store.new out.new) ≡ frame_line r line.now store.old out.old }
 {
@@ -88,35 +90,34 @@ fn frame(line: &[u8], store: &mut [u8], r: Record, out: &mut [u8]) -> Called
     // As many as the longest line has.
     let mut bytes = [0u8; 2048];
     match console::read_bytes(console::word(line, 1), &mut bytes) {
-        BytesAnswer::Bytes(n) => frame_of(console::part(&bytes, n), store, r, out),
-        BytesAnswer::Unread => unread(r),
+        Some(n) => frame_of(console::part(&bytes, n), store, r, out),
+        None => unread(r),
     }
 }
 
+#[tactic(auto, unfolding(crate::specs::Lines::frame_of))]
 fn frame_of(bytes: &[u8], store: &mut [u8], r: Record, out: &mut [u8]) -> Called
     ensures { outcome result (left store.new out.new) ≡ frame_of r bytes.now store.old out.old }
 {
     let answer = meter::answer(r, store, bytes, out);
-    let verdict = answer.verdict;
-    let length = answer.length;
-    let after = answer.after;
     Called {
-        answer: Answer::Reply(verdict.number(), length),
-        after: after,
+        answer: Answer::Reply(answer.verdict.number(), answer.length),
+        after: answer.after,
     }
 }
 
 // A read request sent to the console's own meter: ADDRESS PARAMETER OFFSET TARIFF DETAIL
+#[tactic(auto, unfolding(crate::specs::Lines::inquire_line))]
 fn inquire(reading: Reading, line: &[u8], store: &mut [u8], r: Record, out: &mut [u8]) -> Called
     ensures { outcome result (left store.new out.new)
         ≡ inquire_line reading r line.now store.old out.old }
 {
-    if console::is_form(line, &[BYTE, BYTE, BYTE, BYTE, BYTE]) {
-        let told = meter_round_trip::inquire(r, store, console_log::request_in(reading, line), out);
-        return Called {
-            answer: Answer::Inquired(told),
-            after: r,
-        };
+    if !console::is_form(line, &[BYTE, BYTE, BYTE, BYTE, BYTE]) {
+        return unread(r);
     }
-    unread(r)
+    let told = meter_round_trip::inquire(r, store, console_log::request_in(reading, line), out);
+    Called {
+        answer: Answer::Inquired(told),
+        after: r,
+    }
 }

@@ -2,73 +2,59 @@
 use crate::answer::{Answer, Called};
 use console_io::say;
 use meter_clock::{Level, Protection, Season, Time};
-use meter_record::{Ratios, Record};
-use meter_round_trip::Inquired;
+use meter_record::Record;
+use meter_round_trip::InquiryError;
+use reader::Decoded;
+use refusal::Numbered;
 
 const FIRST_YEAR: u16 = 2000;
 
 // What a line came to, with the output that it was lent.
 pub fn print(rt: HostRuntime, called: Called, out: &[u8]) {
-    let answer = called.answer;
-    let after = called.after;
-    match answer {
+    match called.answer {
         Answer::Unread => say::unread(rt),
         Answer::Number(n) => say::number_line(rt, n),
-        Answer::Reply(n, length) => reply(rt, n, console::part(out, length)),
-        Answer::Recorded => record(rt, after),
-        Answer::Shown => shown(rt, after),
+        Answer::Reply(n, length) => say::bytes_line(rt, n, console::part(out, length)),
+        Answer::Recorded => record(rt, called.after),
+        Answer::Shown => shown(rt, called.after),
         Answer::Inquired(told) => inquired(rt, told, out),
     }
 }
 
 // A reply; none where the meter is silent.
-fn reply(rt: HostRuntime, number: u8, bytes: &[u8]) {
-    say::first(rt, number);
-    if 0 < bytes.len() {
-        say::hex(rt, bytes);
-    }
-    say::end_of(rt, number);
-}
-
 fn record(rt: HostRuntime, r: Record) {
     say::first(rt, refusal::DONE);
-    say::number(rt, r.address as u64);
+    say::number(rt, u64::from(r.address));
     protection(rt, r.protection);
     time(rt, r.time);
     say::short(rt, r.next);
-    ratios(rt, r.ratios);
+    say::number(rt, u64::from(r.ratios.ki));
+    say::number(rt, u64::from(r.ratios.ku));
     say::end(rt);
 }
 
-fn ratios(rt: HostRuntime, k: Ratios) {
-    say::number(rt, k.ki as u64);
-    say::number(rt, k.ku as u64);
-}
-
 fn protection(rt: HostRuntime, p: Protection) {
-    let level = p.level;
-    match level {
-        Level::Shut => say::number(rt, 0),
-        Level::Auxiliary => say::number(rt, 1),
-        Level::Main => say::number(rt, 2),
-    }
-    say::number(rt, p.left as u64);
+    let level = match p.level {
+        Level::Shut => 0,
+        Level::Auxiliary => 1,
+        Level::Main => 2,
+    };
+    say::number(rt, level);
+    say::number(rt, u64::from(p.left));
 }
 
 fn time(rt: HostRuntime, t: Time) {
     let clock = t.clock;
     let date = clock.date;
-    let season = t.season;
-    say::number(rt, (FIRST_YEAR + date.year as u16) as u64);
-    say::number(rt, date.month as u64);
-    say::number(rt, date.day as u64);
-    say::number(rt, clock.hour as u64);
-    say::number(rt, clock.minute as u64);
-    say::number(rt, clock.second as u64);
-    match season {
-        Season::Winter => say::number(rt, 0),
-        Season::Summer => say::number(rt, 1),
+    say::short(rt, FIRST_YEAR + u16::from(date.year));
+    for n in [date.month, date.day, clock.hour, clock.minute, clock.second] {
+        say::number(rt, u64::from(n));
     }
+    let season = match t.season {
+        Season::Winter => 0,
+        Season::Summer => 1,
+    };
+    say::number(rt, season);
 }
 
 // What the display shows, as the six bytes of a mask.
@@ -80,14 +66,12 @@ fn shown(rt: HostRuntime, r: Record) {
     say::end(rt);
 }
 
-fn inquired(rt: HostRuntime, told: Inquired, reply: &[u8]) {
-    let number = told.number();
-    say::first(rt, number);
+fn inquired(rt: HostRuntime, told: Result<Decoded, InquiryError>, reply: &[u8]) {
+    say::first(rt, told.number());
     match told {
-        Inquired::Told(decoded) => console_log::say_figures(rt, decoded, reply),
-        Inquired::TooShort => {}
-        Inquired::Unsound => {}
-        Inquired::Silent => {}
+        Ok(figures) => console_log::say_figures(rt, Ok(figures), reply),
+        Err(InquiryError::Undecoded(error)) => console_log::say_figures(rt, Err(error), reply),
+        Err(_) => {}
     }
-    say::end_of(rt, number);
+    say::end_of(rt, told.number());
 }

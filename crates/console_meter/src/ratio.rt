@@ -2,18 +2,18 @@
 ghost use Rattle.std.specs.Prelude.{◌≡◌};
 ghost use Rattle.console_meter.specs.SetLines.{ratios_in, ratio_line};
 
-use crate::set_answer::LineAnswer;
 use console::LONG;
-use meter_record::{Ratios, Record};
+use meter_record::{Ratios, Record, RecordError};
 
 // KI KU
-pub fn ratio(line: &[u8], r: Record) -> LineAnswer
+#[tactic(auto, unfolding(crate::specs::SetLines::ratio_line))]
+pub fn ratio(line: &[u8], r: Record) -> Option<Result<Record, RecordError>>
     ensures { result ≡ ratio_line r line.now }
 {
-    if console::is_form(line, &[LONG, LONG]) {
-        return LineAnswer::Answered(meter_record::set_ratios(r, ratios(line)));
+    if !console::is_form(line, &[LONG, LONG]) {
+        return None;
     }
-    LineAnswer::Unread
+    Some(meter_record::set_ratios(r, ratios(line)))
 }
 
 fn ratios(line: &[u8]) -> Ratios

@@ -2,20 +2,21 @@
 ghost use Rattle.std.specs.Prelude.{◌≡◌};
 ghost use Rattle.console_meter.specs.SetLines.{later_by, second_line, seconds_between};
 
-use crate::set_answer::{LineAnswer, record_after};
-use meter_record::{Record, RecordAnswer};
+use crate::set_answer::record_after;
+use meter_record::{Record, RecordError};
 
 // The most seconds of one line.
 const MOST_SECONDS: u64 = 100000000;
 
 // N
-pub fn second(line: &[u8], r: Record) -> LineAnswer
+#[tactic(auto, unfolding(crate::specs::SetLines::second_line))]
+pub fn second(line: &[u8], r: Record) -> Option<Result<Record, RecordError>>
     ensures { result ≡ second_line r line.now }
 {
-    if console::is_form(line, &[MOST_SECONDS]) {
-        return LineAnswer::Answered(RecordAnswer::Done(seconds_later(r, console::long(line, 1))));
+    if !console::is_form(line, &[MOST_SECONDS]) {
+        return None;
     }
-    LineAnswer::Unread
+    Some(Ok(seconds_later(r, console::long(line, 1))))
 }
 
 // The record when so many seconds have passed.
@@ -23,10 +24,8 @@ pub fn seconds_later(r: Record, n: u32) -> Record
     ensures { result ≡ later_by n r }
 {
     let mut after = r;
-    let mut left = n;
-    while 0 < left {
+    for passed in 0..n {
         after = record_after(meter_record::pass_second(after), after);
-        left -= 1;
     }
     after
 }
@@ -36,15 +35,9 @@ pub fn seconds_later(r: Record, n: u32) -> Record
 const MOST_CAUGHT_UP: u64 = 2592000;
 
 // How many seconds pass in the meter between two looks at a wall clock: none where it went back.
+#[tactic(auto, unfolding(crate::specs::SetLines::seconds_between))]
 pub fn seconds_between(last: u64, now: u64) -> u32
     ensures { result ≡ seconds_between last now }
 {
-    if now < last {
-        return 0;
-    }
-    let gone = now - last;
-    if gone < MOST_CAUGHT_UP {
-        return gone as u32;
-    }
-    MOST_CAUGHT_UP as u32
+    now.saturating_sub(last).min(MOST_CAUGHT_UP) as u32
 }

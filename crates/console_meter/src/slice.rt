@@ -3,20 +3,20 @@ ghost use Rattle.std.specs.Prelude.{◌≡◌};
 ghost use Rattle.refusal.specs.Outcome.{outcome};
 ghost use Rattle.console_meter.specs.SetLines.{key_in, counts_in, slice_line};
 
-use crate::set_answer::LineAnswer;
 use console::{BYTE, SHORT, byte, short};
-use meter_record::Record;
+use meter_record::{Record, RecordError};
 use slots::Key;
 
 // MONTH DAY NUMBER E+ E- R+ R-
-pub fn slice(line: &[u8], store: &mut [u8], r: Record) -> LineAnswer
+#[tactic(auto, unfolding(crate::specs::SetLines::slice_line, crate::specs::SetLines::put_in))]
+pub fn slice(line: &[u8], store: &mut [u8], r: Record) -> Option<Result<Record, RecordError>>
     ensures { outcome result store.new ≡ slice_line r line.now store.old }
 {
     let form = [BYTE, BYTE, BYTE, SHORT, SHORT, SHORT, SHORT];
-    if console::is_form(line, &form) {
-        return LineAnswer::Answered(meter::put_slice(r, store, key(line), counts(line)));
+    if !console::is_form(line, &form) {
+        return None;
     }
-    LineAnswer::Unread
+    Some(meter::put_slice(r, store, key(line), counts(line)))
 }
 
 fn key(line: &[u8]) -> Key

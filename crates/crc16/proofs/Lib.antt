@@ -3,3 +3,4 @@ pub mod Linear
 pub mod WordLaws
 pub mod Word
 pub mod Short
+pub mod Chunks

@@ -6,7 +6,7 @@
 // they are the same modulo P.
 #![tactic(auto)]
 
-ghost use Rattle.std.specs.Prelude.{◌≡◌, ◌≤◌, length, drop};
+ghost use Rattle.std.specs.Prelude.{◌≡◌, ◌≤◌, length};
 ghost use Rattle.byte_numbers.specs.Number.{number, bytes_of};
 ghost use Rattle.crc16.specs.Crc.{byte_step, crc_from, crc_of};
 ghost use Rattle.crc16.specs.Word.{register, pair_register, by_x64, by_x128, out_of_x128, below_x30, below_x15};
@@ -103,42 +103,38 @@ fn register_of(a: u64) -> u16
 {
     let b = below_x30(a);
     let c = below_x15(below_x15((b >> 1) ^ (b >> 2)));
-    (((c >> 48) as u32) ^ (u64::count_ones(a ^ c) % 2 * Q)) as u16
+    (((c >> 48) as u32) ^ ((a ^ c).count_ones() % 2 * Q)) as u16
 }
 
-// The bytes from a place on, one by one.
-fn by_bytes(start: u64, bytes: &[u8], at: usize) -> u16
-    ensures { result ≡ crc_from (register start) (drop at bytes.now) }
+// Some bytes, one by one.
+fn by_bytes(start: u64, bytes: &[u8]) -> u16
+    ensures { result ≡ crc_from (register start) bytes.now }
 {
     let mut a = start;
-    let mut i = at;
-    while i < bytes.len() {
-        a = byte_more(a, bytes[i]);
-        i += 1;
+    for &byte in bytes {
+        a = byte_more(a, byte);
     }
     register_of(a)
 }
 
-// The bytes from a place on, the first four of them at once.
-fn by_half(a: u64, bytes: &[u8], at: usize) -> u16
-    requires { at ≤ length bytes.now }
-    ensures { result ≡ crc_from (register a) (drop at bytes.now) }
+// The first four of them at once.
+fn by_half(a: u64, bytes: &[u8]) -> u16
+    ensures { result ≡ crc_from (register a) bytes.now }
 {
-    if bytes.len() - at < 4 {
-        return by_bytes(a, bytes, at);
+    if bytes.len() < 4 {
+        return by_bytes(a, bytes);
     }
-    by_bytes(half_more(a, byte_numbers::u32_at(bytes, at)), bytes, at + 4)
+    by_bytes(half_more(a, byte_numbers::u32_at(bytes, 0)), &bytes[4..])
 }
 
-// The bytes from a place on, the first eight of them at once.
-fn by_word(a: u64, bytes: &[u8], at: usize) -> u16
-    requires { at ≤ length bytes.now }
-    ensures { result ≡ crc_from (register a) (drop at bytes.now) }
+// The first eight of them at once.
+fn by_word(a: u64, bytes: &[u8]) -> u16
+    ensures { result ≡ crc_from (register a) bytes.now }
 {
-    if bytes.len() - at < 8 {
-        return by_half(a, bytes, at);
+    if bytes.len() < 8 {
+        return by_half(a, bytes);
     }
-    by_half(word_more(a, byte_numbers::u64_at(bytes, at)), bytes, at + 8)
+    by_half(word_more(a, byte_numbers::u64_at(bytes, 0)), &bytes[8..])
 }
 
 // Sixteen bytes at a time behind the first eight, and then the rest.
@@ -150,16 +146,15 @@ fn by_pairs(bytes: &[u8]) -> u16
         first: START,
         second: byte_numbers::u64_at(bytes, 0),
     };
-    let mut i = 8;
-    while 16 <= bytes.len() - i {
+    let (pairs, rest) = bytes[8..].as_chunks::<16>();
+    for pair in pairs {
         p = pair_more(
             p,
-            byte_numbers::u64_at(bytes, i),
-            byte_numbers::u64_at(bytes, i + 8),
+            byte_numbers::u64_at(pair, 0),
+            byte_numbers::u64_at(pair, 8),
         );
-        i += 16;
     }
-    by_word(word_more(p.first, p.second), bytes, i)
+    by_word(word_more(p.first, p.second), rest)
 }
 
 // The first n bytes of a word, after the register's start: it is xored into the first two of them, and zeros before them would leave a
@@ -201,15 +196,13 @@ pub fn crc16(bytes: &[u8]) -> u16
 {
     let n = bytes.len();
     if n < 4 {
-        return by_bytes(START, bytes, 0);
+        return by_bytes(START, bytes);
     }
     if n <= 8 {
         return register_of(raised(few(bytes), n));
     }
-    if n < 16 {
-        if 10 <= n {
-            return register_of(two_words(bytes));
-        }
+    if 10 <= n && n < 16 {
+        return register_of(two_words(bytes));
     }
     by_pairs(bytes)
 }

@@ -18,11 +18,11 @@ fn put_all(rt: HostRuntime, frame: &[u8]) {
 
 // Writes a frame's bytes and its CRC on a line.
 fn line(rt: HostRuntime, frame: &[u8]) {
-    let crc = crc16::crc16(frame);
+    let [low, high] = crc16::crc16(frame).to_le_bytes();
     put_all(rt, frame);
     let _ = rt.stdout().write_all(b": ");
-    put(rt, (crc % 256) as u8, b' ');
-    put(rt, (crc / 256) as u8, b'\n');
+    put(rt, low, b' ');
+    put(rt, high, b'\n');
 }
 
 fn main(rt: HostRuntime) {

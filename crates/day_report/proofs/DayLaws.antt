@@ -1,4 +1,6 @@
 -- The row of a day's line; what the line says of a log's image; where there is none; and that there is always room for it.
+use Rattle.std.specs.Prelude.{Err, None, Option, Some}
+use Rattle.calendar.specs.declared.date.Date.{Date}
 use Prim.Native.Nat.{ℕ, ◌+◌, ◌≤◌}
 use mathlib.Core.Path.{◌≡◌, refl, ap, ◌∙◌}
 use mathlib.Core.List.{List, [], ◌++◌, append-nil}
@@ -14,14 +16,11 @@ use Rattle.log_header.specs.Header.{days_most, sound_of}
 use Rattle.log_header.specs.Interval.{day_date}
 use Rattle.log_header.proofs.HeaderLaws.{header-ranges, sound-log, by-sound}
 use Rattle.log_header.specs.declared.header.Header.{Header}
-use Rattle.log_header.specs.declared.header.LogHeader.TheVariants.{Sound}
-use Rattle.log_header.specs.declared.interval.DayAnswer.{DayAnswer}
-use Rattle.log_header.specs.declared.interval.DayAnswer.TheVariants.{On, Outside}
 use Rattle.day_rows.specs.Figures.{row_numbers}
 use Rattle.day_rows.specs.Rows.{figures_of, has_day, row_at, copied}
 use Rattle.day_rows.specs.LogAndRows.{enough}
 use Rattle.day_rows.proofs.RowsLaws.{figures_most, figures-at-most, has-day, length-row, copied-row, Small, small_row}
-use Rattle.day_report.specs.declared.answer.TextAnswer.TheVariants.{TooShort}
+use Rattle.day_report.specs.declared.answer.ReportError.TheVariants.{TooShort}
 use Rattle.day_report.specs.Text.{line_most}
 use Rattle.day_report.specs.Day.{zeros, day_on_text, day_text}
 use Rattle.day_report.proofs.TextLaws.{line-most, Never, text-fits}
@@ -54,7 +53,7 @@ copied_on h figs d out e = go (ltb d h.days) refl
 -- ---- past the most days that a log has
 
 -- no log has a date for such a day: for the line and for the strip
-pub day-past : (s : List ℕ) (h : Header) (d : ℕ) → sound_of s ≡ Sound h → days_most ≤ d → day_date h d ≡ Outside
+pub day-past : (s : List ℕ) (h : Header) (d : ℕ) → sound_of s ≡ Some h → days_most ≤ d → day_date h d ≡ None
 unfolding day_date
 day-past s h d p l =
     let days = (header-ranges h (sound-log s h p).ranges).days-to in
@@ -71,10 +70,10 @@ line-past s figs d out l =
 
 -- with the figures of the longest log, each of 32 bits, the room of the longest line is enough for each
 module _ (s figs : List ℕ) (d : ℕ) (out : List ℕ) (lent : figures_most ≤ length figs) (small : Small figs) (room : line_most ≤ length out) where
-  on_line : (a : DayAnswer) → length (row_at figs d) ≡ row_numbers → Never 1 (day_on_text a (row_at figs d) out)
+  on_line : (a : Option Date) → length (row_at figs d) ≡ row_numbers → Never 1 (day_on_text a (row_at figs d) out)
   unfolding day_on_text
-  on_line Outside full = λ e. omega (arith, e)
-  on_line (On date) full = text-fits _ out (omega (arith, line-most date (row_at figs d) full (small_row figs d small)))
+  on_line None full = λ e. omega (arith, e)
+  on_line (Some date) full = text-fits _ out (omega (arith, line-most date (row_at figs d) full (small_row figs d small)))
 
   sound-line : (h : Header) → enough h figs ≡ true → (b : Bool) → ltb d h.days ≡ b → Never 1 (day_on_text (day_date h d) (row_at figs d) out)
   unfolding day_date day_on_text
@@ -86,7 +85,7 @@ module _ (s figs : List ℕ) (d : ℕ) (out : List ℕ) (lent : figures_most ≤
   unfolding day_text
   line-room = by-sound (Never 1) (sound_of s) (λ p e. omega (arith, e)) line
     where
-      line : (h : Header) → sound_of s ≡ Sound h → Never 1 (check (enough h figs) (outcome TooShort out) (day_on_text (day_date h d) (row_at figs d) out))
+      line : (h : Header) → sound_of s ≡ Some h → Never 1 (check (enough h figs) (outcome (Err TooShort) out) (day_on_text (day_date h d) (row_at figs d) out))
       line h p =
           let e : enough h figs ≡ true = le-leb (figures_of h) (length figs) (omega (arith, figures-at-most h (sound-log s h p).ranges, lent)) in
           rw e (sound-line h e (ltb d h.days) refl)

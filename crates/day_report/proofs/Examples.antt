@@ -1,5 +1,6 @@
 -- Document 01's example of a report: "slot 0 measured 12 0 3 0, slot 1 empty, others gaps" gives 46 1 1 12 0 3 0, and 0 for the cells that come
 -- twice, by the walk and as it is kept beside the log; its strip, cut to three gaps; and the two season days of document 02, CR 5.
+use Rattle.std.specs.Prelude.{Ok, Some}
 use Prim.Native.Nat.{ℕ}
 use mathlib.Core.Path.{◌≡◌, refl}
 use mathlib.Core.Bool.{false, not}
@@ -8,7 +9,6 @@ use lib.ListN.{replicate}
 use Rattle.refusal.specs.Outcome.{outcome}
 use Rattle.byte_numbers.specs.Place.{written}
 use Rattle.log_header.specs.declared.header.Header.{Header}
-use Rattle.log_header.specs.declared.header.LogHeader.TheVariants.{Sound}
 use Rattle.energy_log.specs.Fresh.{gaps}
 use Rattle.energy_log.specs.Walk.{Place, seen_from}
 use Rattle.energy_log.proofs.ViewLaws.{cell_in}
@@ -20,12 +20,10 @@ use Rattle.day_rows.specs.Tallies.{report_row, plus, tallies_in, tallies_of}
 use Rattle.day_rows.specs.Figures.{figures}
 use Rattle.day_rows.specs.Rows.{figures_of, row_at, put_row}
 use Rattle.day_rows.specs.Put.{cell_row, net_fits, row_fits, net_row, moved_by}
-use Rattle.day_rows.specs.declared.put.FigureAnswer.TheVariants as put
 use Rattle.text.specs.Ascii.{ascii}
 use Rattle.text.specs.Decimal.{digits, decimal, padded}
 use Rattle.text.specs.DateText.{date_text}
 use Rattle.day_report.specs.Report.{report_of}
-use Rattle.day_report.specs.declared.report.ReportAnswer.TheVariants.{Done}
 use Rattle.day_report.specs.Strip.{mark, mark_of, strip_of}
 
 may : figures (Measured 12 0 3 0 ∷ Empty ∷ gaps 46) [] ≡ 46 ∷ 1 ∷ 1 ∷ 12 ∷ 0 ∷ 3 ∷ 0 ∷ 0 ∷ []
@@ -42,16 +40,16 @@ measured-row = 47 ∷ 0 ∷ 1 ∷ 12 ∷ 0 ∷ 3 ∷ 0 ∷ 0 ∷ []
 may-row : List ℕ
 may-row = 46 ∷ 1 ∷ 1 ∷ 12 ∷ 0 ∷ 3 ∷ 0 ∷ 0 ∷ []
 
-may-measured : moved_by 0 (cell_row Gap false) (cell_row (Measured 12 0 3 0) false) fresh-row ≡ outcome put.Done measured-row
+may-measured : moved_by 0 (cell_row Gap false) (cell_row (Measured 12 0 3 0) false) fresh-row ≡ outcome (Ok tt) measured-row
 unfolding fresh-row measured-row moved_by row_fits net_fits net_row cell_row tallies_in report_row row_at put_row written
 may-measured = refl
 
-may-empty : moved_by 0 (cell_row Gap false) (cell_row Empty false) measured-row ≡ outcome put.Done may-row
+may-empty : moved_by 0 (cell_row Gap false) (cell_row Empty false) measured-row ≡ outcome (Ok tt) may-row
 unfolding measured-row may-row moved_by row_fits net_fits net_row cell_row tallies_in report_row row_at put_row written
 may-empty = refl
 
 -- and reported: copied to the front of a longer row, whose last number stays
-may-report : (h : Header) → h.days ≡ 1 → report_of (Sound h) may-row 0 (replicate 9 7) ≡ outcome Done (46 ∷ 1 ∷ 1 ∷ 12 ∷ 0 ∷ 3 ∷ 0 ∷ 0 ∷ 7 ∷ [])
+may-report : (h : Header) → h.days ≡ 1 → report_of (Some h) may-row 0 (replicate 9 7) ≡ outcome (Ok tt) (46 ∷ 1 ∷ 1 ∷ 12 ∷ 0 ∷ 3 ∷ 0 ∷ 0 ∷ 7 ∷ [])
 unfolding may-row report_of figures_of row_at written
 may-report h e = rw e refl
 

@@ -1,5 +1,7 @@
 -- What follows from the definition of a day's strip: its length, the turns of the walk over the day's slots, its parts written one behind the
 -- other; what it says of an image; where there is none; and that there is always room for it. Assumes nothing.
+use Rattle.std.specs.Prelude.{None, Option, Some}
+use Rattle.log_cell.specs.declared.cell.Cell.{Cell}
 use Prim.Native.Nat.{ℕ, ◌+◌, ◌*◌, ◌-◌, ◌<◌, ◌≤◌}
 use native.Mathlib.Nat.{zero-add, add-zero, sub-zero}
 use native.Mathlib.Omega.{arith}
@@ -21,10 +23,7 @@ use Rattle.energy_log.proofs.WalkLaws.{length_seen, seen_next, seen_end}
 use Rattle.energy_log.specs.View.{View, view_of}
 use Rattle.log_header.specs.Interval.{day_date, exists_at}
 use Rattle.log_header.proofs.HeaderLaws.{by-sound}
-use Rattle.log_header.specs.declared.interval.DayAnswer.{DayAnswer}
-use Rattle.log_header.specs.declared.interval.DayAnswer.TheVariants as day
 use Rattle.log_header.specs.declared.header.Header.{Header}
-use Rattle.log_cell.specs.declared.cell.CellAnswer.{CellAnswer}
 use Rattle.day_rows.specs.Figures.{day_cells}
 use Rattle.day_report.specs.Text.{space, line_feed, date_size}
 use Rattle.day_report.specs.Strip.{mark, mark_of, marks_at, day_marks, strip_of, strip_dated, strip_on, strip_text}
@@ -39,7 +38,7 @@ unfolding strip_of
 length-strip d marks = simp (length-append, length-date_text) (omega arith)
 
 -- a mark a slot
-pub length-day-marks : (cell : ℕ → CellAnswer) (h : Header) (d : ℕ) → length (day_marks cell h d) ≡ slots_of h.minutes
+pub length-day-marks : (cell : ℕ → Option Cell) (h : Header) (d : ℕ) → length (day_marks cell h d) ≡ slots_of h.minutes
 unfolding day_marks
 length-day-marks cell h d = length-map (day_walk h cell d) mark_of ∙ length_seen (place_at h cell (λ i. 0)) (slots_of h.minutes) (d * slots_of h.minutes)
 
@@ -50,15 +49,15 @@ strip_most = marks_at + slots_most + 1
 -- ---- the walk over the slots
 
 -- the marks of n slots from index i on
-abbrev pub marks_from : Header → (ℕ → CellAnswer) → ℕ → ℕ → List ℕ
+abbrev pub marks_from : Header → (ℕ → Option Cell) → ℕ → ℕ → List ℕ
 marks_from h cell i n = map mark_of (walk_from h cell (λ j. 0) i n)
 
 -- before the first slot of a day all its marks are left
-pub day-marks : (cell : ℕ → CellAnswer) (h : Header) (d : ℕ) → let n = slots_of h.minutes in marks_from h cell (d * n + 0) (n - 0) ≡ day_marks cell h d
+pub day-marks : (cell : ℕ → Option Cell) (h : Header) (d : ℕ) → let n = slots_of h.minutes in marks_from h cell (d * n + 0) (n - 0) ≡ day_marks cell h d
 unfolding day_marks
 day-marks cell h d = rw (add-zero, sub-zero) refl
 
-module _ (h : Header) (cell : ℕ → CellAnswer) (first i n : ℕ) (l : i < n) where
+module _ (h : Header) (cell : ℕ → Option Cell) (first i n : ℕ) (l : i < n) where
   abbrev after : List ℕ
   after = marks_from h cell (first + (i + 1)) (n - (i + 1))
 
@@ -72,7 +71,7 @@ module _ (h : Header) (cell : ℕ → CellAnswer) (first i n : ℕ) (l : i < n) 
       ∙ ap (written line (marks_at + i)) (ap (λ (k : ℕ). k ∷ after) p ∙ sym (ap (map mark_of) (seen_next (place_at h cell (λ j. 0)) first i n l)))
 
 -- a loop's end: past the last slot no mark is left
-pub marks-end : (h : Header) (cell : ℕ → CellAnswer) (i n : ℕ) → n ≡ 0 → marks_from h cell i n ≡ []
+pub marks-end : (h : Header) (cell : ℕ → Option Cell) (i n : ℕ) → n ≡ 0 → marks_from h cell i n ≡ []
 marks-end h cell i n e = ap (map mark_of) (seen_end (place_at h cell (λ j. 0)) i n e)
 
 -- ---- a strip's parts, written one behind the other
@@ -103,11 +102,11 @@ strip-past s d out l =
     by-sound (Never 0) (sound_of s)
     (λ p e. omega (arith, e)) (λ h p. rw (day-past s h d p l) (λ e. omega (arith, e)))
 
-on_room : (a : DayAnswer) (read : List CellAnswer) (marks out : List ℕ) → length marks ≤ slots_most → strip_most ≤ length out
+on_room : (a : Option Date) (read : List (Option Cell)) (marks out : List ℕ) → length marks ≤ slots_most → strip_most ≤ length out
     → Never 1 (strip_on a read marks out)
 unfolding strip_on strip_dated
-on_room day.Outside read marks out n l = λ e. omega (arith, e)
-on_room (day.On date) read marks out n l =
+on_room None read marks out n l = λ e. omega (arith, e)
+on_room (Some date) read marks out n l =
     either (Never 1) (all_good read) (text-fits (strip_of date marks) out (omega (arith, length-strip date marks))) (λ e. omega (arith, e))
 
 -- the room of the longest strip is enough for each

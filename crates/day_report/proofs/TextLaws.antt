@@ -1,5 +1,7 @@
 -- What follows from the definition of the report's text: how long a line is, and the turns of the walk over its numbers. Assumes
 -- nothing.
+use Rattle.std.specs.Prelude.{Result}
+use Rattle.day_report.specs.declared.answer.ReportError.{ReportError}
 use mathlib.Core.Path.{◌≡◌, refl, sym, ap, ◌∙◌}
 use mathlib.Core.List.{[], ◌∷◌, List, ◌++◌}
 use Prim.Native.Nat.{ℕ, suc, ◌+◌, ◌*◌, ◌^◌, ◌<◌, ◌≤◌}
@@ -10,7 +12,6 @@ use lib.ListN.{length, get_or, take, drop, length-append}
 use lib.Seq.{drop-cons}
 use borrow.Author.Tests.{le-leb}
 use Rattle.refusal.specs.Outcome.{Outcome}
-use Rattle.day_report.specs.declared.answer.TextAnswer.{TextAnswer}
 use Rattle.text.specs.Decimal.{digits, decimal, padded}
 use Rattle.text.specs.DateText.{date_text}
 use Rattle.byte_numbers.specs.Place.{written}
@@ -98,7 +99,7 @@ front-written s text n e h =
     ap (λ (k : ℕ). take k (written s 0 text)) e ∙ part-written s 0 text (omega arith)
 
 -- the answer does not have this number
-abbrev pub Never : ℕ → Outcome TextAnswer (List ℕ) → Type 0
+abbrev pub Never : ℕ → Outcome (Result ℕ ReportError) (List ℕ) → Type 0
 Never n o = text_number o.result ≡ n → ⊥
 
 -- where there is room, it is not 1

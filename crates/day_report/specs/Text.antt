@@ -1,5 +1,7 @@
 -- The day report's text, in ASCII. Source: document 01, "Marked examples": the report of a file; document 02, CR 5: "a last column `doubled`".
-use Rattle.std.specs.Prelude.{ℕ, ◌+◌, ◌*◌, cond, List, [], ◌∷◌, ◌++◌, leb, length}
+use Rattle.refusal.specs.Number.{answer_number}
+use Rattle.day_report.specs.declared.answer.ReportError.{ReportError}
+use Rattle.std.specs.Prelude.{ℕ, ◌+◌, ◌*◌, cond, List, [], ◌∷◌, ◌++◌, leb, length, Err, Ok, Result}
 use Rattle.refusal.specs.Outcome.{Outcome, outcome}
 use Rattle.byte_numbers.specs.Place.{written}
 use Rattle.calendar.specs.declared.date.Date.{Date}
@@ -7,15 +9,12 @@ use Rattle.text.specs.Ascii.{ascii}
 use Rattle.text.specs.Decimal.{decimal}
 use Rattle.text.specs.DateText.{date_text}
 use Rattle.day_rows.specs.Figures.{row_numbers}
-use Rattle.day_report.specs.declared.answer.TextAnswer.{TextAnswer}
-use Rattle.day_report.specs.declared.answer.TextAnswer.TheVariants.{Done, TooShort, Unsound, NotInLog}
+use Rattle.day_report.specs.Report.{error_number}
+use Rattle.day_report.specs.declared.answer.ReportError.TheVariants.{TooShort}
 
 -- the numbers of document 01's table
-abbrev pub text_number : TextAnswer → ℕ
-text_number (Done n) = 0
-text_number TooShort = 1
-text_number Unsound = 28
-text_number NotInLog = 22
+abbrev pub text_number : Result ℕ ReportError → ℕ
+text_number = answer_number error_number
 
 -- ---- the texts
 
@@ -52,5 +51,5 @@ line_most = date_size + number_most * row_numbers + 1
 -- ---- a text at the front of a lent buffer
 
 -- 1: "lent output too short (.. under what would be written)"; "Output past what was written is unchanged"
-unfoldable pub put_text : List ℕ → List ℕ → Outcome TextAnswer (List ℕ)
-put_text text out = cond (leb (length text) (length out)) (outcome (Done (length text)) (written out 0 text)) (outcome TooShort out)
+unfoldable pub put_text : List ℕ → List ℕ → Outcome (Result ℕ ReportError) (List ℕ)
+put_text text out = cond (leb (length text) (length out)) (outcome (Ok (length text)) (written out 0 text)) (outcome (Err TooShort) out)

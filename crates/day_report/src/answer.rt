@@ -1,12 +1,11 @@
 // What the functions of this crate answer.
-ghost use Rattle.std.specs.Prelude.{◌≡◌};
-ghost use Rattle.day_report.specs.Text.{text_number};
+ghost use Rattle.day_report.specs.Report.{error_number};
 
-#[derive(Clone, Copy)]
-pub enum TextAnswer {
-    // The text's length.
-    Done(usize),
-    // The buffer is, or there are fewer figures than the log has.
+use refusal::Numbered;
+
+#[derive(Clone, Copy, PartialEq, Eq)]
+pub enum ReportError {
+    // The buffer or the row is, or there are fewer figures than the log has.
     TooShort,
     // The lent log, or, where a strip shows it, a cell of the day.
     Unsound,
@@ -14,15 +13,14 @@ pub enum TextAnswer {
     NotInLog,
 }
 
-impl TextAnswer {
-    pub fn number(self) -> u8
-        ensures { result ≡ text_number self }
-    {
+impl Numbered for ReportError {
+    ghost number_of = { error_number };
+
+    fn number(&self) -> u8 {
         match self {
-            TextAnswer::Done(_) => refusal::DONE,
-            TextAnswer::TooShort => refusal::TOO_SHORT,
-            TextAnswer::Unsound => refusal::UNSOUND,
-            TextAnswer::NotInLog => refusal::NOT_IN_LOG,
+            ReportError::TooShort => refusal::TOO_SHORT,
+            ReportError::Unsound => refusal::UNSOUND,
+            ReportError::NotInLog => refusal::NOT_IN_LOG,
         }
     }
 }

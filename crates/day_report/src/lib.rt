@@ -11,9 +11,9 @@ mod line;
 mod report;
 mod strip;
 
-pub use answer::TextAnswer;
+pub use answer::ReportError;
 pub use day::put_day;
 pub use day_rows::REPORT_NUMBERS;
 pub use line::{LINE_MOST, put_heading, put_line};
-pub use report::{ReportAnswer, day_report};
+pub use report::day_report;
 pub use strip::{STRIP_MOST, put_strip};

@@ -4,7 +4,7 @@ ghost use Rattle.refusal.specs.Outcome.{outcome};
 ghost use Rattle.byte_numbers.specs.Place.{written};
 ghost use Rattle.day_report.specs.Text.{put_text, heading_text, numbers_text, line_text, date_size, line_most};
 
-use crate::answer::TextAnswer;
+use crate::answer::ReportError;
 use calendar::Date;
 use day_rows::REPORT_NUMBERS;
 
@@ -20,13 +20,17 @@ pub const SPACE: u8 = 32;
 
 pub const LINE_FEED: u8 = 10;
 
-pub fn put_heading(out: &mut [u8]) -> TextAnswer
+pub fn put_heading(out: &mut [u8]) -> Result<usize, ReportError>
     ensures { outcome result out.new ≡ put_text heading_text out.old }
 {
     put_text(b"date gap empty measured E+ E- R+ R- doubled\n", out)
 }
 
-pub fn put_line(date: Date, row: [u32; REPORT_NUMBERS], out: &mut [u8]) -> TextAnswer
+pub fn put_line(
+    date: Date,
+    row: [u32; REPORT_NUMBERS],
+    out: &mut [u8],
+) -> Result<usize, ReportError>
     ensures { outcome result out.new ≡ put_text (line_text date row) out.old }
 {
     // How long a line is shows only once it stands, and a buffer that is too short for it is not touched.
@@ -35,14 +39,15 @@ pub fn put_line(date: Date, row: [u32; REPORT_NUMBERS], out: &mut [u8]) -> TextA
     put_text(&line[..n], out)
 }
 
-pub fn put_text(text: &[u8], out: &mut [u8]) -> TextAnswer
+#[tactic(auto, unfolding(crate::specs::Text::put_text))]
+pub fn put_text(text: &[u8], out: &mut [u8]) -> Result<usize, ReportError>
     ensures { outcome result out.new ≡ put_text text.now out.old }
 {
     if out.len() < text.len() {
-        return TextAnswer::TooShort;
+        return Err(ReportError::TooShort);
     }
     byte_numbers::put_bytes(out, 0, text);
-    TextAnswer::Done(text.len())
+    Ok(text.len())
 }
 
 // Answers the line's length, stored or not.
@@ -61,12 +66,10 @@ fn write_numbers(line: &mut [u8], row: [u32; REPORT_NUMBERS]) -> usize
         ≡ written line.old date_size (numbers_text row)) × (result ≡ date_size + length (numbers_text row)) × (result < line_most) }
 {
     let mut at = DATE_BYTES;
-    let mut i = 0;
-    while i < REPORT_NUMBERS {
+    for n in row {
         byte_numbers::put_byte(line, at, SPACE);
-        let digits = text::put_decimal(line, at + 1, row[i] as u64);
-        at = at + 1 + digits;
-        i += 1;
+        let digits = text::put_decimal(line, at + 1, n as u64);
+        at += 1 + digits;
     }
     at
 }

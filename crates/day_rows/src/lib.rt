@@ -9,6 +9,6 @@ mod rows;
 mod tallies;
 
 pub use fresh::fresh_log;
-pub use put::{FigureAnswer, change, comes_twice};
+pub use put::{FigureError, change, comes_twice};
 pub use rows::{FIGURES_MOST, REPORT_NUMBERS, copy_day, figures_of, fill};
 pub use tallies::{Tallied, Tallies, tally};

@@ -5,11 +5,11 @@ ghost use Rattle.std.specs.Prelude.{◌≡◌};
 ghost use Rattle.energy.specs.Energy.{energy_of};
 
 // A number of register counts. A cell holds 16-bit counts; 32 bits hold the sum over the longest log.
-#[derive(Clone, Copy)]
+#[derive(Clone, Copy, PartialEq, Eq)]
 pub struct Counts(pub u32);
 
 // Energy in milliwatt-hours. The field is private, so that nothing but `Counts::energy` makes one.
-#[derive(Clone, Copy)]
+#[derive(Clone, Copy, PartialEq, Eq)]
 pub struct MilliwattHours(u64);
 
 impl Counts {

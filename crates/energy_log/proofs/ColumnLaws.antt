@@ -1,4 +1,5 @@
 -- What follows from the places of a log's cells: what is read after a put, there and elsewhere, in a log of n cells.
+use Rattle.std.specs.Prelude.{None, Option}
 use Prim.Native.Nat.{ℕ, suc, ◌+◌, ◌-◌, ◌*◌, ◌/◌, ◌%◌, ◌≤◌, ◌<◌}
 use native.Mathlib.Omega.{arith}
 use mathlib.Core.Path.{◌≡◌, refl, sym, ap, ◌∙◌}
@@ -21,8 +22,6 @@ use Rattle.energy_log.specs.Image.{kind_place, count_place, lapses_place, kind_a
 use Rattle.energy_log.specs.Image.{put_cell_among, put_lapses_among, Two, of_kind, of-e+, of-e-, of-r+, of-r-, OutsideCell}
 use Rattle.log_cell.specs.declared.cell.Cell.{Cell}
 use Rattle.log_cell.specs.declared.cell.Cell.TheVariants.{Gap, Empty, Measured}
-use Rattle.log_cell.specs.declared.cell.CellAnswer.{CellAnswer}
-use Rattle.log_cell.specs.declared.cell.CellAnswer.TheVariants.{Bad}
 
 -- the room of a log of n cells
 pub record Room (s : List ℕ) (n : ℕ) : Type 0 where
@@ -56,7 +55,7 @@ abbrev pub lapsed : Parts → ℕ → Parts
 lapsed p x = record { kind = p.kind; e+ = p.e+; e- = p.e-; r+ = p.r+; r- = p.r-; lapses = x }
 
 -- the cell that they are
-abbrev pub cell_from : Parts → CellAnswer
+abbrev pub cell_from : Parts → Option Cell
 cell_from p = kind_cell p.kind p.e+ p.e- p.r+ p.r-
 
 -- a kind fits its two bits
@@ -383,12 +382,12 @@ choice {A} j n {a} {b} d f = go (ltb j n) refl
 -- a cell does not go by its lapses
 pub same-front : (n : ℕ) (s t : List ℕ) (j : ℕ) → (j < n → lapsed (parts_at n s j) 0 ≡ lapsed (parts_at n t j) 0) → cell_among n s j ≡ cell_among n t j
 unfolding read_among
-same-front n s t j e = choice j n Bad (λ l. ap cell_from (e l))
+same-front n s t j e = choice j n None (λ l. ap cell_from (e l))
 
 -- cells with the same parts are seen alike
 pub same_cell : (n : ℕ) (s t : List ℕ) (j : ℕ) → (j < n → parts_at n s j ≡ parts_at n t j) → cell_among n s j ≡ cell_among n t j
 unfolding read_among
-same_cell n s t j e = choice j n Bad (λ l. ap cell_from (e l))
+same_cell n s t j e = choice j n None (λ l. ap cell_from (e l))
 
 -- lapses go by their byte alone
 pub same-lapses : (n : ℕ) (s t : List ℕ) (j : ℕ) → (j < n → byte_at s (lapses_place n j) ≡ byte_at t (lapses_place n j)) → lapses_among n s j ≡ lapses_among n t j
@@ -406,7 +405,7 @@ unfolding lapses_among
 lapses-in-log n s j l = simp (lt-ltb j n l)
 
 -- past the last cell there is none
-pub none-past : (f : ℕ → ℕ → ℕ → ℕ → ℕ → CellAnswer) (n : ℕ) (s : List ℕ) (j : ℕ) → n ≤ j → read_among f n s j ≡ Bad
+pub none-past : (f : ℕ → ℕ → ℕ → ℕ → ℕ → Option Cell) (n : ℕ) (s : List ℕ) (j : ℕ) → n ≤ j → read_among f n s j ≡ None
 unfolding read_among
 none-past f n s j l = simp (le-ltb j n l)
 

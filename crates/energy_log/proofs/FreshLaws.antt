@@ -1,14 +1,17 @@
 -- What follows from the definition of a fresh log: it is a log with its header, and every cell is a gap.
-use Prim.Native.Nat.{ℕ, zero, suc, ◌+◌, ◌*◌, ◌-◌, ◌/◌, ◌%◌, ◌<◌}
+use Rattle.std.specs.Prelude.{Some}
+use Prim.Native.Nat.{ℕ, zero, suc, ◌+◌, ◌*◌, ◌-◌, ◌/◌, ◌%◌, ◌<◌, ◌≤◌}
 use native.Mathlib.Nat.{zero-add}
 use native.Mathlib.Omega.{arith}
 use mathlib.Core.Path.{◌≡◌, refl, sym, ap, ap₂, subst, ◌∙◌}
 use mathlib.Core.Bool.{true}
 use mathlib.Core.List.{List, ◌∷◌, ◌++◌}
-use lib.ListN.{length, get_or, set, replicate, length-replicate, get_or-replicate, replicate-append-replicate}
+use borrow.Rule.Slice.PartMut.{put_mid}
+use lib.ListN.{length, take, drop, get_or, replicate, length-replicate, length-drop, get_or-replicate, replicate-append-replicate}
+use lib.Seq.{length-take-le, drop-drop}
 use Rattle.byte_numbers.specs.Place.{written}
 use Rattle.byte_numbers.specs.Number.{bytes_of}
-use Rattle.byte_numbers.proofs.PlaceLaws.{onward}
+use Rattle.byte_numbers.proofs.PlaceLaws.{onward, written-fits}
 use Rattle.log_header.specs.Header.{header_size, version, size_for, cells_of, length_of, is_header, header_bytes}
 use Rattle.log_header.proofs.HeaderLaws.{cells-fours, length-header_bytes}
 use Rattle.log_cell.specs.Cell.{e_plus_of, e_minus_of, r_plus_of, r_minus_of, IsCell}
@@ -20,7 +23,6 @@ use Rattle.energy_log.specs.Fresh.{gaps, no_lapses, fresh_image}
 use Rattle.log_header.specs.declared.header.Header.{Header}
 use Rattle.log_cell.specs.declared.cell.Cell.{Cell}
 use Rattle.log_cell.specs.declared.cell.Cell.TheVariants.{Gap}
-use Rattle.log_cell.specs.declared.cell.CellAnswer.TheVariants.{Good}
 
 -- as many gaps as are asked for
 pub length-gaps : (n : ℕ) → length (gaps n) ≡ n
@@ -33,11 +35,11 @@ unfolding gaps
 gap_at n i h = get_or-replicate n i Gap Gap h
 
 -- every cell of a fresh log is read as a gap
-pub fresh-gaps : (h : Header) (i : ℕ) → is_header h ≡ true → i < cells_of h → cell_at (fresh_image h) i ≡ Good Gap
+pub fresh-gaps : (h : Header) (i : ℕ) → is_header h ≡ true → i < cells_of h → cell_at (fresh_image h) i ≡ Some Gap
 unfolding fresh_image
 fresh-gaps h i right l =
     let e = gap_at (cells_of h) i l in
-    cell_at-image no_lapses h (gaps (cells_of h)) right (length-gaps (cells_of h)) i (rw length-gaps l) (subst IsCell (sym e) gap-is-cell) ∙ ap Good e
+    cell_at-image no_lapses h (gaps (cells_of h)) right (length-gaps (cells_of h)) i (rw length-gaps l) (subst IsCell (sym e) gap-is-cell) ∙ ap Some e
 
 -- a fresh log is as long as its header says
 pub length-fresh_image : (h : Header) → length (fresh_image h) ≡ length_of h
@@ -98,10 +100,10 @@ fresh-written s t u h end e p q =
     onward s t u 0 header_size (header_bytes h) (replicate (end - header_size) 0) p q (zero-add (length (header_bytes h)) ∙ length-header_bytes version h)
     ∙ ap (written s 0) (ap (λ (k : ℕ). header_bytes h ++ replicate (k - header_size) 0) e ∙ sym (fresh-zeros h))
 
--- one zero more
-pub zero-put : (s : List ℕ) (at end : ℕ) → at < end → written (set s at 0) (at + 1) (replicate (end - (at + 1)) 0) ≡ written s at (replicate (end - at) 0)
-unfolding written
-zero-put s at end l =
-    let e : at + 1 ≡ suc at = omega arith in
-    let f : end - at ≡ suc (end - (at + 1)) = omega arith in
-    rw (f, e)
+-- a part that is filled with zeros: they are written where it lies
+pub zeros-fit : (s t : List ℕ) (i n : ℕ) → i + n ≤ length s → t ≡ replicate (length (take n (drop i s))) 0 → put_mid i n s t ≡ written s i (replicate n 0)
+zeros-fit s t i n l p =
+    let k : length (take n (drop i s)) ≡ n = length-take-le n (drop i s) (simp length-drop (omega arith)) in
+    let r : length (zeros n) ≡ n = length-replicate n 0 in
+    let m : take i s ++ (zeros n ++ drop (i + length (zeros n)) s) ≡ put_mid i n s (zeros n) = rw (r, drop-drop) refl in
+    ap (put_mid i n s) (p ∙ ap zeros k) ∙ sym (written-fits s i (zeros n) (omega (arith, r)) ∙ m)

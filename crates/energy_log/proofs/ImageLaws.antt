@@ -1,5 +1,6 @@
 -- What follows from the definition of an image: what is read after a put, there and elsewhere; what a put keeps; and that an image is
 -- that of its header and its cells.
+use Rattle.std.specs.Prelude.{None, Option, Some}
 use Prim.Native.Nat.{ℕ, zero, suc, ◌+◌, ◌*◌, ◌/◌, ◌%◌, ◌≤◌, ◌<◌}
 use native.Mathlib.Nat.{add-zero, zero-add}
 use native.Mathlib.Omega.{arith}
@@ -32,11 +33,8 @@ use Rattle.energy_log.proofs.ColumnLaws.{Off, before-off, behind-off, byte-lapse
 use Rattle.energy_log.proofs.ColumnLaws.{same_cell, same-front, same-lapses, cell_in, lapses-in-log, none-past, no-lapses-past, same_bytes}
 use Rattle.energy_log.specs.Walk.{seen_from}
 use Rattle.log_header.specs.declared.header.Header.{Header}
-use Rattle.log_header.specs.declared.header.LogHeader.TheVariants.{Sound}
 use Rattle.log_cell.specs.declared.cell.Cell.{Cell}
 use Rattle.log_cell.specs.declared.cell.Cell.TheVariants.{Gap}
-use Rattle.log_cell.specs.declared.cell.CellAnswer.{CellAnswer}
-use Rattle.log_cell.specs.declared.cell.CellAnswer.TheVariants.{Good, Bad}
 
 -- ---- what a put keeps
 
@@ -141,19 +139,19 @@ module _ (s : List ℕ) (n : ℕ) (e : cells_at s ≡ n) where
   put_lapses-among i x = ap (λ (k : ℕ). put_lapses_among k s i x) e
 
 -- a log's header says so
-pub cells_at_lem : (s : List ℕ) (h : Header) → sound_of s ≡ Sound h → cells_at s ≡ cells_of h
+pub cells_at_lem : (s : List ℕ) (h : Header) → sound_of s ≡ Some h → cells_at s ≡ cells_of h
 unfolding cells_at
 cells_at_lem s h p = ap cells_of (sound-log s h p).header
 
 -- and it has their room
-pub room_of : (s : List ℕ) (h : Header) → sound_of s ≡ Sound h → Room s (cells_of h)
+pub room_of : (s : List ℕ) (h : Header) → sound_of s ≡ Some h → Room s (cells_of h)
 unfolding length_of
 room_of s h p = record { fours = cells-fours h; size = omega (arith, (sound-log s h p).size) }
 
 -- ---- what is read
 
 -- past the last cell there is none
-pub cell_at-past : (s : List ℕ) (i : ℕ) → cells_at s ≤ i → cell_at s i ≡ Bad
+pub cell_at-past : (s : List ℕ) (i : ℕ) → cells_at s ≤ i → cell_at s i ≡ None
 unfolding cell_at
 cell_at-past s i l = none-past kind_cell (cells_at s) s i l
 
@@ -163,16 +161,16 @@ unfolding lapses_at
 lapses_at-past s i l = no-lapses-past (cells_at s) s i l
 
 -- a cell that is read is one of the log's
-pub good-below : (f : ℕ → ℕ → ℕ → ℕ → ℕ → CellAnswer) (n : ℕ) (s : List ℕ) (i : ℕ) (c : Cell) → read_among f n s i ≡ Good c
-    → (i < n) × (f (kind_at s i) (count_at n s i) (count_at n s (n + i)) (count_at n s (2 * n + i)) (count_at n s (3 * n + i)) ≡ Good c)
+pub good-below : (f : ℕ → ℕ → ℕ → ℕ → ℕ → Option Cell) (n : ℕ) (s : List ℕ) (i : ℕ) (c : Cell) → read_among f n s i ≡ Some c
+    → (i < n) × (f (kind_at s i) (count_at n s i) (count_at n s (n + i)) (count_at n s (2 * n + i)) (count_at n s (3 * n + i)) ≡ Some c)
 unfolding read_among
 good-below f n s i c p =
-    let a = chosen (ltb i n) (f (kind_at s i) (count_at n s i) (count_at n s (n + i)) (count_at n s (2 * n + i)) (count_at n s (3 * n + i))) Bad p (bad≢good c) in
+    let a = chosen (ltb i n) (f (kind_at s i) (count_at n s i) (count_at n s (n + i)) (count_at n s (2 * n + i)) (count_at n s (3 * n + i))) None p (bad≢good c) in
     (ltb-true i n a.0, a.1)
 
 -- ---- what is read after a put, in a log
 
-module _ (s : List ℕ) (h : Header) (p : sound_of s ≡ Sound h) (i : ℕ) (l : i < cells_of h) where
+module _ (s : List ℕ) (h : Header) (p : sound_of s ≡ Some h) (i : ℕ) (l : i < cells_of h) where
   n : ℕ
   n = cells_of h
 
@@ -193,7 +191,7 @@ module _ (s : List ℕ) (h : Header) (p : sound_of s ≡ Sound h) (i : ℕ) (l :
     cell-of j = cell_at-among (put_cell s i c) n (cells_at-put_cell s i c ∙ same) j ∙ ap (λ (t : List ℕ). cell_among n t j) (put_cell-among s n same i c)
 
     -- a cell that is put is the one that is read there
-    pub cell_at-put : IsCell c → cell_at (put_cell s i c) i ≡ Good c
+    pub cell_at-put : IsCell c → cell_at (put_cell s i c) i ≡ Some c
     cell_at-put k =
         cell-of i ∙ cell_in n (put_cell_among n s i c) i below ∙ ap cell_from (parts-there n s room i below c k.fits) ∙ kind_cell-of c k.right
 
@@ -402,7 +400,7 @@ module _ (lapses : ℕ → ℕ) where
       (bytes-append (column_bytes r_minus_of cs) z (bytes-column r_minus_of cs) (bytes-lapses k 0 cs))))))
 
   -- it is a log
-  pub sound-image : (h : Header) (cs : List Cell) → is_header h ≡ true → length cs ≡ cells_of h → sound_of (image_of h cs lapses) ≡ Sound h
+  pub sound-image : (h : Header) (cs : List Cell) → is_header h ≡ true → length cs ≡ cells_of h → sound_of (image_of h cs lapses) ≡ Some h
   unfolding image_of length_of
   sound-image h cs e l = sound-bytes h (cells_bytes cs lapses) e (length-image_of h cs ∙ ap (λ (n : ℕ). size_for n) l)
 
@@ -516,7 +514,7 @@ module _ (lapses : ℕ → ℕ) where
         ∙ sym count
 
     -- what stands behind it is no part of its cells
-    pub cell_at-front : (rest : List ℕ) (i : ℕ) → i < length cs → IsCell (get_or cs i Gap) → cell_at (image_of h cs lapses ++ rest) i ≡ Good (get_or cs i Gap)
+    pub cell_at-front : (rest : List ℕ) (i : ℕ) → i < length cs → IsCell (get_or cs i Gap) → cell_at (image_of h cs lapses ++ rest) i ≡ Some (get_or cs i Gap)
     cell_at-front rest i l is =
         cell_at-among (image_of h cs lapses ++ rest) (length cs) (says-front rest) i
         ∙ cell_in (length cs) (image_of h cs lapses ++ rest) i l
@@ -524,7 +522,7 @@ module _ (lapses : ℕ → ℕ) where
         ∙ kind_cell-of (get_or cs i Gap) is.right
 
     -- its i-th cell is read as the one that it was made of
-    pub cell_at-image : (i : ℕ) → i < length cs → IsCell (get_or cs i Gap) → cell_at (image_of h cs lapses) i ≡ Good (get_or cs i Gap)
+    pub cell_at-image : (i : ℕ) → i < length cs → IsCell (get_or cs i Gap) → cell_at (image_of h cs lapses) i ≡ Some (get_or cs i Gap)
     cell_at-image i l is = ap (λ (s : List ℕ). cell_at s i) (sym (append-nil (image_of h cs lapses))) ∙ cell_at-front [] i l is
 
     -- and so are its lapses
@@ -662,19 +660,19 @@ over s bs e =
 -- ---- a log is the image of its header, its cells and their lapses
 
 -- what is seen one after the other, one by one
-seen_one : (cell : ℕ → CellAnswer) (k n : ℕ) (cs : List Cell) → seen_from cell k n ≡ map Good cs
-    → (length cs ≡ n) × ((i : ℕ) → i < n → cell (k + i) ≡ Good (get_or cs i Gap))
+seen_one : (cell : ℕ → Option Cell) (k n : ℕ) (cs : List Cell) → seen_from cell k n ≡ map Some cs
+    → (length cs ≡ n) × ((i : ℕ) → i < n → cell (k + i) ≡ Some (get_or cs i Gap))
 unfolding seen_from
 seen_one cell k zero [] p = (refl, λ i l. absurd (omega arith))
 seen_one cell k zero (c ∷ cs) p = let z : ◌≡◌ {A = ℕ} 0 1 = cc in absurd (omega arith)
 seen_one cell k (suc n) [] p = let z : ◌≡◌ {A = ℕ} 0 1 = cc in absurd (omega arith)
 seen_one cell k (suc n) (c ∷ cs) p =
-    let first : cell k ≡ Good c = cc in
-    let others : seen_from cell (suc k) n ≡ map Good cs = cc in
+    let first : cell k ≡ Some c = cc in
+    let others : seen_from cell (suc k) n ≡ map Some cs = cc in
     let w = seen_one cell (suc k) n cs others in
     (ap suc w.0, each first w.1)
   where
-    each : cell k ≡ Good c → ((i : ℕ) → i < n → cell (suc k + i) ≡ Good (get_or cs i Gap)) → (i : ℕ) → i < suc n → cell (k + i) ≡ Good (get_or (c ∷ cs) i Gap)
+    each : cell k ≡ Some c → ((i : ℕ) → i < n → cell (suc k + i) ≡ Some (get_or cs i Gap)) → (i : ℕ) → i < suc n → cell (k + i) ≡ Some (get_or (c ∷ cs) i Gap)
     each first others zero l = ap cell (add-zero k) ∙ first
     each first others (suc i) l =
         let e : suc k + i ≡ k + suc i = omega arith in
@@ -682,7 +680,7 @@ seen_one cell k (suc n) (c ∷ cs) p =
 
 module _ (s : List ℕ) (bytes : Bytes s) where
   -- a cell that is read is one
-  pub read-is-cell : (i : ℕ) (c : Cell) → cell_at s i ≡ Good c → IsCell c
+  pub read-is-cell : (i : ℕ) (c : Cell) → cell_at s i ≡ Some c → IsCell c
   unfolding cell_at
   read-is-cell i c p =
       let n = cells_at s in
@@ -691,7 +689,7 @@ module _ (s : List ℕ) (bytes : Bytes s) where
       record { e_plus = two-below s _ bytes; e_minus = two-below s _ bytes; r_plus = two-below s _ bytes; r_minus = two-below s _ bytes } in
       record { right = k.right; fits = k.fits f }
 
-  read-parts : (n i : ℕ) (c : Cell) → cell_among n s i ≡ Good c → parts_at n s i ≡ parts_of c (byte_at s (lapses_place n i))
+  read-parts : (n i : ℕ) (c : Cell) → cell_among n s i ≡ Some c → parts_at n s i ≡ parts_of c (byte_at s (lapses_place n i))
   read-parts n i c p =
       let k = kind-of _ _ _ _ _ c (good-below kind_cell n s i c p).1 in
       λ t. record { kind = k.kind-is t; e+ = k.e+-is t; e- = k.e--is t; r+ = k.r+-is t; r- = k.r--is t; lapses = byte_at s (lapses_place n i) }
@@ -706,7 +704,7 @@ module _ (s : List ℕ) (bytes : Bytes s) where
       go n false = omega arith
 
   -- a log whose cells are all good is the image of its header, of these cells and of their lapses
-  pub image-of-log : (h : Header) (cs : List Cell) → sound_of s ≡ Sound h → seen_from (cell_at s) 0 (cells_of h) ≡ map Good cs → s ≡ image_of h cs (lapses_at s)
+  pub image-of-log : (h : Header) (cs : List Cell) → sound_of s ≡ Some h → seen_from (cell_at s) 0 (cells_of h) ≡ map Some cs → s ≡ image_of h cs (lapses_at s)
   unfolding length_of
   image-of-log h cs p q =
       let w = seen_one (cell_at s) 0 (cells_of h) cs q in
@@ -716,7 +714,7 @@ module _ (s : List ℕ) (bytes : Bytes s) where
       let count : n ≡ cells_of h = w.0 in
       let four : n % 4 ≡ 0 = ap (λ (k : ℕ). k % 4) count ∙ cells-fours h in
       let says : cells_at s ≡ n = cells_at_lem s h p ∙ sym count in
-      let seen : (i : ℕ) → i < n → cell_at s i ≡ Good (get_or cs i Gap) = λ i m. rw zero-add at (w.1 i (rw (sym count) m)) in
+      let seen : (i : ℕ) → i < n → cell_at s i ≡ Some (get_or cs i Gap) = λ i m. rw zero-add at (w.1 i (rw (sym count) m)) in
       let each : AllCells cs = λ i m. read-is-cell i (get_or cs i Gap) (seen i m) in
       let size : length s ≡ size_for n = l.size ∙ ap (λ (k : ℕ). size_for k) (sym count) in
       let head : (j : ℕ) → j < header_size → byte_at s j ≡ byte_at (header_bytes h) j =

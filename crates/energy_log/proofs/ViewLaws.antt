@@ -1,5 +1,6 @@
 -- The laws of this layout, by which other crates know it: what is seen after a change, which bytes a change leaves, that an image is its
 -- header and its cells, and what is seen of one.
+use Rattle.std.specs.Prelude.{None, Option, Some}
 use Prim.Native.Nat.{ℕ, zero, suc, ◌+◌, ◌≤◌, ◌<◌}
 use native.Mathlib.Nat.{not-suc-le-zero}
 use native.Mathlib.Omega.{arith}
@@ -25,12 +26,8 @@ use Rattle.energy_log.proofs.ImageLaws.{length-put_cell, length-put_lapses, soun
 use Rattle.energy_log.proofs.ImageLaws.{cell_at-put, cell_at-put-other, lapses_at-put, lapses_at-lapses, lapses_at-lapses-other, cell_at-lapses, bytes-put_cell, bytes-put_lapses}
 use Rattle.energy_log.proofs.ImageLaws.{read-is-cell, bytes-image, sound-image, cell_at-image, lapses_at-image, image-alike, image-of-log}
 use Rattle.log_header.specs.declared.header.Header.{Header}
-use Rattle.log_header.specs.declared.header.LogHeader.{LogHeader}
-use Rattle.log_header.specs.declared.header.LogHeader.TheVariants.{Sound, Unsound}
 use Rattle.log_cell.specs.declared.cell.Cell.{Cell}
 use Rattle.log_cell.specs.declared.cell.Cell.TheVariants.{Gap}
-use Rattle.log_cell.specs.declared.cell.CellAnswer.{CellAnswer}
-use Rattle.log_cell.specs.declared.cell.CellAnswer.TheVariants.{Good, Bad}
 use Rattle.energy_log.specs.declared.image.Change.{Change}
 use Rattle.energy_log.specs.declared.image.Change.TheVariants.{None, Put, Lapses}
 
@@ -39,13 +36,13 @@ use Rattle.energy_log.specs.declared.image.Change.TheVariants.{None, Put, Lapses
 -- what a change does to a view
 unfoldable pub changed : Change → View → View
 changed None v = v
-changed (Put i c) v = record { lent = v.lent; cell = λ j. cond (eqb j i) (Good c) (v.cell j); lapses = v.lapses }
+changed (Put i c) v = record { lent = v.lent; cell = λ j. cond (eqb j i) (Some c) (v.cell j); lapses = v.lapses }
 changed (Lapses i n) v = record { lent = v.lent; cell = v.cell; lapses = λ j. cond (eqb j i) n (v.lapses j) }
 
 -- cell i is one of the log's
-abbrev pub Within : LogHeader → ℕ → Type 0
-Within (Sound h) i = i < cells_of h
-Within Unsound i = ⊥
+abbrev pub Within : Option Header → ℕ → Type 0
+Within (Some h) i = i < cells_of h
+Within None i = ⊥
 
 -- a change that a log with this view can hold
 abbrev pub Holds : View → Change → Type 0
@@ -55,18 +52,18 @@ Holds v (Lapses i n) = Within v.lent i × (n < 256)
 
 -- what is seen of a log with this header
 abbrev seen_of : Header → List ℕ → View
-seen_of h s = record { lent = Sound h; cell = cell_at s; lapses = lapses_at s }
+seen_of h s = record { lent = Some h; cell = cell_at s; lapses = lapses_at s }
 
-seen_of_lem : (s : List ℕ) (h : Header) → sound_of s ≡ Sound h → view_of s ≡ seen_of h s
+seen_of_lem : (s : List ℕ) (h : Header) → sound_of s ≡ Some h → view_of s ≡ seen_of h s
 seen_of_lem s h p = rw p
 
 -- two views with the same cells and the same lapses are one
-pub same_view : (h : Header) {a b : ℕ → CellAnswer} {m n : ℕ → ℕ} → ((j : ℕ) → a j ≡ b j) → ((j : ℕ) → m j ≡ n j)
-    → ◌≡◌ {A = View} (record { lent = Sound h; cell = a; lapses = m }) (record { lent = Sound h; cell = b; lapses = n })
-same_view h p q = ap₂ (λ (f : ℕ → CellAnswer) (g : ℕ → ℕ). record { lent = Sound h; cell = f; lapses = g }) (fun_ext p) (fun_ext q)
+pub same_view : (h : Header) {a b : ℕ → Option Cell} {m n : ℕ → ℕ} → ((j : ℕ) → a j ≡ b j) → ((j : ℕ) → m j ≡ n j)
+    → ◌≡◌ {A = View} (record { lent = Some h; cell = a; lapses = m }) (record { lent = Some h; cell = b; lapses = n })
+same_view h p q = ap₂ (λ (f : ℕ → Option Cell) (g : ℕ → ℕ). record { lent = Some h; cell = f; lapses = g }) (fun_ext p) (fun_ext q)
 
-module _ (s : List ℕ) (h : Header) (i : ℕ) (p : sound_of s ≡ Sound h) (l : i < cells_of h) where
-  cell-put : (c : Cell) → IsCell c → (j : ℕ) (b : Bool) → eqb j i ≡ b → cell_at (put_cell s i c) j ≡ cond b (Good c) (cell_at s j)
+module _ (s : List ℕ) (h : Header) (i : ℕ) (p : sound_of s ≡ Some h) (l : i < cells_of h) where
+  cell-put : (c : Cell) → IsCell c → (j : ℕ) (b : Bool) → eqb j i ≡ b → cell_at (put_cell s i c) j ≡ cond b (Some c) (cell_at s j)
   cell-put c k j true e = ap (cell_at (put_cell s i c)) (eqb-true j i e) ∙ cell_at-put s h p i l c k
   cell-put c k j false e = cell_at-put-other s h p i l c j (eqb-false j i e)
 
@@ -89,9 +86,9 @@ module _ (s : List ℕ) (h : Header) (i : ℕ) (p : sound_of s ≡ Sound h) (l :
       ∙ ap (changed (Lapses i n)) (sym (seen_of_lem s h p))
 
 -- a cell of the log is one of a header's
-pub within : (a : LogHeader) (i : ℕ) → Within a i → (h : Header) × ((a ≡ Sound h) × (i < cells_of h))
-within Unsound i w = absurd w
-within (Sound h) i w = (h, (refl, w))
+pub within : (a : Option Header) (i : ℕ) → Within a i → (h : Header) × ((a ≡ Some h) × (i < cells_of h))
+within None i w = absurd w
+within (Some h) i w = (h, (refl, w))
 
 -- what is seen after a change that the log can hold is what was seen, so changed
 pub view-applied : (s : List ℕ) (ch : Change) → Holds (view_of s) ch → view_of (applied ch s) ≡ changed ch (view_of s)
@@ -119,7 +116,7 @@ lapses-none n s m x e = simp e
 
 -- a change of one cell of a log leaves every pair of bits that is none of that cell's: every byte outside it, and in the byte of its kind those of the
 -- three others
-pub elsewhere : (s : List ℕ) (h : Header) (ch : Change) (i q j : ℕ) → sound_of s ≡ Sound h → At ch i → j < 4
+pub elsewhere : (s : List ℕ) (h : Header) (ch : Change) (i q j : ℕ) → sound_of s ≡ Some h → At ch i → j < 4
     → OutsideCell (cells_of h) i q j → pair_of (byte_at (applied ch s) q) j ≡ pair_of (byte_at s q) j
 unfolding applied
 elsewhere s h None i q j p a jl out = refl
@@ -168,51 +165,51 @@ bytes-applied s (Lapses i n) b k = bytes-put_lapses s i n b k.1
 -- ---- what is seen of bytes
 
 -- what is seen as a cell is one
-abbrev pub AreCells : (ℕ → CellAnswer) → Type 0
-AreCells cell = (i : ℕ) (c : Cell) → cell i ≡ Good c → IsCell c
+abbrev pub AreCells : (ℕ → Option Cell) → Type 0
+AreCells cell = (i : ℕ) (c : Cell) → cell i ≡ Some c → IsCell c
 
 -- it is so of all bytes, whether they are a log or not
 pub seen-are-cells : (s : List ℕ) → Bytes s → AreCells (view_of s).cell
 seen-are-cells s bytes i c p = go (sound_of s) refl
   where
-    go : (a : LogHeader) → sound_of s ≡ a → IsCell c
-    go Unsound e = absurd (bad≢good c (rw e at p))
-    go (Sound h) e = read-is-cell s bytes i c (rw e at p)
+    go : (a : Option Header) → sound_of s ≡ a → IsCell c
+    go None e = absurd (bad≢good c (rw e at p))
+    go (Some h) e = read-is-cell s bytes i c (rw e at p)
 
 -- ---- an image is its header and its cells
 
 -- the i-th of some cells
-unfoldable pub cell_in : List Cell → ℕ → CellAnswer
-cell_in [] i = Bad
-cell_in (c ∷ cs) zero = Good c
+unfoldable pub cell_in : List Cell → ℕ → Option Cell
+cell_in [] i = None
+cell_in (c ∷ cs) zero = Some c
 cell_in (c ∷ cs) (suc i) = cell_in cs i
 
 -- each of them is found at its index
-pub cell_in_lem : (cs : List Cell) (i : ℕ) → i < length cs → cell_in cs i ≡ Good (get_or cs i Gap)
+pub cell_in_lem : (cs : List Cell) (i : ℕ) → i < length cs → cell_in cs i ≡ Some (get_or cs i Gap)
 unfolding cell_in
 cell_in_lem [] i l = absurd (not-suc-le-zero l)
 cell_in_lem (c ∷ cs) zero l = refl
 cell_in_lem (c ∷ cs) (suc i) l = cell_in_lem cs i (omega arith)
 
 -- past the last of them there is none
-pub none_in : (cs : List Cell) (i : ℕ) → length cs ≤ i → cell_in cs i ≡ Bad
+pub none_in : (cs : List Cell) (i : ℕ) → length cs ≤ i → cell_in cs i ≡ None
 unfolding cell_in
 none_in [] i l = refl
 none_in (c ∷ cs) zero l = absurd (omega arith)
 none_in (c ∷ cs) (suc i) l = none_in cs i (omega arith)
 
 -- in a row they are those cells
-pub seen-in : (cs : List Cell) (i n : ℕ) → i + n ≤ length cs → seen_from (cell_in cs) i n ≡ map Good (take n (drop i cs))
+pub seen-in : (cs : List Cell) (i n : ℕ) → i + n ≤ length cs → seen_from (cell_in cs) i n ≡ map Some (take n (drop i cs))
 unfolding seen_from
 seen-in cs i zero l = refl
 seen-in cs i (suc n) l =
     let here : i < length cs = omega arith in
-    ap₂ (λ (a : CellAnswer) (x : List CellAnswer). a ∷ x) (cell_in_lem cs i here) (seen-in cs (suc i) n (omega arith))
-    ∙ sym (ap (λ (x : List Cell). map Good (take (suc n) x)) (drop-cons cs i Gap here))
+    ap₂ (λ (a : Option Cell) (x : List (Option Cell)). a ∷ x) (cell_in_lem cs i here) (seen-in cs (suc i) n (omega arith))
+    ∙ sym (ap (λ (x : List Cell). map Some (take (suc n) x)) (drop-cons cs i Gap here))
 
 -- what is seen of a log with this header, these cells and these lapses
 abbrev pub view_by : Header → List Cell → (ℕ → ℕ) → View
-view_by h cs lapses = record { lent = Sound h; cell = cell_in cs; lapses = λ i. cond (ltb i (length cs)) (lapses i) 0 }
+view_by h cs lapses = record { lent = Some h; cell = cell_in cs; lapses = λ i. cond (ltb i (length cs)) (lapses i) 0 }
 
 -- what is seen of an image is what it was made of
 pub view-image : (h : Header) (cs : List Cell) (lapses : ℕ → ℕ) → is_header h ≡ true → length cs ≡ cells_of h → AllCells cs
@@ -231,23 +228,23 @@ view-image h cs lapses e l k =
     lapsed i true t = lapses_at-image lapses h cs e l i (ltb-true i (length cs) t)
     lapsed i false t = lapses_at-past (image_of h cs lapses) i (omega (arith, says, l, ltb-false i (length cs) t))
 
-all_seen : (read : List CellAnswer) → all_good read ≡ true → read ≡ map Good (goods read)
+all_seen : (read : List (Option Cell)) → all_good read ≡ true → read ≡ map Some (goods read)
 unfolding all_good goods
 all_seen [] e = refl
-all_seen (Good c ∷ read) e = ap (λ (x : List CellAnswer). Good c ∷ x) (all_seen read e)
-all_seen (Bad ∷ read) e = absurd (false≢true e)
+all_seen (Some c ∷ read) e = ap (λ (x : List (Option Cell)). Some c ∷ x) (all_seen read e)
+all_seen (None ∷ read) e = absurd (false≢true e)
 
-all-good : (cs : List Cell) → all_good (map Good cs) ≡ true
+all-good : (cs : List Cell) → all_good (map Some cs) ≡ true
 unfolding all_good
 all-good [] = refl
 all-good (c ∷ cs) = all-good cs
 
 -- two logs that are seen alike, and whose cells are all good, are the same bytes
-pub only_one : (s t : List ℕ) (h : Header) → Bytes s → Bytes t → sound_of s ≡ Sound h → view_of s ≡ view_of t
+pub only_one : (s t : List ℕ) (h : Header) → Bytes s → Bytes t → sound_of s ≡ Some h → view_of s ≡ view_of t
     → all_good (seen_from (view_of s).cell 0 (cells_of h)) ≡ true → s ≡ t
 only_one s t h a b p same good =
     let n = cells_of h in
-    let q : sound_of t ≡ Sound h = sym (ap (λ (v : View). v.lent) same) ∙ p in
+    let q : sound_of t ≡ Some h = sym (ap (λ (v : View). v.lent) same) ∙ p in
     let alike : seen_from (cell_at s) 0 n ≡ seen_from (cell_at t) 0 n = rw (p, q) at (ap (λ (v : View). seen_from v.cell 0 n) same) in
     let lapses : (i : ℕ) → lapses_at s i ≡ lapses_at t i = λ i. rw (p, q) at (ap (λ (v : View). v.lapses i) same) in
     let cs = goods (seen_from (cell_at s) 0 n) in
@@ -276,16 +273,16 @@ pub record Whole (h : Header) (cs : List Cell) (lapses : ℕ → ℕ) : Type 0 w
   pub fit : LapsesFit lapses
 
 module _ (h : Header) (cs : List Cell) (lapses : ℕ → ℕ) where
-  cell_set : (i : ℕ) (c : Cell) → i < length cs → (j : ℕ) → cond (eqb j i) (Good c) (cell_in cs j) ≡ cell_in (set cs i c) j
+  cell_set : (i : ℕ) (c : Cell) → i < length cs → (j : ℕ) → cond (eqb j i) (Some c) (cell_in cs j) ≡ cell_in (set cs i c) j
   cell_set i c l j = go (eqb j i) refl (ltb j (length cs)) refl
     where
-      go : (b : Bool) → eqb j i ≡ b → (d : Bool) → ltb j (length cs) ≡ d → cond b (Good c) (cell_in cs j) ≡ cell_in (set cs i c) j
+      go : (b : Bool) → eqb j i ≡ b → (d : Bool) → ltb j (length cs) ≡ d → cond b (Some c) (cell_in cs j) ≡ cell_in (set cs i c) j
       go true p d q =
           let e = eqb-true j i p in
-          sym (ap (cell_in (set cs i c)) e ∙ cell_in_lem (set cs i c) i (rw length-set l) ∙ ap Good (get_or-set_same cs i c Gap l))
+          sym (ap (cell_in (set cs i c)) e ∙ cell_in_lem (set cs i c) i (rw length-set l) ∙ ap Some (get_or-set_same cs i c Gap l))
       go false p true q =
           let m = ltb-true j (length cs) q in
-          cell_in_lem cs j m ∙ ap Good (sym (get_or-set_other cs i j c Gap (eqb-false j i p))) ∙ sym (cell_in_lem (set cs i c) j (rw length-set m))
+          cell_in_lem cs j m ∙ ap Some (sym (get_or-set_other cs i j c Gap (eqb-false j i p))) ∙ sym (cell_in_lem (set cs i c) j (rw length-set m))
       go false p false q =
           let m = ltb-false j (length cs) q in
           none_in cs j m ∙ sym (none_in (set cs i c) j (rw length-set m))

@@ -1,6 +1,6 @@
 -- The log's image. Source: document 01, "The reader and the log": "In memory a log is its image"; document 02, CR 9: "After its 14 header bytes the log
 -- in memory should hold all kinds at two bits each, the earlier cell in the lower bits, then all E+, all E-, all R+, all R-, then the lapses."
-use Rattle.std.specs.Prelude.{ℕ, suc, ◌+◌, ◌*◌, ◌/◌, ◌%◌, ◌<◌, Bool, true, false, cond, List, [], ◌∷◌, ◌++◌, ◌⊎◌, ◌≡◌, ltb, length, get_or}
+use Rattle.std.specs.Prelude.{ℕ, suc, ◌+◌, ◌*◌, ◌/◌, ◌%◌, ◌<◌, Bool, true, false, cond, List, [], ◌∷◌, ◌++◌, ◌⊎◌, ◌≡◌, ltb, length, get_or, None, Option, Some}
 use Rattle.byte_numbers.specs.Number.{bytes_of}
 use Rattle.byte_numbers.specs.Place.{byte_at, number_at, written}
 use Rattle.log_header.specs.Header.{header_size, cells_of, header_at, header_bytes}
@@ -8,8 +8,6 @@ use Rattle.log_cell.specs.Cell.{kind_of, e_plus_of, e_minus_of, r_plus_of, r_min
 use Rattle.energy_log.specs.Pair.{pair_of, packed, put_pair}
 use Rattle.log_header.specs.declared.header.Header.{Header}
 use Rattle.log_cell.specs.declared.cell.Cell.{Cell}
-use Rattle.log_cell.specs.declared.cell.CellAnswer.{CellAnswer}
-use Rattle.log_cell.specs.declared.cell.CellAnswer.TheVariants.{Good, Bad}
 use Rattle.energy_log.specs.declared.image.Change.{Change}
 use Rattle.energy_log.specs.declared.image.Change.TheVariants.{None, Put, Lapses}
 use Rattle.log_cell.specs.declared.cell.Cell.TheVariants.{Gap}
@@ -42,11 +40,11 @@ cells_at s = cells_of (header_at s)
 -- ---- read
 
 -- what is made of the kind and the counts of cell i; past the last cell there is none
-unfoldable pub read_among : (ℕ → ℕ → ℕ → ℕ → ℕ → CellAnswer) → ℕ → List ℕ → ℕ → CellAnswer
-read_among f n s i = cond (ltb i n) (f (kind_at s i) (count_at n s i) (count_at n s (n + i)) (count_at n s (2 * n + i)) (count_at n s (3 * n + i))) Bad
+unfoldable pub read_among : (ℕ → ℕ → ℕ → ℕ → ℕ → Option Cell) → ℕ → List ℕ → ℕ → Option Cell
+read_among f n s i = cond (ltb i n) (f (kind_at s i) (count_at n s i) (count_at n s (n + i)) (count_at n s (2 * n + i)) (count_at n s (3 * n + i))) None
 
 -- the cell with index i of n, read
-abbrev pub cell_among : ℕ → List ℕ → ℕ → CellAnswer
+abbrev pub cell_among : ℕ → List ℕ → ℕ → Option Cell
 cell_among n s i = read_among kind_cell n s i
 
 -- how many asks for it lapsed
@@ -54,7 +52,7 @@ unfoldable pub lapses_among : ℕ → List ℕ → ℕ → ℕ
 lapses_among n s i = cond (ltb i n) (byte_at s (lapses_place n i)) 0
 
 -- the same of the cells that the header says
-unfoldable pub cell_at : List ℕ → ℕ → CellAnswer
+unfoldable pub cell_at : List ℕ → ℕ → Option Cell
 cell_at s i = cell_among (cells_at s) s i
 
 unfoldable pub lapses_at : List ℕ → ℕ → ℕ
@@ -144,16 +142,16 @@ unfoldable pub image_of : Header → List Cell → (ℕ → ℕ) → List ℕ
 image_of h cs lapses = header_bytes h ++ cells_bytes cs lapses
 
 -- whether all that was read are cells
-unfoldable pub all_good : List CellAnswer → Bool
+unfoldable pub all_good : List (Option Cell) → Bool
 all_good [] = true
-all_good (Good c ∷ read) = all_good read
-all_good (Bad ∷ read) = false
+all_good (Some c ∷ read) = all_good read
+all_good (None ∷ read) = false
 
 -- the cells that were read
-unfoldable pub goods : List CellAnswer → List Cell
+unfoldable pub goods : List (Option Cell) → List Cell
 goods [] = []
-goods (Good c ∷ read) = c ∷ goods read
-goods (Bad ∷ read) = goods read
+goods (Some c ∷ read) = c ∷ goods read
+goods (None ∷ read) = goods read
 
 -- every one of the cells is one
 abbrev pub AllCells : List Cell → Type 0

@@ -3,45 +3,43 @@ ghost use Rattle.std.specs.Prelude.{◌≡◌, ◌+◌, ◌-◌, ◌≤◌, leng
 ghost use Rattle.refusal.specs.Outcome.{outcome};
 ghost use Rattle.byte_numbers.specs.Place.{written};
 ghost use Rattle.log_header.specs.Header.{header_size};
-ghost use Rattle.energy_log.specs.Fresh.{fresh_number, fresh_of};
+ghost use Rattle.energy_log.specs.Fresh.{fresh_error_number, fresh_of};
 
 use log_header::{HEADER_BYTES, Header};
+use refusal::Numbered;
 
-#[derive(Clone, Copy)]
-pub enum FreshAnswer {
-    // The image's length.
-    Done(usize),
+#[derive(Clone, Copy, PartialEq, Eq)]
+pub enum FreshError {
     // The header is none.
     OutOfRange,
     TooShort,
 }
 
-impl FreshAnswer {
-    pub fn number(self) -> u8
-        ensures { result ≡ fresh_number self }
-    {
+impl Numbered for FreshError {
+    ghost number_of = { fresh_error_number };
+
+    fn number(&self) -> u8 {
         match self {
-            FreshAnswer::Done(_) => refusal::DONE,
-            FreshAnswer::OutOfRange => refusal::OUT_OF_RANGE,
-            FreshAnswer::TooShort => refusal::TOO_SHORT,
+            FreshError::OutOfRange => refusal::OUT_OF_RANGE,
+            FreshError::TooShort => refusal::TOO_SHORT,
         }
     }
 }
 
 // To the front of out, whose rest stays as it was.
-pub fn fresh_log(h: Header, out: &mut [u8]) -> FreshAnswer
+pub fn fresh_log(h: Header, out: &mut [u8]) -> Result<usize, FreshError>
     ensures { outcome result out.new ≡ fresh_of h out.old }
 {
-    if log_header::is_header(h) {
-        let length = log_header::length_of(h);
-        if out.len() < length {
-            return FreshAnswer::TooShort;
-        }
-        log_header::write_header(out, h);
-        write_gaps(out, length);
-        return FreshAnswer::Done(length);
+    if !log_header::is_header(h) {
+        return Err(FreshError::OutOfRange);
     }
-    FreshAnswer::OutOfRange
+    let length = log_header::length_of(h);
+    if out.len() < length {
+        return Err(FreshError::TooShort);
+    }
+    log_header::write_header(out, h);
+    write_gaps(out, length);
+    Ok(length)
 }
 
 // The bytes behind the header, up to the image's end: gaps have no counts and no lapses, and their kind is zero too.
@@ -49,9 +47,5 @@ fn write_gaps(out: &mut [u8], end: usize)
     requires { (header_size ≤ end) × (end ≤ length out.old) }
     ensures { out.new ≡ written out.old header_size (replicate (end - header_size) 0) }
 {
-    let mut at = HEADER_BYTES;
-    while at < end {
-        out[at] = 0;
-        at += 1;
-    }
+    out[HEADER_BYTES..end].fill(0);
 }

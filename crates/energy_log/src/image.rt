@@ -7,11 +7,11 @@ ghost use Rattle.energy_log.specs.Image.{kind_place, count_place, lapses_place};
 ghost use Rattle.energy_log.specs.Image.{kind_at, count_at, cells_at, cell_among, lapses_among, cell_at, lapses_at};
 ghost use Rattle.energy_log.specs.Image.{put_kind, put_count, put_counts, put_cell_among, put_lapses_among, put_cell, put_lapses, applied};
 
-use log_cell::{Cell, CellAnswer};
+use log_cell::Cell;
 use log_header::HEADER_BYTES;
 
 // What a call does to a log.
-#[derive(Clone, Copy)]
+#[derive(Clone, Copy, PartialEq, Eq)]
 pub enum Change {
     None,
     // The cell with this index is another, with the lapses that it had.
@@ -29,7 +29,7 @@ pub fn cells_at(log: &[u8]) -> u16
     (days as u16) * (slots as u16)
 }
 
-pub fn cell_at(log: &[u8], i: usize) -> CellAnswer
+pub fn cell_at(log: &[u8], i: usize) -> Option<Cell>
     ensures { result ≡ cell_at log.now i }
 {
     cell_among(log, cells_at(log), i)
@@ -42,12 +42,12 @@ pub fn lapses_at(log: &[u8], i: usize) -> u8
     lapses_among(log, cells_at(log), i)
 }
 
-pub fn cell_among(log: &[u8], n: u16, i: usize) -> CellAnswer
+pub fn cell_among(log: &[u8], n: u16, i: usize) -> Option<Cell>
     ensures { result ≡ cell_among n log.now i }
 {
     let cells = n as usize;
     if cells <= i {
-        return CellAnswer::Bad;
+        return None;
     }
     if size_for(n) <= log.len() {
         return cell_in(log, n, i);
@@ -90,7 +90,7 @@ fn lapses_place(n: u16, i: usize) -> usize
 // ---- read
 
 // Where all cells have their room: its five parts are read without a test.
-fn cell_in(log: &[u8], n: u16, i: usize) -> CellAnswer
+fn cell_in(log: &[u8], n: u16, i: usize) -> Option<Cell>
     requires { (i < n) × (size_for n ≤ length log.now) }
     ensures { result ≡ cell_among n log.now i }
 {

@@ -15,8 +15,6 @@ pub fn word_count(rt: HostRuntime) -> usize {
 
 // One of them, in a lent buffer: nothing where it is missing or longer than the buffer.
 pub fn word(rt: HostRuntime, i: usize, room: &mut [u8]) -> &[u8] {
-    match rt.arg(i, room) {
-        Ok(n) => front(room, n),
-        Err(_) => front(room, 0),
-    }
+    let length = rt.arg(i, room).unwrap_or(0);
+    front(room, length)
 }

@@ -80,8 +80,10 @@ pub fn settle(rt: HostRuntime, path: &[u8]) {
 }
 
 fn settled(rt: HostRuntime, folder: &[u8]) -> io::Result<()> {
-    if folder.len() == 0 {
-        return File::open(&rt, ".")?.sync_all();
-    }
-    File::open(&rt, as_text(folder)?)?.sync_all()
+    let name = if folder.is_empty() {
+        "."
+    } else {
+        as_text(folder)?
+    };
+    File::open(&rt, name)?.sync_all()
 }

@@ -21,7 +21,6 @@ pub use link::{file_lock_name, line_lock_name, resolved};
 pub use lock::{Lock, locked, unlocked};
 pub use machine_clock::seconds;
 pub use path::{PATH_ROOM, as_text};
-pub use paths_and_locks::PathAnswer;
 pub use reading::{contents, read_full};
 pub use reason::fail;
 pub use writing::{made, stored};

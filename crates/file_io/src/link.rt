@@ -5,14 +5,6 @@ use std::fs::File;
 use std::io::ErrorKind;
 use std::{fs, io};
 
-#[derive(Clone, Copy)]
-enum Step {
-    // What a path names is no link.
-    End,
-    // The path that a link leads to, by its length.
-    To(usize),
-}
-
 // The system follows no more links than these.
 const LINKS_MOST: u8 = 40;
 
@@ -22,33 +14,33 @@ pub fn resolved(rt: HostRuntime, path: &[u8], out: &mut [u8]) -> io::Result<usiz
     as_text(path)?;
     let mut n = put_joined(out, path, b"")?;
     for _ in 0..LINKS_MOST {
-        match stepped(rt, out, n)? {
-            Step::End => return Ok(n),
-            Step::To(m) => n = m,
-        }
+        let Some(m) = stepped(rt, out, n)? else {
+            return Ok(n);
+        };
+        n = m;
     }
     // The system says what is wrong with it.
     File::open(&rt, as_text(path)?)?;
     Err(io::Error::from_raw_os_error(LINKS))
 }
 
-// The path in the buffer's first bytes gives way to the one that its link leads to.
-fn stepped(rt: HostRuntime, out: &mut [u8], n: usize) -> io::Result<Step> {
+// The path in the buffer's first bytes gives way to the one that its link leads to: nothing where it names no link.
+fn stepped(rt: HostRuntime, out: &mut [u8], n: usize) -> io::Result<Option<usize>> {
     let mut next = [0u8; PATH_ROOM];
-    match followed(rt, front(out, n), &mut next)? {
-        Step::End => Ok(Step::End),
-        Step::To(m) => Ok(Step::To(put_joined(out, front(&next, m), b"")?)),
-    }
+    let Some(m) = followed(rt, front(out, n), &mut next)? else {
+        return Ok(None);
+    };
+    Ok(Some(put_joined(out, front(&next, m), b"")?))
 }
 
 // Where one link leads to.
-fn followed(rt: HostRuntime, path: &[u8], next: &mut [u8]) -> io::Result<Step> {
+fn followed(rt: HostRuntime, path: &[u8], next: &mut [u8]) -> io::Result<Option<usize>> {
     match fs::read_link(&rt, as_text(path)?) {
         Ok(link) => {
             let words = link.as_str().as_bytes();
             let m = put_joined(next, start_of(path, words), words)?;
             as_text(front(next, m))?;
-            Ok(Step::To(m))
+            Ok(Some(m))
         }
         Err(e) => not_followed(e),
     }
@@ -56,9 +48,9 @@ fn followed(rt: HostRuntime, path: &[u8], next: &mut [u8]) -> io::Result<Step> {
 
 // One that the system does not follow is the end. Other errors are no answer of the system's: a link's text that is none is refused as a
 // path is.
-fn not_followed(why: io::Error) -> io::Result<Step> {
+fn not_followed(why: io::Error) -> io::Result<Option<usize>> {
     if why.raw_os_error().is_some() {
-        return Ok(Step::End);
+        return Ok(None);
     }
     if why.kind() == ErrorKind::InvalidFilename {
         return Err(io::Error::from_raw_os_error(CHARACTERS));

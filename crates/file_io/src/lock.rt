@@ -3,7 +3,7 @@ use crate::beside::{Beside, new_beside, new_file};
 use crate::path::{PATH_ROOM, as_text};
 use crate::reading::contents;
 use crate::writing::{remove, renamed};
-use paths_and_locks::{Holder, front, holder_of, put_holder};
+use paths_and_locks::{front, holder_of, put_holder};
 use std::fs::{File, Permissions};
 use std::io::{ErrorKind, Write};
 use std::os::unix::fs::PermissionsExt;
@@ -20,18 +20,8 @@ pub enum Lock {
     Unreadable,
 }
 
-// What one try comes to.
-#[derive(Clone, Copy)]
-enum Try {
-    Held,
-    By(u32),
-    // It may just be being made.
-    NoNumber,
-    // It was there, and is no more.
-    Gone,
-}
-
-#[derive(Clone, Copy)]
+// What a look at a lock shows.
+#[derive(Clone, Copy, PartialEq, Eq)]
 enum Look {
     Process(u32),
     NoNumber,
@@ -72,14 +62,14 @@ const LARGEST: u32 = 2147483647;
 pub fn locked(rt: HostRuntime, path: &[u8]) -> io::Result<Lock> {
     for turn in 0..TRIES {
         match tried(rt, path)? {
-            Try::Held => return Ok(Lock::Held),
-            Try::By(pid) => return Ok(Lock::By(pid)),
-            Try::NoNumber => {
+            // It may just be being made.
+            Some(Lock::Unreadable) => {
                 if turn < TRIES - 1 {
                     thread::sleep(&rt, Duration::from_millis(BETWEEN_TRIES));
                 }
             }
-            Try::Gone => {}
+            Some(lock) => return Ok(lock),
+            None => {}
         }
     }
     Ok(Lock::Unreadable)
@@ -87,91 +77,57 @@ pub fn locked(rt: HostRuntime, path: &[u8]) -> io::Result<Lock> {
 
 // Gives a lock up, if it is this process's.
 pub fn unlocked(rt: HostRuntime, path: &[u8]) {
-    match found(rt, path) {
-        Look::Process(pid) => {
-            if pid == own_number(rt) {
-                remove(rt, path);
-            }
-        }
-        Look::NoNumber => {}
-        Look::Gone => {}
+    if holds(rt, path, own_number(rt)) {
+        remove(rt, path);
     }
 }
 
-fn tried(rt: HostRuntime, path: &[u8]) -> io::Result<Try> {
+// What one try comes to: nothing where the lock was there, and is no more.
+fn tried(rt: HostRuntime, path: &[u8]) -> io::Result<Option<Lock>> {
     match new_file(rt, path) {
-        Ok(file) => match put_own(rt, file) {
-            Ok(()) => Ok(Try::Held),
-            Err(e) => {
-                remove(rt, path);
-                Err(e)
-            }
-        },
-        Err(e) => {
-            if e.kind() == ErrorKind::AlreadyExists {
-                return looked_at(rt, path);
-            }
-            Err(e)
+        Ok(file) => {
+            put_own(rt, file).inspect_err(|_| remove(rt, path))?;
+            Ok(Some(Lock::Held))
         }
+        Err(e) if e.kind() == ErrorKind::AlreadyExists => looked_at(rt, path),
+        Err(e) => Err(e),
     }
 }
 
-fn looked_at(rt: HostRuntime, path: &[u8]) -> io::Result<Try> {
+fn looked_at(rt: HostRuntime, path: &[u8]) -> io::Result<Option<Lock>> {
     match found(rt, path) {
-        Look::Process(pid) => judged(rt, path, pid),
-        Look::NoNumber => Ok(Try::NoNumber),
-        Look::Gone => Ok(Try::Gone),
+        Look::Process(pid) if lives(rt, pid) => Ok(Some(Lock::By(pid))),
+        Look::Process(pid) => taken_over(rt, path, pid),
+        Look::NoNumber => Ok(Some(Lock::Unreadable)),
+        Look::Gone => Ok(None),
     }
-}
-
-fn judged(rt: HostRuntime, path: &[u8], pid: u32) -> io::Result<Try> {
-    if lives(rt, pid) {
-        return Ok(Try::By(pid));
-    }
-    taken_over(rt, path, pid)
 }
 
 fn found(rt: HostRuntime, path: &[u8]) -> Look {
     let mut bytes = [0u8; LOOKED_AT];
     match contents(rt, path, &mut bytes) {
-        Ok(n) => found_in(front(&bytes, n)),
-        Err(e) => {
-            if e.kind() == ErrorKind::NotFound {
-                return Look::Gone;
-            }
-            Look::NoNumber
-        }
+        Ok(n) => holder_of(front(&bytes, n)).map_or(Look::NoNumber, Look::Process),
+        Err(e) if e.kind() == ErrorKind::NotFound => Look::Gone,
+        Err(_) => Look::NoNumber,
     }
 }
 
-fn found_in(bytes: &[u8]) -> Look {
-    match holder_of(bytes) {
-        Holder::Process(pid) => Look::Process(pid),
-        Holder::NoNumber => Look::NoNumber,
-    }
+fn holds(rt: HostRuntime, path: &[u8], pid: u32) -> bool {
+    found(rt, path) == Look::Process(pid)
 }
 
 // Whether another process has this number. One that this user may not ask after has, and where the system shows nobody others'
 // processes, any may.
 fn lives(rt: HostRuntime, pid: u32) -> bool {
-    if pid == own_number(rt) {
-        return false;
-    }
-    if LARGEST < pid {
-        return false;
-    }
-    is_shown(rt, pid) || !is_shown(rt, FIRST)
+    pid != own_number(rt) && pid <= LARGEST && (is_shown(rt, pid) || !is_shown(rt, FIRST))
 }
 
 fn is_shown(rt: HostRuntime, pid: u32) -> bool {
     let mut name = [0u8; PROCESS_ROOM];
     byte_numbers::put_bytes(&mut name, 0, PROCESSES);
-    let digits = text::put_decimal(&mut name, PROCESSES.len(), pid as u64);
+    let digits = text::put_decimal(&mut name, PROCESSES.len(), u64::from(pid));
     let length = PROCESSES.len().saturating_add(digits);
-    match known(rt, front(&name, length)) {
-        Ok(()) => true,
-        Err(e) => e.kind() != ErrorKind::NotFound,
-    }
+    !known(rt, front(&name, length)).is_err_and(|e| e.kind() == ErrorKind::NotFound)
 }
 
 fn known(rt: HostRuntime, path: &[u8]) -> io::Result<()> {
@@ -191,53 +147,26 @@ fn put_own(rt: HostRuntime, mut file: File) -> io::Result<()> {
 
 // Puts a lock of this process in the place of one whose process lives no more. Several may do so at once: the last one's stays, which
 // each sees after a wait that is longer than the others take from their look at the lock to their change of it.
-fn taken_over(rt: HostRuntime, path: &[u8], stale: u32) -> io::Result<Try> {
+fn taken_over(rt: HostRuntime, path: &[u8], stale: u32) -> io::Result<Option<Lock>> {
     let mut name = [0u8; PATH_ROOM];
     let Beside { file, length } = new_beside(rt, path, &mut name)?;
+    let name = front(&name, length);
     let _ = file.set_permissions(Permissions::from_mode(RIGHTS));
-    match put_own(rt, file) {
-        Ok(()) => put_in_place(rt, path, front(&name, length), stale),
-        Err(e) => {
-            remove(rt, front(&name, length));
-            Err(e)
-        }
+    put_own(rt, file).inspect_err(|_| remove(rt, name))?;
+    if !holds(rt, path, stale) {
+        remove(rt, name);
+        return Ok(None);
     }
+    renamed(rt, name, path).inspect_err(|_| remove(rt, name))?;
+    thread::sleep(&rt, Duration::from_millis(TAKE_OVER));
+    Ok(after_the_wait(rt, path))
 }
 
-fn put_in_place(rt: HostRuntime, path: &[u8], name: &[u8], stale: u32) -> io::Result<Try> {
-    if holds(rt, path, stale) {
-        return match renamed(rt, name, path) {
-            Ok(()) => {
-                thread::sleep(&rt, Duration::from_millis(TAKE_OVER));
-                Ok(after_the_wait(rt, path))
-            }
-            Err(e) => {
-                remove(rt, name);
-                Err(e)
-            }
-        };
-    }
-    remove(rt, name);
-    Ok(Try::Gone)
-}
-
-fn holds(rt: HostRuntime, path: &[u8], pid: u32) -> bool {
+fn after_the_wait(rt: HostRuntime, path: &[u8]) -> Option<Lock> {
     match found(rt, path) {
-        Look::Process(other) => other == pid,
-        Look::NoNumber => false,
-        Look::Gone => false,
-    }
-}
-
-fn after_the_wait(rt: HostRuntime, path: &[u8]) -> Try {
-    match found(rt, path) {
-        Look::Process(pid) => {
-            if pid == own_number(rt) {
-                return Try::Held;
-            }
-            Try::By(pid)
-        }
-        Look::NoNumber => Try::NoNumber,
-        Look::Gone => Try::Gone,
+        Look::Process(pid) if pid == own_number(rt) => Some(Lock::Held),
+        Look::Process(pid) => Some(Lock::By(pid)),
+        Look::NoNumber => Some(Lock::Unreadable),
+        Look::Gone => None,
     }
 }

@@ -3,8 +3,5 @@ use std::rt::Clock;
 
 // Seconds since 1970; none before.
 pub fn seconds(rt: HostRuntime) -> u64 {
-    match rt.since_1970() {
-        Ok(time) => time.as_secs(),
-        Err(_) => 0,
-    }
+    rt.since_1970().map_or(0, |time| time.as_secs())
 }

@@ -3,7 +3,7 @@ ghost use Rattle.std.specs.Prelude.{◌≡◌, IfOk, IfErr, Some, pos};
 ghost use Rattle.std.specs.IoError.{raw_os_error};
 ghost use Rattle.file_io.specs.Path.{IsPath, path_fault};
 
-use paths_and_locks::{PathAnswer, joined};
+use paths_and_locks::joined;
 use std::io;
 use std::str::from_utf8;
 
@@ -32,16 +32,10 @@ pub fn as_text(path: &[u8]) -> io::Result<&str>
     if path.contains(&0) {
         return Err(io::Error::from_raw_os_error(INVALID));
     }
-    match from_utf8(path) {
-        Ok(text) => Ok(text),
-        Err(_) => Err(io::Error::from_raw_os_error(CHARACTERS)),
-    }
+    from_utf8(path).map_err(|_| io::Error::from_raw_os_error(CHARACTERS))
 }
 
 // Puts two texts, one behind the other, to the front of a buffer, where they are no longer than a path may be.
 pub fn put_joined(out: &mut [u8], xs: &[u8], ys: &[u8]) -> io::Result<usize> {
-    match joined(out, xs, ys) {
-        PathAnswer::Length(n) => Ok(n),
-        PathAnswer::Failed => Err(io::Error::from_raw_os_error(TOO_LONG)),
-    }
+    joined(out, xs, ys).ok_or_else(|| io::Error::from_raw_os_error(TOO_LONG))
 }

@@ -41,8 +41,6 @@ pub fn fail(err: Stderr, what: &[u8], e: io::Error) {
 }
 
 fn before_number(reason: &[u8]) -> &[u8] {
-    match reason.windows(NUMBER.len()).position(|w| w == NUMBER) {
-        Some(n) => front(reason, n),
-        None => reason,
-    }
+    let found = reason.windows(NUMBER.len()).position(|w| w == NUMBER);
+    found.map_or(reason, |n| front(reason, n))
 }

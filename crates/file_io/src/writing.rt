@@ -27,13 +27,10 @@ fn replaced(rt: HostRuntime, path: &[u8], bytes: &[u8]) -> io::Result<()> {
 // it is gone.
 fn with_rights(rt: HostRuntime, path: &[u8], name: &[u8], file: File) -> io::Result<File> {
     match File::open(&rt, as_text(path)?) {
-        Ok(old) => match kept(&old, &file) {
-            Ok(()) => Ok(file),
-            Err(e) => {
-                remove(rt, name);
-                Err(e)
-            }
-        },
+        Ok(old) => {
+            kept(&old, &file).inspect_err(|_| remove(rt, name))?;
+            Ok(file)
+        }
         Err(e) => {
             remove(rt, name);
             if e.kind() == ErrorKind::NotFound {
@@ -63,42 +60,19 @@ fn put_under(
     file: File,
     bytes: &[u8],
 ) -> io::Result<()> {
-    match put_and_renamed(rt, path, name, file, bytes) {
-        Ok(()) => {
-            settle(rt, path);
-            Ok(())
-        }
-        Err(e) => {
-            remove(rt, name);
-            Err(e)
-        }
-    }
-}
-
-fn put_and_renamed(
-    rt: HostRuntime,
-    path: &[u8],
-    name: &[u8],
-    file: File,
-    bytes: &[u8],
-) -> io::Result<()> {
-    put_all(file, bytes)?;
-    renamed(rt, name, path)
+    put_all(file, bytes)
+        .and_then(|()| renamed(rt, name, path))
+        .inspect_err(|_| remove(rt, name))?;
+    settle(rt, path);
+    Ok(())
 }
 
 // Makes a file that was not there: a file with this name is left as it is, and is a failure.
 pub fn made(rt: HostRuntime, path: &[u8], bytes: &[u8]) -> io::Result<()> {
     let file = new_file(rt, path)?;
-    match put_all(file, bytes) {
-        Ok(()) => {
-            settle(rt, path);
-            Ok(())
-        }
-        Err(e) => {
-            remove(rt, path);
-            Err(e)
-        }
-    }
+    put_all(file, bytes).inspect_err(|_| remove(rt, path))?;
+    settle(rt, path);
+    Ok(())
 }
 
 // Writes all bytes, sees that they are on the disk, and closes the file.

@@ -4,6 +4,7 @@ ghost use Rattle.frame.specs.Sealing.{sealed, crc_fits, is_sealed};
 use crate::layout::{CRC_BYTES, LONGEST, SHORTEST};
 
 // Puts the CRC of the first n bytes behind them, as far as there is room.
+#[tactic(auto, unfolding(crate::specs::Sealing::sealed))]
 pub fn seal(out: &mut [u8], n: usize)
     ensures { out.new ≡ sealed out.old n }
 {
@@ -14,6 +15,7 @@ pub fn seal(out: &mut [u8], n: usize)
 }
 
 // Whether the last two bytes are the CRC of all bytes before them.
+#[tactic(auto, unfolding(crate::specs::Sealing::crc_fits))]
 pub fn crc_fits(frame: &[u8]) -> bool
     ensures { result ≡ crc_fits frame.now }
 {
@@ -21,19 +23,13 @@ pub fn crc_fits(frame: &[u8]) -> bool
         return false;
     }
     let n = frame.len() - CRC_BYTES;
-    let crc = crc16::crc16(&frame[..n]);
-    byte_numbers::u16_at(frame, n) == crc
+    byte_numbers::u16_at(frame, n) == crc16::crc16(&frame[..n])
 }
 
 // Whether the bytes are a frame: of a frame's length, and with its CRC right.
+#[tactic(auto, unfolding(crate::specs::Sealing::is_sealed))]
 pub fn is_sealed(frame: &[u8]) -> bool
     ensures { result ≡ is_sealed frame.now }
 {
-    if frame.len() < SHORTEST {
-        return false;
-    }
-    if LONGEST < frame.len() {
-        return false;
-    }
-    crc_fits(frame)
+    SHORTEST <= frame.len() && frame.len() <= LONGEST && crc_fits(frame)
 }

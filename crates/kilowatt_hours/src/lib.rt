@@ -8,6 +8,8 @@ ghost use Rattle.std.specs.Prelude.{◌≡◌, ◌*◌, ◌^◌, ◌≤◌, ◌<
 ghost use Rattle.std.specs.Float.Ieee.Nearest.{closest};
 ghost use Rattle.kilowatt_hours.specs.Bits.{kwh_bits};
 
+use std::cmp::Ordering;
+
 const PLUS_ZERO: u32 = 0;
 
 // One more in a float's exponent, which stands before its 23 digits.
@@ -32,7 +34,7 @@ pub fn kwh_bits(n: u64) -> u32
     if n == 0 {
         return PLUS_ZERO;
     }
-    let zeros = u64::leading_zeros(n);
+    let zeros = n.leading_zeros();
     let digits = n << zeros;
     if digits < LONGER {
         return (DROPPED - zeros) * EXPONENT + closest_whole(digits, UNIT);
@@ -48,14 +50,9 @@ fn closest_whole(a: u64, unit: u64) -> u32
 {
     let whole = (a / unit) as u32;
     let twice = a % unit * 2;
-    if twice < unit {
-        return whole;
+    match twice.cmp(&unit) {
+        Ordering::Less => whole,
+        Ordering::Equal => whole + whole % 2,
+        Ordering::Greater => whole + 1,
     }
-    if unit < twice {
-        return whole + 1;
-    }
-    if whole % 2 == 0 {
-        return whole;
-    }
-    whole + 1
 }

@@ -1,4 +1,5 @@
 -- What follows from the definition of a cell: a cell and its nine bytes say the same, and its lapses are the tenth.
+use Rattle.std.specs.Prelude.{None, Option, Some}
 use Prim.Native.Nat.{ℕ, ◌+◌, ◌*◌, ◌/◌, ◌%◌, ◌<◌}
 use native.Mathlib.Omega.{arith}
 use mathlib.Core.Path.{◌≡◌, refl, sym, ap, subst, ◌∙◌}
@@ -18,8 +19,6 @@ use Rattle.log_cell.specs.Cell.{counts_size, cell_size, cell_bytes, no_counts, i
 use Rattle.log_cell.specs.Cell.{cell_by, kind_cell, kind_names, cell_of, if_good, CountsFit, CellFits, IsCell}
 use Rattle.log_cell.specs.declared.cell.Cell.{Cell}
 use Rattle.log_cell.specs.declared.cell.Cell.TheVariants.{Gap, Empty, Measured}
-use Rattle.log_cell.specs.declared.cell.CellAnswer.{CellAnswer}
-use Rattle.log_cell.specs.declared.cell.CellAnswer.TheVariants.{Good, Bad}
 
 -- a gap is a right cell
 pub gap-is-cell : IsCell Gap
@@ -67,7 +66,7 @@ low-high : (n : ℕ) → n < 65536 → (0 * 256 + n / 256 % 256) * 256 + n % 256
 low-high n h = omega arith
 
 -- a cell's nine bytes are read back as the cell
-pub cell_of-bytes : (c : Cell) → IsCell c → cell_of (counts_bytes c) ≡ Good c
+pub cell_of-bytes : (c : Cell) → IsCell c → cell_of (counts_bytes c) ≡ Some c
 unfolding cell_of counts_bytes kind_bytes kind_cell kind_fits cell_by is_cell no_counts bytes_of number_at number
 cell_of-bytes Gap i = refl
 cell_of-bytes Empty i = refl
@@ -75,7 +74,7 @@ cell_of-bytes (Measured e+ e- r+ r-) i =
     simp (low-high e+ i.fits.e_plus, low-high e- i.fits.e_minus, low-high r+ i.fits.r_plus, low-high r- i.fits.r_minus, not-true (no_counts e+ e- r+ r-) i.right)
 
 -- and from its kind and its counts
-pub kind_cell-of : (c : Cell) → is_cell c ≡ true → kind_cell (kind_of c) (e_plus_of c) (e_minus_of c) (r_plus_of c) (r_minus_of c) ≡ Good c
+pub kind_cell-of : (c : Cell) → is_cell c ≡ true → kind_cell (kind_of c) (e_plus_of c) (e_minus_of c) (r_plus_of c) (r_minus_of c) ≡ Some c
 unfolding kind_cell kind_fits cell_by is_cell no_counts
 kind_cell-of Gap i = refl
 kind_cell-of Empty i = refl
@@ -95,7 +94,7 @@ pub record Kind (kind e+ e- r+ r- : ℕ) (c : Cell) : Type 0 where
   pub r--is : r- ≡ r_minus_of c
 
 -- an answer that there is no cell gives none
-pub bad≢good : (c : Cell) → Bad ≡ Good c → ⊥
+pub bad≢good : (c : Cell) → None ≡ Some c → ⊥
 bad≢good c p = let z : ◌≡◌ {A = ℕ} 0 1 = cc in omega arith
 
 module _ (kind e+ e- r+ r- : ℕ) where
@@ -125,11 +124,11 @@ module _ (kind e+ e- r+ r- : ℕ) where
       rw e (record { right = ap not z; fits = λ f. f; bytes = refl; kind-is = refl; e+-is = refl; e--is = refl; r+-is = refl; r--is = refl })
 
   -- all this holds of whatever cell was read
-  pub kind-of : (c : Cell) → kind_cell kind e+ e- r+ r- ≡ Good c → Kind kind e+ e- r+ r- c
+  pub kind-of : (c : Cell) → kind_cell kind e+ e- r+ r- ≡ Some c → Kind kind e+ e- r+ r- c
   unfolding kind_cell
   kind-of c p =
       let n = no_counts e+ e- r+ r- in
-      let a = chosen (kind_fits kind n) (Good (cell_by kind e+ e- r+ r-)) Bad p (bad≢good c) in
+      let a = chosen (kind_fits kind n) (Some (cell_by kind e+ e- r+ r-)) None p (bad≢good c) in
       let q : cell_by kind e+ e- r+ r- ≡ c = cc a.1 in
       subst (Kind kind e+ e- r+ r-) q (fit-kind n refl a.0)
 
@@ -138,10 +137,10 @@ record Nine (bs : List ℕ) (c : Cell) : Type 0 where
   nine : length bs ≡ counts_size
   kind : Kind (byte_at bs 0) (number_at bs 1 2) (number_at bs 3 2) (number_at bs 5 2) (number_at bs 7 2) c
 
-nine-of : (bs : List ℕ) (c : Cell) → cell_of bs ≡ Good c → Nine bs c
+nine-of : (bs : List ℕ) (c : Cell) → cell_of bs ≡ Some c → Nine bs c
 unfolding cell_of
 nine-of bs c p =
-    let a = chosen (eqb (length bs) counts_size) (kind_cell (byte_at bs 0) (number_at bs 1 2) (number_at bs 3 2) (number_at bs 5 2) (number_at bs 7 2)) Bad p (bad≢good c) in
+    let a = chosen (eqb (length bs) counts_size) (kind_cell (byte_at bs 0) (number_at bs 1 2) (number_at bs 3 2) (number_at bs 5 2) (number_at bs 7 2)) None p (bad≢good c) in
     record { nine = eqb-true _ _ a.0; kind = kind-of _ _ _ _ _ c a.1 }
 
 -- a kind above the three goes with no counts
@@ -157,7 +156,7 @@ fits_below kind true p = omega (arith, ltb-true kind 2 p)
 fits_below kind false p = omega (arith, eqb-true kind 2 p)
 
 -- so the cell that the kind names is the one that is read
-pub fits-named : (kind e+ e- r+ r- : ℕ) (n : Bool) → kind_fits kind n ≡ true → kind_names kind e+ e- r+ r- ≡ Good (cell_by kind e+ e- r+ r-)
+pub fits-named : (kind e+ e- r+ r- : ℕ) (n : Bool) → kind_fits kind n ≡ true → kind_names kind e+ e- r+ r- ≡ Some (cell_by kind e+ e- r+ r-)
 unfolding kind_names
 fits-named kind e+ e- r+ r- n p = simp (lt-ltb kind 3 (fits_below kind n p))
 
@@ -166,7 +165,7 @@ pub two-below : (bs : List ℕ) (i : ℕ) → Bytes bs → number_at bs i 2 < 65
 two-below bs i h = omega (arith, two bs i, h i, h (i + 1))
 
 -- what nine bytes are read as is a right cell
-pub good-is-cell : (bs : List ℕ) (c : Cell) → Bytes bs → cell_of bs ≡ Good c → IsCell c
+pub good-is-cell : (bs : List ℕ) (c : Cell) → Bytes bs → cell_of bs ≡ Some c → IsCell c
 good-is-cell bs c h p =
     let n = nine-of bs c p in
     let f : CountsFit (number_at bs 1 2) (number_at bs 3 2) (number_at bs 5 2) (number_at bs 7 2) =
@@ -180,13 +179,13 @@ unfolding run kind_bytes bytes_of
 listed bs h = simp (low bs h 1, high bs h 1, low bs h 3, high bs h 3, low bs h 5, high bs h 5, low bs h 7, high bs h 7)
 
 -- nine bytes that are read as a cell are that cell's
-pub good-bytes : (bs : List ℕ) (c : Cell) → Bytes bs → cell_of bs ≡ Good c → counts_bytes c ≡ bs
+pub good-bytes : (bs : List ℕ) (c : Cell) → Bytes bs → cell_of bs ≡ Some c → counts_bytes c ≡ bs
 good-bytes bs c h p =
     let n = nine-of bs c p in
     n.kind.bytes ∙ sym (listed bs h) ∙ sym (take-run counts_size 0 bs (omega (arith, n.nine))) ∙ take_all counts_size bs (omega (arith, n.nine))
 
 -- what holds of both values holds of the one that is chosen
-pub by-good : {A : Type 0} (P : A → Type 0) (a : CellAnswer) {x : A} {f : Cell → A}
-    → (a ≡ Bad → P x) → ((c : Cell) → a ≡ Good c → P (f c)) → P (if_good a x f)
-by-good P Bad other k = other refl
-by-good P (Good c) other k = k c refl
+pub by-good : {A : Type 0} (P : A → Type 0) (a : Option Cell) {x : A} {f : Cell → A}
+    → (a ≡ None → P x) → ((c : Cell) → a ≡ Some c → P (f c)) → P (if_good a x f)
+by-good P None other k = other refl
+by-good P (Some c) other k = k c refl

@@ -1,12 +1,10 @@
 -- A cell of the log and its ten bytes. Source: document 01, "The reader and the log"; document 02, CR 7: "Each cell gets one byte more, at its end: how
 -- many asks for it ended in a lapse".
-use Rattle.std.specs.Prelude.{ℕ, ◌<◌, Bool, true, cond, not, ◌&&◌, List, [], ◌∷◌, ◌++◌, ltb, eqb, length, ◌≡◌}
+use Rattle.std.specs.Prelude.{ℕ, ◌<◌, Bool, true, cond, not, ◌&&◌, List, [], ◌∷◌, ◌++◌, ltb, eqb, length, ◌≡◌, None, Option, Some}
 use Rattle.byte_numbers.specs.Number.{bytes_of}
 use Rattle.byte_numbers.specs.Place.{byte_at, number_at}
 use Rattle.log_cell.specs.declared.cell.Cell.{Cell}
 use Rattle.log_cell.specs.declared.cell.Cell.TheVariants.{Gap, Empty, Measured}
-use Rattle.log_cell.specs.declared.cell.CellAnswer.{CellAnswer}
-use Rattle.log_cell.specs.declared.cell.CellAnswer.TheVariants.{Good, Bad}
 
 -- kind and counts: "9 bytes each"
 abbrev pub counts_size : ℕ
@@ -70,25 +68,25 @@ unfoldable pub cell_by : ℕ → ℕ → ℕ → ℕ → ℕ → Cell
 cell_by kind e+ e- r+ r- = cond (eqb kind 0) Gap (cond (eqb kind 1) Empty (Measured e+ e- r+ r-))
 
 -- the cell of a kind and four counts, where there is one
-unfoldable pub kind_cell : ℕ → ℕ → ℕ → ℕ → ℕ → CellAnswer
-kind_cell kind e+ e- r+ r- = cond (kind_fits kind (no_counts e+ e- r+ r-)) (Good (cell_by kind e+ e- r+ r-)) Bad
+unfoldable pub kind_cell : ℕ → ℕ → ℕ → ℕ → ℕ → Option Cell
+kind_cell kind e+ e- r+ r- = cond (kind_fits kind (no_counts e+ e- r+ r-)) (Some (cell_by kind e+ e- r+ r-)) None
 
 -- a cell's ten bytes: "one byte more, at its end"
 unfoldable pub cell_bytes : Cell → ℕ → List ℕ
 cell_bytes c lapses = counts_bytes c ++ (lapses ∷ [])
 
 -- "0 gap, 1 empty, 2 measured": the cell that a kind names, whatever its counts
-unfoldable pub kind_names : ℕ → ℕ → ℕ → ℕ → ℕ → CellAnswer
-kind_names kind e+ e- r+ r- = cond (ltb kind 3) (Good (cell_by kind e+ e- r+ r-)) Bad
+unfoldable pub kind_names : ℕ → ℕ → ℕ → ℕ → ℕ → Option Cell
+kind_names kind e+ e- r+ r- = cond (ltb kind 3) (Some (cell_by kind e+ e- r+ r-)) None
 
 -- the cell that nine bytes are
-unfoldable pub cell_of : List ℕ → CellAnswer
-cell_of bs = cond (eqb (length bs) counts_size) (kind_cell (byte_at bs 0) (number_at bs 1 2) (number_at bs 3 2) (number_at bs 5 2) (number_at bs 7 2)) Bad
+unfoldable pub cell_of : List ℕ → Option Cell
+cell_of bs = cond (eqb (length bs) counts_size) (kind_cell (byte_at bs 0) (number_at bs 1 2) (number_at bs 3 2) (number_at bs 5 2) (number_at bs 7 2)) None
 
 -- one value where bytes are no cell, else one by the cell that they are
-abbrev pub if_good : {A : Type 0} → CellAnswer → A → (Cell → A) → A
-if_good Bad other f = other
-if_good (Good c) other f = f c
+abbrev pub if_good : {A : Type 0} → Option Cell → A → (Cell → A) → A
+if_good None other f = other
+if_good (Some c) other f = f c
 
 pub record CountsFit (e+ e- r+ r- : ℕ) : Type 0 where
   pub e_plus : e+ < 65536

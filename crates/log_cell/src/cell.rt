@@ -3,7 +3,7 @@ ghost use Rattle.std.specs.Prelude.{◌≡◌};
 ghost use Rattle.byte_numbers.specs.Place.{written};
 ghost use Rattle.log_cell.specs.Cell.{cell_of, kind_bytes, kind_cell, kind_fits, kind_names, no_counts, kind_of, e_plus_of, e_minus_of, r_plus_of, r_minus_of};
 
-#[derive(Clone, Copy)]
+#[derive(Clone, Copy, PartialEq, Eq)]
 pub enum Cell {
     // No well-formed reply with result 0 came.
     Gap,
@@ -11,13 +11,6 @@ pub enum Cell {
     Empty,
     // E+, E-, R+, R-, not all zero.
     Measured(u16, u16, u16, u16),
-}
-
-#[derive(Clone, Copy)]
-pub enum CellAnswer {
-    Good(Cell),
-    // The bytes are no cell.
-    Bad,
 }
 
 // Kind and counts.
@@ -30,11 +23,11 @@ const EMPTY: u8 = 1;
 
 const MEASURED: u8 = 2;
 
-pub fn cell_of(bytes: &[u8]) -> CellAnswer
+pub fn cell_of(bytes: &[u8]) -> Option<Cell>
     ensures { result ≡ cell_of bytes.now }
 {
     if bytes.len() != COUNTS_BYTES {
-        return CellAnswer::Bad;
+        return None;
     }
     kind_cell(
         byte_numbers::byte_at(bytes, 0),
@@ -46,14 +39,14 @@ pub fn cell_of(bytes: &[u8]) -> CellAnswer
 }
 
 // The cell of a kind and four counts.
-pub fn kind_cell(kind: u8, ep: u16, em: u16, rp: u16, rm: u16) -> CellAnswer
+pub fn kind_cell(kind: u8, ep: u16, em: u16, rp: u16, rm: u16) -> Option<Cell>
     ensures { result ≡ kind_cell kind ep em rp rm }
 {
     // Whether it is one comes first, and is nearly always so; what it is comes then, with nothing left to guess.
     if kind_fits(kind, no_counts(ep, em, rp, rm)) {
         return cell_by(kind, ep, em, rp, rm);
     }
-    CellAnswer::Bad
+    None
 }
 
 // Whether a kind goes with its counts: none of them above zero, or some.
@@ -71,14 +64,14 @@ pub fn kind_fits(kind: u8, none: bool) -> bool
 }
 
 // The cell that a kind names. Each kind has an arm of its own, so that the compiler sees the cell's variant in the kind itself.
-pub fn cell_by(kind: u8, ep: u16, em: u16, rp: u16, rm: u16) -> CellAnswer
+pub fn cell_by(kind: u8, ep: u16, em: u16, rp: u16, rm: u16) -> Option<Cell>
     ensures { result ≡ kind_names kind ep em rp rm }
 {
     match kind {
-        GAP => CellAnswer::Good(Cell::Gap),
-        EMPTY => CellAnswer::Good(Cell::Empty),
-        MEASURED => CellAnswer::Good(Cell::Measured(ep, em, rp, rm)),
-        _ => CellAnswer::Bad,
+        GAP => Some(Cell::Gap),
+        EMPTY => Some(Cell::Empty),
+        MEASURED => Some(Cell::Measured(ep, em, rp, rm)),
+        _ => None,
     }
 }
 
@@ -86,16 +79,7 @@ pub fn cell_by(kind: u8, ep: u16, em: u16, rp: u16, rm: u16) -> CellAnswer
 pub fn no_counts(ep: u16, em: u16, rp: u16, rm: u16) -> bool
     ensures { result ≡ no_counts ep em rp rm }
 {
-    if ep != 0 {
-        return false;
-    }
-    if em != 0 {
-        return false;
-    }
-    if rp != 0 {
-        return false;
-    }
-    rm == 0
+    ep == 0 && em == 0 && rp == 0 && rm == 0
 }
 
 pub fn kind_of(c: Cell) -> u8
@@ -108,12 +92,12 @@ pub fn kind_of(c: Cell) -> u8
     }
 }
 
+// A function for each count, since each names another part; a parameter for which one it is would be one more thing to branch on.
 pub fn e_plus(c: Cell) -> u16
     ensures { result ≡ e_plus_of c }
 {
     match c {
-        Cell::Gap => 0,
-        Cell::Empty => 0,
+        Cell::Gap | Cell::Empty => 0,
         Cell::Measured(ep, _, _, _) => ep,
     }
 }
@@ -122,8 +106,7 @@ pub fn e_minus(c: Cell) -> u16
     ensures { result ≡ e_minus_of c }
 {
     match c {
-        Cell::Gap => 0,
-        Cell::Empty => 0,
+        Cell::Gap | Cell::Empty => 0,
         Cell::Measured(_, em, _, _) => em,
     }
 }
@@ -132,8 +115,7 @@ pub fn r_plus(c: Cell) -> u16
     ensures { result ≡ r_plus_of c }
 {
     match c {
-        Cell::Gap => 0,
-        Cell::Empty => 0,
+        Cell::Gap | Cell::Empty => 0,
         Cell::Measured(_, _, rp, _) => rp,
     }
 }
@@ -142,8 +124,7 @@ pub fn r_minus(c: Cell) -> u16
     ensures { result ≡ r_minus_of c }
 {
     match c {
-        Cell::Gap => 0,
-        Cell::Empty => 0,
+        Cell::Gap | Cell::Empty => 0,
         Cell::Measured(_, _, _, rm) => rm,
     }
 }

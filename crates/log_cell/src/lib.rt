@@ -4,6 +4,6 @@
 mod cell;
 
 pub use cell::{
-    COUNTS_BYTES, Cell, CellAnswer, cell_of, e_minus, e_plus, kind_cell, kind_fits, kind_of,
-    no_counts, r_minus, r_plus, write_kind,
+    COUNTS_BYTES, Cell, cell_of, e_minus, e_plus, kind_cell, kind_fits, kind_of, no_counts,
+    r_minus, r_plus, write_kind,
 };

@@ -14,5 +14,5 @@ mod walk;
 mod write;
 
 pub use file::{FILE_MOST, file_length};
-pub use read::{ReadAnswer, read_file};
-pub use write::{WriteAnswer, write_file};
+pub use read::{ReadError, read_file};
+pub use write::{WriteError, write_file};

@@ -3,47 +3,38 @@ ghost use Rattle.std.specs.Prelude.{◌≡◌};
 ghost use Rattle.log_file.specs.Row.{has_lapses};
 ghost use Rattle.log_file.specs.File.{is_version, seasons_fit, file_header};
 
-use log_header::HeaderAnswer;
-
 // The first, whose header has no byte for the seasons.
 const FIRST_VERSION: u16 = 1;
 
 // The first whose rows have lapses.
 const LAPSES_VERSION: u16 = 3;
 
+#[tactic(auto, unfolding(crate::specs::File::is_version))]
 pub fn is_version(version: u16) -> bool
     ensures { result ≡ is_version version }
 {
-    if version < FIRST_VERSION {
-        return false;
-    }
-    version <= log_header::VERSION
+    FIRST_VERSION <= version && version <= log_header::VERSION
 }
 
+#[tactic(auto, unfolding(crate::specs::Row::has_lapses))]
 pub fn has_lapses(version: u16) -> bool
     ensures { result ≡ has_lapses version }
 {
     LAPSES_VERSION <= version
 }
 
+#[tactic(auto, unfolding(crate::specs::File::seasons_fit))]
 fn seasons_fit(version: u16, h: log_header::Header) -> bool
     ensures { result ≡ seasons_fit version h }
 {
-    if version <= FIRST_VERSION {
-        return h.seasons == 0;
-    }
-    true
+    FIRST_VERSION < version || h.seasons == 0
 }
 
 // The header of a file of at least fourteen bytes whose mark and version are right.
-pub fn file_header(file: &[u8]) -> HeaderAnswer
+#[tactic(auto, unfolding(crate::specs::File::file_header))]
+pub fn file_header(file: &[u8]) -> Option<log_header::Header>
     ensures { result ≡ file_header file.now }
 {
-    let HeaderAnswer::Right(h) = log_header::header_of(file) else {
-        return HeaderAnswer::Wrong;
-    };
-    if seasons_fit(log_header::version_at(file), h) {
-        return HeaderAnswer::Right(h);
-    }
-    HeaderAnswer::Wrong
+    let h = log_header::header_of(file)?;
+    seasons_fit(log_header::version_at(file), h).then_some(h)
 }

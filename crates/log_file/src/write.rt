@@ -8,49 +8,48 @@ ghost use Rattle.energy_log.specs.Walk.{seen_from};
 ghost use Rattle.energy_log.specs.View.{view_of};
 ghost use Rattle.log_file.specs.Row.{row_size_of, row_start, rows_bytes, put_looked};
 ghost use Rattle.log_file.specs.File.{file_bytes, file_length, cells_right};
-ghost use Rattle.log_file.specs.Write.{write_number, written_file};
+ghost use Rattle.log_file.specs.Write.{write_error_number, written_file};
 
 use crate::missing::Held;
 use crate::row::ROW_BYTES;
 use log_header::HEADER_BYTES;
+use refusal::Numbered;
 
-#[derive(Clone, Copy)]
-pub enum WriteAnswer {
-    // The file's length.
-    Done(usize),
+#[derive(Clone, Copy, PartialEq, Eq)]
+pub enum WriteError {
     // The lent log: its header, its length or a cell.
     Unsound,
     TooShort,
 }
 
-impl WriteAnswer {
-    pub fn number(self) -> u8
-        ensures { result ≡ write_number self }
-    {
+impl Numbered for WriteError {
+    ghost number_of = { write_error_number };
+
+    fn number(&self) -> u8 {
         match self {
-            WriteAnswer::Done(_) => refusal::DONE,
-            WriteAnswer::Unsound => refusal::UNSOUND,
-            WriteAnswer::TooShort => refusal::TOO_SHORT,
+            WriteError::Unsound => refusal::UNSOUND,
+            WriteError::TooShort => refusal::TOO_SHORT,
         }
     }
 }
 
 // To the front of out, whose rest stays as it was. All cells are walked before the first byte is written.
-pub fn write_file(log: &[u8], out: &mut [u8]) -> WriteAnswer
+#[tactic(auto, unfolding(crate::specs::Write::written_file))]
+pub fn write_file(log: &[u8], out: &mut [u8]) -> Result<usize, WriteError>
     ensures { outcome result out.new ≡ written_file (view_of log.now) out.old }
 {
-    let log_header::LogHeader::Sound(h) = log_header::sound(log) else {
-        return WriteAnswer::Unsound;
+    let Some(h) = log_header::sound(log) else {
+        return Err(WriteError::Unsound);
     };
     let length = crate::file::file_length(h);
     if out.len() < length {
-        return WriteAnswer::TooShort;
+        return Err(WriteError::TooShort);
     }
-    if cells_right(log, h) {
-        put_file(log, h, out);
-        return WriteAnswer::Done(length);
+    if !cells_right(log, h) {
+        return Err(WriteError::Unsound);
     }
-    WriteAnswer::Unsound
+    put_file(log, h, out);
+    Ok(length)
 }
 
 // Whether each cell is one, and a gap without lapses where there is no slot.
@@ -58,10 +57,8 @@ fn cells_right(log: &[u8], h: log_header::Header) -> bool
     requires { is_header h ≡ true }
     ensures { result ≡ cells_right h (cell_at log.now) (lapses_at log.now) }
 {
-    if crate::walk::cells_good(log, log_header::cells_of(h)) {
-        return crate::missing::missing_fresh(log, Held::Image, h);
-    }
-    false
+    crate::walk::cells_good(log, log_header::cells_of(h))
+        && crate::missing::missing_fresh(log, Held::Image, h)
 }
 
 // The file of a log with this header, whose cells are all good, where there is room for it.
@@ -84,14 +81,13 @@ fn put_rows(log: &[u8], cells: usize, out: &mut [u8])
 {
     // Asked for once: what is stored to out might be the header's bytes, as far as the compiler can tell.
     let n = energy_log::cells_at(log);
-    let mut i = 0;
-    while i < cells {
+    for i in 0..cells {
         put_known(log, n, i, out);
-        i += 1;
     }
 }
 
 // The row of a cell that was seen to be good: its kind and its counts as they lie. No cell is made, and nothing branches on a kind.
+#[tactic(auto, unfolding(crate::specs::Row::put_looked))]
 fn put_known(log: &[u8], n: u16, i: usize, out: &mut [u8])
     requires { row_start version i + row_size_of version ≤ length out.old }
     ensures { out.new ≡ put_looked n log.now i out.old }

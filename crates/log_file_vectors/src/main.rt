@@ -4,7 +4,10 @@
 // on which the clock is moved, and the figures that come with a log. stdout was written by hand from the tables of documents 01 and 02, and not by this code.
 #![tactic(auto)]
 
-use log_file::{ReadAnswer, WriteAnswer};
+ghost use Rattle.std.specs.Prelude.{◌≤◌};
+
+use log_file::WriteError;
+use refusal::Numbered;
 
 // A row before version 3, and since.
 const EARLY_ROW: usize = 9;
@@ -189,13 +192,13 @@ fn outputs(rt: HostRuntime) {
 // does not exist are not counted, one that comes twice is counted once more.
 fn figures(rt: HostRuntime) {
     let mut file = example();
-    into_nine(rt, b"good", &file);
-    into_eight(rt, b"good", &file);
-    into_seven(rt, b"good", &file);
+    into_figures(rt, b"good", &file, 9);
+    into_figures(rt, b"good", &file, 8);
+    into_figures(rt, b"good", &file, 7);
     byte_numbers::put_bytes(&mut file, CRC, b"\x00\x00");
-    into_seven(rt, b"CRC 0", &file);
-    into_nine(rt, b"27 October 2024", &in_october());
-    into_nine(rt, b"version 3, spring", &late_spring(SLOT_0, b"\x00"));
+    into_figures(rt, b"CRC 0", &file, 7);
+    into_figures(rt, b"27 October 2024", &in_october(), 9);
+    into_figures(rt, b"version 3, spring", &late_spring(SLOT_0, b"\x00"), 9);
 }
 
 // Of two faults the one that comes first in the table answers.
@@ -393,7 +396,7 @@ fn lapses(rt: HostRuntime) {
 fn written_out(rt: HostRuntime) {
     let mut image = [0u8; IMAGE];
     let mut figures = [0u32; day_rows::FIGURES_MOST];
-    log_file::read_file(&in_october(), &mut image, &mut figures);
+    let _ = log_file::read_file(&in_october(), &mut image, &mut figures);
     write(rt, b"27 October", &image);
     byte_numbers::put_bytes(&mut image, 6, b"\x03\x1F");
     write(rt, b"31 March", &image);
@@ -409,7 +412,7 @@ fn written_out(rt: HostRuntime) {
 fn write_lapses(rt: HostRuntime) {
     let mut image = [0u8; IMAGE];
     let mut figures = [0u32; day_rows::FIGURES_MOST];
-    log_file::read_file(&late_spring(SLOT_0, b"\x00"), &mut image, &mut figures);
+    let _ = log_file::read_file(&late_spring(SLOT_0, b"\x00"), &mut image, &mut figures);
     write(rt, b"spring, all gaps", &image);
     energy_log::put_lapses(&mut image, 4, 1);
     write(rt, b"spring, slot 4 one lapse", &image);
@@ -623,20 +626,10 @@ fn put_late_day(file: &mut [u8], head: &[u8], measured: usize, empty: usize) {
 // The lapses at midnight, and in and beside the hour from 02:00, be it of half hours or of quarters.
 fn show_lapses(rt: HostRuntime, image: &[u8]) {
     say(rt, b"its lapses in slots 0, 3 to 8, 11 and 12:");
-    lapses_of(rt, image, 0);
-    lapses_of(rt, image, 3);
-    lapses_of(rt, image, 4);
-    lapses_of(rt, image, 5);
-    lapses_of(rt, image, 6);
-    lapses_of(rt, image, 7);
-    lapses_of(rt, image, 8);
-    lapses_of(rt, image, 11);
-    lapses_of(rt, image, 12);
+    for i in [0, 3, 4, 5, 6, 7, 8, 11, 12] {
+        number(rt, u64::from(energy_log::lapses_at(image, i)));
+    }
     say(rt, b"\n");
-}
-
-fn lapses_of(rt: HostRuntime, image: &[u8], i: usize) {
-    number(rt, energy_log::lapses_at(image, i) as u64);
 }
 
 // A header, and the rows of two cells, where all others are gaps.
@@ -650,9 +643,9 @@ fn put_day(file: &mut [u8], head: &[u8], measured: usize, empty: usize) {
 fn read_and_write(rt: HostRuntime, file: &[u8], image: &mut [u8], again: &mut [u8]) {
     read(rt, file, image);
     say(rt, b"its image: version");
-    number(rt, log_header::version_at(image) as u64);
+    number(rt, u64::from(log_header::version_at(image)));
     say(rt, b", seasons");
-    number(rt, byte_numbers::byte_at(image, 12) as u64);
+    number(rt, u64::from(byte_numbers::byte_at(image, 12)));
     say(rt, b", written");
     answer_of(rt, log_file::write_file(image, again), again);
 }
@@ -665,18 +658,17 @@ fn write(rt: HostRuntime, what: &[u8], image: &[u8]) {
 }
 
 // The first byte of a file that was not written, and the CRC of one that was.
-fn answer_of(rt: HostRuntime, answer: WriteAnswer, out: &[u8]) {
-    number(rt, answer.number() as u64);
+fn answer_of(rt: HostRuntime, answer: Result<usize, WriteError>, out: &[u8]) {
+    number(rt, u64::from(answer.number()));
     match answer {
-        WriteAnswer::Done(n) => {
+        Ok(n) => {
             number(rt, n as u64);
             say(rt, b" ");
             let mut digits = [0u8; 4];
             text::put_hex(&mut digits, 0, &[from_end(out, 2), from_end(out, 1)]);
             say(rt, &digits);
         }
-        WriteAnswer::Unsound => number(rt, byte_numbers::byte_at(out, 0) as u64),
-        WriteAnswer::TooShort => number(rt, byte_numbers::byte_at(out, 0) as u64),
+        Err(_) => number(rt, u64::from(byte_numbers::byte_at(out, 0))),
     }
     say(rt, b"\n");
 }
@@ -716,61 +708,40 @@ fn read_first(rt: HostRuntime, file: [u8; LONGER], n: usize, out: &mut [u8]) {
     }
 }
 
-fn into_nine(rt: HostRuntime, what: &[u8], file: &[u8]) {
+// With so many figures lent.
+fn into_figures(rt: HostRuntime, what: &[u8], file: &[u8], n: usize)
+    requires { n ≤ 9 }
+{
     let mut figures = [9u32; 9];
     say(rt, what);
-    say(rt, b", 9 figures lent: ");
-    read_beside(rt, file, &mut figures);
-}
-
-fn into_eight(rt: HostRuntime, what: &[u8], file: &[u8]) {
-    let mut figures = [9u32; 8];
-    say(rt, what);
-    say(rt, b", 8 figures lent: ");
-    read_beside(rt, file, &mut figures);
-}
-
-fn into_seven(rt: HostRuntime, what: &[u8], file: &[u8]) {
-    let mut figures = [9u32; 7];
-    say(rt, what);
-    say(rt, b", 7 figures lent: ");
-    read_beside(rt, file, &mut figures);
+    say(rt, b",");
+    number(rt, n as u64);
+    say(rt, b" figures lent: ");
+    read_beside(rt, file, &mut figures[..n]);
 }
 
 // The number, the output's first byte and the figures.
 fn read_beside(rt: HostRuntime, file: &[u8], figures: &mut [u32]) {
     let mut out = [255u8; IMAGE];
     let answer = log_file::read_file(file, &mut out, figures);
-    let _ = rt.stdout().print(answer.number() as u64);
-    number(rt, byte_numbers::byte_at(&out, 0) as u64);
+    let _ = rt.stdout().print(u64::from(answer.number()));
+    number(rt, u64::from(byte_numbers::byte_at(&out, 0)));
     say(rt, b",");
-    figure(rt, figures, 0);
-    figure(rt, figures, 1);
-    figure(rt, figures, 2);
-    figure(rt, figures, 3);
-    figure(rt, figures, 4);
-    figure(rt, figures, 5);
-    figure(rt, figures, 6);
-    figure(rt, figures, 7);
-    figure(rt, figures, 8);
-    say(rt, b"\n");
-}
-
-fn figure(rt: HostRuntime, figures: &[u32], i: usize) {
-    if i < figures.len() {
-        number(rt, figures[i] as u64);
+    for figure in figures {
+        number(rt, u64::from(*figure));
     }
+    say(rt, b"\n");
 }
 
 fn read(rt: HostRuntime, file: &[u8], out: &mut [u8]) {
     let mut figures = [0u32; day_rows::FIGURES_MOST];
     say(rt, b": ");
     let answer = log_file::read_file(file, out, &mut figures);
-    let _ = rt.stdout().print(answer.number() as u64);
-    if let ReadAnswer::Done(n) = answer {
+    let _ = rt.stdout().print(u64::from(answer.number()));
+    if let Ok(n) = answer {
         number(rt, n as u64);
     }
-    number(rt, byte_numbers::byte_at(out, 0) as u64);
+    number(rt, u64::from(byte_numbers::byte_at(out, 0)));
     say(rt, b"\n");
 }
 

@@ -1,4 +1,6 @@
 -- What follows from the definitions of a header: what it keeps to, that it and its bytes say the same, and what a sound log has.
+use Rattle.std.specs.Prelude.{Err, None, Ok, Option, Some, is_ok}
+use Rattle.calendar.specs.declared.date.DateError.{DateError}
 use Prim.Native.Nat.{ℕ, ◌+◌, ◌*◌, ◌-◌, ◌/◌, ◌%◌, ◌≤◌, ◌<◌}
 use native.Mathlib.Nat.{mul-le-mul}
 use native.Mathlib.Omega.{arith}
@@ -20,15 +22,11 @@ use Rattle.calendar.specs.Date.{leap, month_lengths, days_in_month, days_before,
 use Rattle.calendar.proofs.CountLaws.{ends-before}
 use Rattle.calendar.proofs.DateLaws.{ranges, month-length, date-lies}
 use Rattle.calendar.specs.declared.date.Date.{Date}
-use Rattle.calendar.specs.declared.date.DateAnswer.{DateAnswer}
-use Rattle.calendar.specs.declared.date.DateAnswer.TheVariants.{On, NotADate, OutOfRange}
+use Rattle.calendar.specs.declared.date.DateError.TheVariants.{NotADate, OutOfRange}
 use Rattle.log_header.specs.Header.{header_size, days_most, cells_most, image_most, version, if_sound, cells_of, length_of, days_right, is_header, date_bytes, header_bytes_as, header_bytes, header_at}
 use Rattle.log_header.specs.Header.{mark_right, version_at, version_right, fields_right, header_of, fitted_to, sound_of}
 use Rattle.byte_numbers.proofs.ByteLaws.{run, take-run, low, high, low_of, high-of, bytes-nil, bytes-cons, bytes-append}
 use Rattle.log_header.specs.declared.header.Header.{Header}
-use Rattle.log_header.specs.declared.header.HeaderAnswer.TheVariants.{Right, Wrong}
-use Rattle.log_header.specs.declared.header.LogHeader.{LogHeader}
-use Rattle.log_header.specs.declared.header.LogHeader.TheVariants.{Sound, Unsound}
 
 -- a header's bytes hold no more cells than this, right or not
 pub cells-at-most : (h : Header) → h.days < 256 → cells_of h ≤ 255 * slots_most
@@ -87,18 +85,12 @@ header-ranges h e =
       seasons-to = leb-true _ _ z.1;
     }
 
--- whether there is a date
-abbrev pub is_on : DateAnswer → Bool
-is_on (On d) = true
-is_on NotADate = false
-is_on OutOfRange = false
-
 -- n days later there is a date where the start is one and the century has not ended
-pub has-date : (d : Date) (n : ℕ) → is_on (days_later d n) ≡ (is_date d && ltb (day_number d + n) century_days)
+pub has-date : (d : Date) (n : ℕ) → is_ok (days_later d n) ≡ (is_date d && ltb (day_number d + n) century_days)
 unfolding days_later date_on
 has-date d n = go (is_date d) (ltb (day_number d + n) century_days) (date_of (day_number d + n))
   where
-    go : (a b : Bool) (x : Date) → is_on (cond a (cond b (On x) OutOfRange) NotADate) ≡ (a && b)
+    go : (a b : Bool) (x : Date) → is_ok {E = DateError} (cond a (cond b (Ok x) (Err OutOfRange)) (Err NotADate)) ≡ (a && b)
     go true true x = refl
     go true false x = refl
     go false b x = refl
@@ -151,7 +143,7 @@ module _ (v : ℕ) (h : Header) (rest : List ℕ) where
   zero_right = refl
 
   -- a right header is found right
-  pub header-right : is_header h ≡ true → header_of (header_bytes_as v h ++ rest) ≡ Right h
+  pub header-right : is_header h ≡ true → header_of (header_bytes_as v h ++ rest) ≡ Some h
   unfolding header_of fields_right
   header-right e = simp (header_at-bytes v h rest (header-ranges h e).ke-to, e, zero_right)
 
@@ -161,7 +153,7 @@ unfolding version_right
 version-right h rest = eq-eqb _ _ (version-at version h rest (omega arith))
 
 -- and where they are of today's version and as long as it says, they are a log
-pub sound-bytes : (h : Header) (rest : List ℕ) → is_header h ≡ true → length (header_bytes h ++ rest) ≡ length_of h → sound_of (header_bytes h ++ rest) ≡ Sound h
+pub sound-bytes : (h : Header) (rest : List ℕ) → is_header h ≡ true → length (header_bytes h ++ rest) ≡ length_of h → sound_of (header_bytes h ++ rest) ≡ Some h
 unfolding sound_of fitted_to
 sound-bytes h rest e l = simp (mark-right version h rest, version-right h rest, header-right version h rest e, eq-eqb _ _ l)
 
@@ -201,18 +193,18 @@ bytes-header v h e =
 
 -- one test of mark, version, fields and length
 pub sound-where : (s : List ℕ)
-    → sound_of s ≡ cond ((mark_right s && version_right s) && (fields_right s && eqb (length s) (length_of (header_at s)))) (Sound (header_at s)) Unsound
+    → sound_of s ≡ cond ((mark_right s && version_right s) && (fields_right s && eqb (length s) (length_of (header_at s)))) (Some (header_at s)) None
 unfolding sound_of header_of fitted_to
 sound-where s = go (mark_right s && version_right s) (fields_right s)
   where
-    go : (a b : Bool) → cond a (fitted_to (length s) (cond b (Right (header_at s)) Wrong)) Unsound
-        ≡ cond (a && (b && eqb (length s) (length_of (header_at s)))) (Sound (header_at s)) Unsound
+    go : (a b : Bool) → cond a (fitted_to (length s) (cond b (Some (header_at s)) None)) None
+        ≡ cond (a && (b && eqb (length s) (length_of (header_at s)))) (Some (header_at s)) None
     go true true = refl
     go true false = refl
     go false b = refl
 
 -- a log is no shorter than its header
-pub short-unsound : (s : List ℕ) → length s < header_size → sound_of s ≡ Unsound
+pub short-unsound : (s : List ℕ) → length s < header_size → sound_of s ≡ None
 unfolding length_of
 short-unsound s k =
     let e : eqb (length s) (length_of (header_at s)) ≡ false = ne_eqb (length s) (length_of (header_at s)) (λ p. omega (arith, k, p)) in
@@ -227,24 +219,24 @@ pub record SoundLog (s : List ℕ) (h : Header) : Type 0 where
   pub ranges : is_header h ≡ true
   pub size : length s ≡ length_of h
 
-unsound≢sound : (h : Header) → Unsound ≡ Sound h → ⊥
+unsound≢sound : (h : Header) → None ≡ Some h → ⊥
 unsound≢sound h p = let z : ◌≡◌ {A = ℕ} 0 1 = cc in omega arith
 
-fitted-right : (f : Bool) (n : ℕ) (x h : Header) → fitted_to n (cond f (Right x) Wrong) ≡ Sound h
-    → (f ≡ true) × (cond (eqb n (length_of x)) (Sound x) Unsound ≡ Sound h)
+fitted-right : (f : Bool) (n : ℕ) (x h : Header) → fitted_to n (cond f (Some x) None) ≡ Some h
+    → (f ≡ true) × (cond (eqb n (length_of x)) (Some x) None ≡ Some h)
 unfolding fitted_to
 fitted-right true n x h p = (refl, p)
 fitted-right false n x h p = absurd (unsound≢sound h p)
 
 -- bytes that are a log have all of these
-pub sound-log : (s : List ℕ) (h : Header) → sound_of s ≡ Sound h → SoundLog s h
+pub sound-log : (s : List ℕ) (h : Header) → sound_of s ≡ Some h → SoundLog s h
 unfolding sound_of header_of fields_right
 sound-log s h p =
-    let a = chosen (mark_right s && version_right s) (fitted_to (length s) (header_of s)) Unsound p (unsound≢sound h) in
+    let a = chosen (mark_right s && version_right s) (fitted_to (length s) (header_of s)) None p (unsound≢sound h) in
     let m = both _ _ a.0 in
     let b = fitted-right (fields_right s) (length s) (header_at s) h a.1 in
     let f = both _ _ b.0 in
-    let c = chosen (eqb (length s) (length_of (header_at s))) (Sound (header_at s)) Unsound b.1 (unsound≢sound h) in
+    let c = chosen (eqb (length s) (length_of (header_at s))) (Some (header_at s)) None b.1 (unsound≢sound h) in
     let e : header_at s ≡ h = cc c.1 in
     record {
       mark = m.0;
@@ -263,14 +255,14 @@ pub record RightHeader (s : List ℕ) (h : Header) : Type 0 where
   pub header : header_at s ≡ h
   pub ranges : is_header h ≡ true
 
-wrong≢right : (h : Header) → Wrong ≡ Right h → ⊥
+wrong≢right : (h : Header) → None ≡ Some h → ⊥
 wrong≢right h p = let z : ◌≡◌ {A = ℕ} 0 1 = cc in omega arith
 
 -- bytes that are read as a header have all of these
-pub right-header : (s : List ℕ) (h : Header) → header_of s ≡ Right h → RightHeader s h
+pub right-header : (s : List ℕ) (h : Header) → header_of s ≡ Some h → RightHeader s h
 unfolding header_of fields_right
 right-header s h p =
-    let a = chosen (is_header (header_at s) && eqb (byte_at s 13) 0) (Right (header_at s)) Wrong p (wrong≢right h) in
+    let a = chosen (is_header (header_at s) && eqb (byte_at s 13) 0) (Some (header_at s)) None p (wrong≢right h) in
     let b = both _ _ a.0 in
     let e : header_at s ≡ h = cc a.1 in
     record { zero = eqb-true _ _ b.1; header = e; ranges = sym (ap is_header e) ∙ b.0 }
@@ -304,7 +296,7 @@ pub header-front : (v : ℕ) (s : List ℕ) (h : Header) → Bytes s → mark_ri
 header-front v s h bytes mark right l long = take-run header_size 0 s long ∙ header-listed v s h bytes mark right l ∙ ap (header_bytes_as v) l.header
 
 -- a log is long enough for its header
-pub sound-long : (s : List ℕ) (h : Header) → sound_of s ≡ Sound h → header_size ≤ length s
+pub sound-long : (s : List ℕ) (h : Header) → sound_of s ≡ Some h → header_size ≤ length s
 unfolding length_of
 sound-long s h p = omega (arith, (sound-log s h p).size)
 
@@ -324,19 +316,19 @@ unfolding length_of
 image-most h e = omega (arith, cells-most h e)
 
 -- no log is longer than the longest image
-pub image-at-most : (s : List ℕ) (h : Header) → sound_of s ≡ Sound h → length s ≤ image_most
+pub image-at-most : (s : List ℕ) (h : Header) → sound_of s ≡ Some h → length s ≤ image_most
 image-at-most s h p =
     let l = sound-log s h p in
     omega (arith, l.size, image-most h l.ranges)
 
 -- a log begins with its header's bytes
-pub sound-front : (s : List ℕ) (h : Header) → Bytes s → sound_of s ≡ Sound h → take header_size s ≡ header_bytes h
+pub sound-front : (s : List ℕ) (h : Header) → Bytes s → sound_of s ≡ Some h → take header_size s ≡ header_bytes h
 sound-front s h bytes p =
     let l = sound-log s h p in
     header-front version s h bytes l.mark (version-is s l.version) (record { zero = l.zero; header = l.header; ranges = l.ranges }) (sound-long s h p)
 
 -- what holds of both values holds of the one that is chosen
-pub by-sound : {A : Type 0} (P : A → Type 0) (l : LogHeader) {x : A} {f : Header → A}
-    → (l ≡ Unsound → P x) → ((h : Header) → l ≡ Sound h → P (f h)) → P (if_sound l x f)
-by-sound P Unsound other k = other refl
-by-sound P (Sound h) other k = k h refl
+pub by-sound : {A : Type 0} (P : A → Type 0) (l : Option Header) {x : A} {f : Header → A}
+    → (l ≡ None → P x) → ((h : Header) → l ≡ Some h → P (f h)) → P (if_sound l x f)
+by-sound P None other k = other refl
+by-sound P (Some h) other k = k h refl

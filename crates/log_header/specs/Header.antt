@@ -1,15 +1,11 @@
 -- The header of a log. Source: document 01, "The reader and the log".
-use Rattle.std.specs.Prelude.{ℕ, ◌+◌, ◌*◌, ◌-◌, ◌/◌, Bool, cond, ◌&&◌, List, [], ◌∷◌, ◌++◌, ltb, leb, eqb, length}
+use Rattle.std.specs.Prelude.{ℕ, ◌+◌, ◌*◌, ◌-◌, ◌/◌, Bool, cond, ◌&&◌, List, [], ◌∷◌, ◌++◌, ltb, leb, eqb, length, None, Option, Some}
 use Rattle.byte_numbers.specs.Number.{bytes_of}
 use Rattle.byte_numbers.specs.Place.{byte_at, number_at}
 use Rattle.slots.specs.Day.{is_minutes, slots_of}
 use Rattle.calendar.specs.Date.{is_date, day_number, century_days}
 use Rattle.calendar.specs.declared.date.Date.{Date}
 use Rattle.log_header.specs.declared.header.Header.{Header}
-use Rattle.log_header.specs.declared.header.HeaderAnswer.{HeaderAnswer}
-use Rattle.log_header.specs.declared.header.HeaderAnswer.TheVariants.{Right, Wrong}
-use Rattle.log_header.specs.declared.header.LogHeader.{LogHeader}
-use Rattle.log_header.specs.declared.header.LogHeader.TheVariants.{Sound, Unsound}
 
 -- "14 bytes"
 abbrev pub header_size : ℕ
@@ -94,24 +90,24 @@ unfoldable pub fields_right : List ℕ → Bool
 fields_right s = is_header (header_at s) && eqb (byte_at s 13) 0
 
 -- the header of bytes whose mark and version are right
-unfoldable pub header_of : List ℕ → HeaderAnswer
-header_of s = cond (fields_right s) (Right (header_at s)) Wrong
+unfoldable pub header_of : List ℕ → Option Header
+header_of s = cond (fields_right s) (Some (header_at s)) None
 
 -- one value where bytes are no header, else one by it
-abbrev pub if_right : {A : Type 0} → HeaderAnswer → A → (Header → A) → A
-if_right Wrong other f = other
-if_right (Right h) other f = f h
+abbrev pub if_right : {A : Type 0} → Option Header → A → (Header → A) → A
+if_right None other f = other
+if_right (Some h) other f = f h
 
 -- the file reader's 33: the length
-unfoldable pub fitted_to : ℕ → HeaderAnswer → LogHeader
-fitted_to n Wrong = Unsound
-fitted_to n (Right h) = cond (eqb n (length_of h)) (Sound h) Unsound
+unfoldable pub fitted_to : ℕ → Option Header → Option Header
+fitted_to n None = None
+fitted_to n (Some h) = cond (eqb n (length_of h)) (Some h) None
 
 -- 28: "lent log with a wrong header, length ..": whether lent bytes are a log, and with which header
-unfoldable pub sound_of : List ℕ → LogHeader
-sound_of s = cond (mark_right s && version_right s) (fitted_to (length s) (header_of s)) Unsound
+unfoldable pub sound_of : List ℕ → Option Header
+sound_of s = cond (mark_right s && version_right s) (fitted_to (length s) (header_of s)) None
 
 -- one value where lent bytes are no log, else one by their header
-abbrev pub if_sound : {A : Type 0} → LogHeader → A → (Header → A) → A
-if_sound Unsound other f = other
-if_sound (Sound h) other f = f h
+abbrev pub if_sound : {A : Type 0} → Option Header → A → (Header → A) → A
+if_sound None other f = other
+if_sound (Some h) other f = f h

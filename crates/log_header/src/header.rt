@@ -5,7 +5,7 @@ ghost use Rattle.calendar.specs.Date.{is_date, day_number, century_days};
 ghost use Rattle.log_header.specs.Header.{cells_of, length_of, is_header, header_bytes, header_at, date_bytes};
 ghost use Rattle.log_header.specs.Header.{mark_right, version_at, version_right, fields_right, header_of, sound_of};
 
-#[derive(Clone, Copy)]
+#[derive(Clone, Copy, PartialEq, Eq)]
 pub struct Header {
     pub start: calendar::Date,
     pub days: u8,
@@ -15,19 +15,6 @@ pub struct Header {
     pub ke: u16,
     // 1 where the automatic seasons are followed, else 0.
     pub seasons: u8,
-}
-
-#[derive(Clone, Copy)]
-pub enum HeaderAnswer {
-    Right(Header),
-    Wrong,
-}
-
-// What lent bytes are.
-#[derive(Clone, Copy)]
-pub enum LogHeader {
-    Sound(Header),
-    Unsound,
 }
 
 pub const HEADER_BYTES: usize = 14;
@@ -66,23 +53,12 @@ pub fn length_of(h: Header) -> usize
 pub fn is_header(h: Header) -> bool
     ensures { result ≡ is_header h }
 {
-    if h.days == 0 {
-        return false;
-    }
-    if DAYS_MOST < h.days {
-        return false;
-    }
-    if h.ke == 0 {
-        return false;
-    }
-    if SEASONS_MOST < h.seasons {
-        return false;
-    }
-    if slots::slots_of(h.minutes) == 0 {
-        return false;
-    }
-    let start = h.start;
-    has_day(start, h.days - 1)
+    h.days != 0
+        && h.days <= DAYS_MOST
+        && h.ke != 0
+        && h.seasons <= SEASONS_MOST
+        && slots::slots_of(h.minutes) != 0
+        && has_day(h.start, h.days - 1)
 }
 
 // Whether a date is one, and so many days later the calendar has not ended.
@@ -93,23 +69,15 @@ fn has_day(start: calendar::Date, n: u8) -> bool
     if start.year < LAST_YEAR {
         return calendar::is_date(start);
     }
-    match calendar::days_later(start, n as u16) {
-        calendar::DateAnswer::On(_) => true,
-        calendar::DateAnswer::NotADate => false,
-        calendar::DateAnswer::OutOfRange => false,
-    }
+    calendar::days_later(start, n as u16).is_ok()
 }
 
 pub fn mark_right(log: &[u8]) -> bool
     ensures { result ≡ mark_right log.now }
 {
-    if byte_numbers::byte_at(log, 0) != b'G' {
-        return false;
-    }
-    if byte_numbers::byte_at(log, 1) != b'E' {
-        return false;
-    }
-    byte_numbers::byte_at(log, 2) == b'L'
+    byte_numbers::byte_at(log, 0) == b'G'
+        && byte_numbers::byte_at(log, 1) == b'E'
+        && byte_numbers::byte_at(log, 2) == b'L'
 }
 
 pub fn version_at(log: &[u8]) -> u16
@@ -134,7 +102,7 @@ fn header_at(log: &[u8]) -> Header
         day: byte_numbers::byte_at(log, 7),
     };
     Header {
-        start: start,
+        start,
         days: byte_numbers::byte_at(log, 8),
         minutes: byte_numbers::byte_at(log, 9),
         ke: byte_numbers::u16_at(log, 10),
@@ -143,31 +111,29 @@ fn header_at(log: &[u8]) -> Header
 }
 
 // The header of at least fourteen bytes whose mark and version are right.
-pub fn header_of(log: &[u8]) -> HeaderAnswer
+pub fn header_of(log: &[u8]) -> Option<Header>
     ensures { result ≡ header_of log.now }
 {
     let h = header_at(log);
-    if byte_numbers::byte_at(log, 13) != 0 {
-        return HeaderAnswer::Wrong;
-    }
-    if is_header(h) {
-        HeaderAnswer::Right(h)
+    if byte_numbers::byte_at(log, 13) == 0 && is_header(h) {
+        Some(h)
     } else {
-        HeaderAnswer::Wrong
+        None
     }
 }
 
-pub fn sound(log: &[u8]) -> LogHeader
+pub fn sound(log: &[u8]) -> Option<Header>
     ensures { result ≡ sound_of log.now }
 {
     // No log is shorter than its header, and the compiler need not look at the length again for each field.
     if log.len() < HEADER_BYTES {
-        return LogHeader::Unsound;
+        return None;
     }
     if is_sound(log) {
-        return LogHeader::Sound(header_at(log));
+        Some(header_at(log))
+    } else {
+        None
     }
-    LogHeader::Unsound
 }
 
 // Whether bytes are a log: their mark, version and fields are right, and they are as many as the fields say. The answer is a bool and the
@@ -176,18 +142,12 @@ fn is_sound(log: &[u8]) -> bool
     ensures { result ≡ ((mark_right log.now && version_right log.now)
         && (fields_right log.now && eqb (length log.now) (length_of (header_at log.now)))) }
 {
-    if mark_right(log) {
-        if version_right(log) {
-            let h = header_at(log);
-            if byte_numbers::byte_at(log, 13) != 0 {
-                return false;
-            }
-            if is_header(h) {
-                return log.len() == length_of(h);
-            }
-        }
-    }
-    false
+    let h = header_at(log);
+    mark_right(log)
+        && version_right(log)
+        && byte_numbers::byte_at(log, 13) == 0
+        && is_header(h)
+        && log.len() == length_of(h)
 }
 
 pub fn write_header(out: &mut [u8], h: Header)
@@ -195,8 +155,7 @@ pub fn write_header(out: &mut [u8], h: Header)
 {
     byte_numbers::put_bytes(out, 0, b"GEL");
     byte_numbers::put_u16(out, 3, VERSION);
-    let start = h.start;
-    write_date(out, start);
+    write_date(out, h.start);
     byte_numbers::put_byte(out, 8, h.days);
     byte_numbers::put_byte(out, 9, h.minutes);
     byte_numbers::put_u16(out, 10, h.ke);

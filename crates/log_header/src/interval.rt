@@ -1,6 +1,5 @@
 // The intervals and the days of a log.
-ghost use Rattle.std.specs.Prelude.{◌≡◌, not};
-ghost use Rattle.season_nights.specs.Night.{is_spring};
+ghost use Rattle.std.specs.Prelude.{◌≡◌};
 ghost use Rattle.log_header.specs.Interval.{interval_of, day_date, night_on, exists, missing_cells};
 
 use crate::header::Header;
@@ -8,35 +7,16 @@ use season_nights::{Night, Run};
 
 const SEASONS_FOLLOWED: u8 = 1;
 
-// Where the cell of an interval stands among the log's cells.
-#[derive(Clone, Copy)]
-pub enum Interval {
-    At(usize),
-    Outside,
-}
-
-// The date of a day of the log.
-#[derive(Clone, Copy)]
-pub enum DayAnswer {
-    On(calendar::Date),
-    Outside,
-}
-
 // Days and slots are counted from 0.
-pub fn interval_of(h: Header, day: u8, slot: u8) -> Interval
+pub fn interval_of(h: Header, day: u8, slot: u8) -> Option<usize>
     ensures { result ≡ interval_of h day slot }
 {
     let slots = slots::slots_of(h.minutes);
-    if h.days <= day {
-        return Interval::Outside;
+    if day < h.days && slot < slots && exists(h, day, slot) {
+        Some((day as usize) * (slots as usize) + slot as usize)
+    } else {
+        None
     }
-    if slots <= slot {
-        return Interval::Outside;
-    }
-    if exists(h, day, slot) {
-        return Interval::At((day as usize) * (slots as usize) + slot as usize);
-    }
-    Interval::Outside
 }
 
 // Whether a day has a slot. Past the log's own days and slots it says what the calendar does.
@@ -44,20 +24,7 @@ pub fn exists(h: Header, day: u8, slot: u8) -> bool
     ensures { result ≡ exists h day slot }
 {
     // Most slots need no look at the calendar.
-    if season_nights::in_hour(h.minutes, slot) {
-        return has_hour(night_on(h, day));
-    }
-    true
-}
-
-fn has_hour(night: Night) -> bool
-    ensures { result ≡ not (is_spring night) }
-{
-    match night {
-        Night::Plain => true,
-        Night::Spring => false,
-        Night::Autumn => true,
-    }
+    !season_nights::in_hour(h.minutes, slot) || !matches!(night_on(h, day), Night::Spring)
 }
 
 // The night of a day, plain where the seasons are not followed.
@@ -67,12 +34,10 @@ pub fn night_on(h: Header, day: u8) -> Night
     if h.seasons != SEASONS_FOLLOWED {
         return Night::Plain;
     }
-    let start = h.start;
-    match calendar::days_later(start, day as u16) {
-        calendar::DateAnswer::On(date) => season_nights::night_of(date),
-        calendar::DateAnswer::NotADate => Night::Plain,
-        calendar::DateAnswer::OutOfRange => Night::Plain,
-    }
+    let Ok(date) = calendar::days_later(h.start, day as u16) else {
+        return Night::Plain;
+    };
+    season_nights::night_of(date)
 }
 
 // The cells whose slots do not exist.
@@ -82,20 +47,14 @@ pub fn missing_cells(h: Header) -> Run
     if h.seasons != SEASONS_FOLLOWED {
         return Run { first: 0, count: 0 };
     }
-    let start = h.start;
-    season_nights::missing_run(start, h.days, h.minutes)
+    season_nights::missing_run(h.start, h.days, h.minutes)
 }
 
-pub fn date_of(h: Header, day: u8) -> DayAnswer
+pub fn date_of(h: Header, day: u8) -> Option<calendar::Date>
     ensures { result ≡ day_date h day }
 {
     if h.days <= day {
-        return DayAnswer::Outside;
+        return None;
     }
-    let start = h.start;
-    match calendar::days_later(start, day as u16) {
-        calendar::DateAnswer::On(date) => DayAnswer::On(date),
-        calendar::DateAnswer::NotADate => DayAnswer::Outside,
-        calendar::DateAnswer::OutOfRange => DayAnswer::Outside,
-    }
+    calendar::days_later(h.start, day as u16).ok()
 }

@@ -6,7 +6,7 @@ mod header;
 mod interval;
 
 pub use header::{
-    CELLS_MOST, HEADER_BYTES, Header, HeaderAnswer, IMAGE_MOST, LogHeader, VERSION, cells_of,
-    header_of, is_header, length_of, mark_right, sound, version_at, write_header,
+    CELLS_MOST, HEADER_BYTES, Header, IMAGE_MOST, VERSION, cells_of, header_of, is_header,
+    length_of, mark_right, sound, version_at, write_header,
 };
-pub use interval::{DayAnswer, Interval, date_of, exists, interval_of, missing_cells, night_on};
+pub use interval::{date_of, exists, interval_of, missing_cells, night_on};

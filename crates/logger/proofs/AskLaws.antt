@@ -1,4 +1,5 @@
 -- An ask for an interval of a log is always a request that a record could answer with 0, so its frame is made.
+use Rattle.std.specs.Prelude.{Ok}
 use mathlib.Core.Path.{◌≡◌}
 use mathlib.Core.Bool.{true}
 use mathlib.Core.List.{List}
@@ -18,7 +19,6 @@ use Rattle.slots.proofs.DayLaws.{slots_most, slots-at-most}
 use Rattle.slots.specs.Key.{is_legal}
 use Rattle.request.specs.Subject.{subject_of, subject_for}
 use Rattle.request.specs.Request.{requested, request_frame}
-use Rattle.request.specs.declared.request.RequestAnswer.TheVariants.{Done}
 use Rattle.log_header.specs.Header.{is_header}
 use Rattle.log_header.proofs.HeaderLaws.{header-ranges}
 use Rattle.log_header.specs.declared.header.Header.{Header}
@@ -26,7 +26,7 @@ use Rattle.logger.specs.Ask.{date_of_day, slice_request, ask_frame}
 
 -- a date's slice of any slot that a day can have is a request that is made, where there is room for its frame
 pub slice-requested : (address : ℕ) (d : Date) (slot : ℕ) (out : List ℕ) → is_date d ≡ true → slot < slots_most → read_size ≤ length out
-    → requested (slice_request address d slot) out ≡ outcome Done (written out 0 (request_frame (slice_request address d slot)))
+    → requested (slice_request address d slot) out ≡ outcome (Ok tt) (written out 0 (request_frame (slice_request address d slot)))
 unfolding requested subject_of subject_for parameter_of first_of is_legal
 slice-requested address d slot out e s l =
     let r = ranges d e in
@@ -44,7 +44,7 @@ day-is-date h day e l =
 -- for `put_slot`: an ask for a slot of a log's day puts its frame
 pub ask-made : (h : Header) (address day slot : ℕ) (out : List ℕ)
     → is_header h ≡ true → day < h.days → slot < slots_of h.minutes → read_size ≤ length out
-    → requested (slice_request address (date_of_day h day) slot) out ≡ outcome Done (written out 0 (ask_frame h address day slot))
+    → requested (slice_request address (date_of_day h day) slot) out ≡ outcome (Ok tt) (written out 0 (ask_frame h address day slot))
 unfolding ask_frame
 ask-made h address day slot out e d s l =
     slice-requested address (date_of_day h day) slot out (day-is-date h day e d) (omega (arith, slots-at-most h.minutes)) l

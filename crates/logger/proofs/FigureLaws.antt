@@ -1,4 +1,5 @@
 -- The figures along any calls (document 02, CR 8): right ones stay right, and those of other days than the open ask's stay as they are.
+use Rattle.std.specs.Prelude.{Option, Some}
 use mathlib.Core.Path.{◌≡◌, refl, sym, subst, ◌∙◌}
 use mathlib.Core.List.{List, [], ◌∷◌}
 use Prim.Native.Nat.{ℕ}
@@ -6,11 +7,9 @@ use lib.ListN.{length}
 use Rattle.byte_numbers.specs.Number.{Bytes}
 use Rattle.log_header.specs.Header.{sound_of}
 use Rattle.log_header.specs.Interval.{interval_of, comes_twice}
-use Rattle.log_header.specs.declared.interval.Interval.TheVariants.{At}
 use Rattle.energy_log.specs.View.{View, view_of}
 use Rattle.energy_log.proofs.ViewLaws.{AreCells, seen-are-cells, changed, bytes-applied}
 use Rattle.log_header.specs.declared.header.Header.{Header}
-use Rattle.log_header.specs.declared.header.LogHeader.TheVariants.{Sound}
 use Rattle.day_rows.specs.Rows.{row_at, Right}
 use Rattle.day_rows.specs.Put.{change_of}
 use Rattle.day_rows.proofs.PutLaws.{with_cell, change-right, length-change, row-elsewhere}
@@ -20,23 +19,23 @@ use Rattle.logger.specs.Lapse as Lapse
 use Rattle.logger.specs.Book.{Call, ask, lapse, reply, run_of, CallBytes, AllBytes}
 use Rattle.logger.specs.Run.{State, step, run}
 use Rattle.logger.specs.declared.held.OpenAsk.{OpenAsk}
-use Rattle.logger.specs.declared.no_reply.LapseDecision.{LapseDecision}
+use Rattle.logger.specs.Lapse.{LapseDecision}
 use Rattle.logger.proofs.TakeLaws.{Step, decided-ways, decided-holds, taken-seen}
 use Rattle.logger.proofs.LapseLaws.{lapsing-ways, lapsing-holds, lapsed-seen}
 
 -- a log with this header, whose figures are those of its cells
 pub record Faithful (h : Header) (s : State) : Type 0 where
   pub bytes : Bytes s.log
-  pub sound : sound_of s.log ≡ Sound h
+  pub sound : sound_of s.log ≡ Some h
   pub right : Right h (view_of s.log).cell s.figures
 
 -- what a reply and a lapse leave of the header and the cells that the figures are right for
 record Fit (h : Header) (v : View) (figs : List ℕ) : Type 0 where
-  lent : v.lent ≡ Sound h
+  lent : v.lent ≡ Some h
   right : Right h v.cell figs
 
-module _ (h : Header) (v : View) (p : v.lent ≡ Sound h) where
-  decided-right : (figs : List ℕ) (held : OpenAsk) (y : List ℕ) → Bytes y → AreCells v.cell → Right h v.cell figs
+module _ (h : Header) (v : View) (p : v.lent ≡ Some h) where
+  decided-right : (figs : List ℕ) (held : Option OpenAsk) (y : List ℕ) → Bytes y → AreCells v.cell → Right h v.cell figs
       → let o = Take.decided v figs held y in Fit h (changed o.result.change v) o.left
   unfolding changed
   decided-right figs held y k are right =
@@ -44,9 +43,9 @@ module _ (h : Header) (v : View) (p : v.lent ≡ Sound h) where
         kept-open = λ a n. record { lent = p; right = right };
         closed = λ a n. record { lent = p; right = right };
         put = λ g i old c e o held-here is done.
-            let q : Sound g ≡ Sound h = sym e ∙ p in
+            let q : Some g ≡ Some h = sym e ∙ p in
             let same : g ≡ h = cc in
-            let at : interval_of h o.day o.slot ≡ At i = subst (λ (x : Header). interval_of x o.day o.slot ≡ At i) same o.interval in
+            let at : interval_of h o.day o.slot ≡ Some i = subst (λ (x : Header). interval_of x o.day o.slot ≡ Some i) same o.interval in
             record {
               lent = p;
               right = subst (λ (x : Header). Right h (with_cell v.cell i c) (change_of o.day (comes_twice x o.day o.slot) old c figs).left) (sym same)
@@ -54,7 +53,7 @@ module _ (h : Header) (v : View) (p : v.lent ≡ Sound h) where
             };
       })
 
-  lapsing-right : (figs : List ℕ) (held : OpenAsk) → Right h v.cell figs → Fit h (changed (Lapse.lapsing v held).change v) figs
+  lapsing-right : (figs : List ℕ) (held : Option OpenAsk) → Right h v.cell figs → Fit h (changed (Lapse.lapsing v held).change v) figs
   unfolding changed
   lapsing-right figs held right =
       lapsing-ways (λ (d : LapseDecision). Fit h (changed d.change v) figs) v held (record {
@@ -97,7 +96,7 @@ run-faithful h (c ∷ calls) s k f = run-faithful h calls (step s c).left k.1 (s
 
 -- day d is another than that of the cell whose ask is open, if one is
 abbrev pub OtherDay : State → ℕ → Type 0
-OtherDay s d = (h : Header) (i : ℕ) → sound_of s.log ≡ Sound h → (o : OpenFor h s.held i) → d ≡ o.day → ⊥
+OtherDay s d = (h : Header) (i : ℕ) → sound_of s.log ≡ Some h → (o : OpenFor h s.held i) → d ≡ o.day → ⊥
 
 -- a call leaves the figures of every day but the open ask's
 pub row_stays : (s : State) (c : Call) (d : ℕ) → OtherDay s d → row_at (step s c).left.figures d ≡ row_at s.figures d

@@ -1,4 +1,6 @@
 -- One call: the log's step and the book's go together.
+use Rattle.logger.specs.Held.{opened_for}
+use Rattle.std.specs.Prelude.{Err, None, Ok, Option, Some}
 use mathlib.Core.Path.{◌≡◌, refl, sym, ap, subst, ◌∙◌}
 use mathlib.Core.Bool.{Bool, true, false, cond, false≢true}
 use mathlib.Core.List.{List, [], ◌∷◌, ◌++◌}
@@ -9,7 +11,7 @@ use lib.Dec.{eqb, ltb}
 use lib.ListN.{length, get_or, set}
 use lib.Seq.{set-get_or}
 use Rattle.refusal.specs.Outcome.{Outcome, outcome}
-use Rattle.logger.specs.declared.ask.Asked.{Asked}
+use Rattle.logger.specs.Ask.{Asked}
 use Rattle.test_laws.proofs.Test.{either}
 use Rattle.byte_numbers.specs.Number.{Bytes}
 use Rattle.byte_numbers.specs.Place.{written}
@@ -25,14 +27,10 @@ use Rattle.log_header.specs.Interval.{interval_of, comes_twice, if_at}
 use Rattle.log_header.proofs.IntervalLaws.{outside≢at, interval-below, in-log, by-at}
 use Rattle.log_cell.specs.declared.cell.Cell.{Cell}
 use Rattle.log_cell.specs.declared.cell.Cell.TheVariants.{Gap}
-use Rattle.log_cell.specs.declared.cell.CellAnswer.TheVariants.{Good}
 use Rattle.log_header.specs.declared.header.Header.{Header}
-use Rattle.log_header.specs.declared.header.LogHeader.TheVariants.{Sound}
-use Rattle.log_header.specs.declared.interval.Interval.{Interval}
-use Rattle.log_header.specs.declared.interval.Interval.TheVariants.{At, Outside}
 use Rattle.reader.specs.declared.form.Fault.{Fault}
 use Rattle.reader.specs.declared.form.Fault.TheVariants as fault
-use Rattle.logger.specs.declared.take.TakeAnswer.TheVariants.{Malformed}
+use Rattle.logger.specs.declared.take.TakeError.TheVariants.{Malformed}
 use Rattle.logger.specs.Held.{if_none, OpenFor}
 use Rattle.logger.specs.Reply.{slice_form, result_of, row_of}
 use Rattle.wire_values.specs.declared.row.Row.{Row}
@@ -40,31 +38,29 @@ use Rattle.day_rows.specs.Rows.{Right}
 use Rattle.day_rows.specs.Put.{change_of}
 use Rattle.day_rows.proofs.PutLaws.{change-right}
 use Rattle.day_rows.proofs.RowsLaws.{right-enough}
-use Rattle.day_rows.specs.declared.put.FigureAnswer.TheVariants as figure
 use Rattle.logger.proofs.TakeLaws.{by-none, by-open, by_form, by-ok, Step, Heard, Cases, decided-cases, RowFits, row_fits, PutsCell, update-cell}
 use Rattle.logger.specs.Book.{Call, ask, lapse, reply, Answer, Book, entry, plain, fault_answer, place_of, kept_with, lapses_with, keep_reply, book_reply, book_ask}
 use Rattle.logger.specs.Book.{counts_in, book_lapse, book_step, worked_out, cut_at255, lapses_out, afresh, CallBytes}
 use Rattle.logger.proofs.BookLaws.{counts-in, effect, update_number, cell-more, number_more, length-worked_out, worked_out-at, worked_out-with, Fitting, fitting-more, afresh-is-cell}
 use Rattle.logger.specs.Run.{State, step, take_answer}
 use Rattle.logger.specs.declared.held.OpenAsk.{OpenAsk}
-use Rattle.logger.specs.declared.held.OpenAsk.TheVariants.{Closed, Open}
-use Rattle.logger.specs.declared.no_reply.LapseDecision.{LapseDecision}
+use Rattle.logger.specs.Lapse.{LapseDecision}
 use Rattle.logger.specs.declared.take.Update.{Update}
 use Rattle.logger.specs.declared.take.Update.TheVariants.{Put, Keep, Conflict}
 use Rattle.logger.specs.Ask as Ask
 use Rattle.logger.specs.Take as Take
 use Rattle.logger.specs.Lapse as Lapse
 use borrow.Author.Tests.{ltb-true, ltb-false, lt-ltb, eqb-true}
-use Rattle.logger.specs.declared.ask.AskAnswer.TheVariants as answer
+use Rattle.logger.specs.declared.ask.AskError.TheVariants as answer
 
 -- the log and the open ask that a book gives, beside some figures
 abbrev pub state_of : Header → Book → List ℕ → State
 state_of h b figs = record { log = image_of h (worked_out b.kept 0 (cells_of h)) (lapses_out b.lapses); figures = figs; held = b.held }
 
 -- an open ask is for an interval of the log
-abbrev pub HeldIn : Header → OpenAsk → Type 0
-HeldIn h Closed = Unit
-HeldIn h (Open a day slot) = interval_of h day slot ≡ At (place_of h day slot)
+abbrev pub HeldIn : Header → Option OpenAsk → Type 0
+HeldIn h None = Unit
+HeldIn h (Some opened) = interval_of h opened.day opened.slot ≡ Some (place_of h opened.day opened.slot)
 
 -- what a book keeps to
 pub record Sane (h : Header) (b : Book) : Type 0 where
@@ -84,29 +80,29 @@ module _ (h : Header) (kept : ℕ → List Row) (lapses : ℕ → ℕ) (figs : L
       outcome (plain (Ask.number_of o.result.answer)) (state_of h (record { held = o.result.held; kept = kept; lapses = lapses }) figs)
 
   -- an ask is answered alike by log and book, and opens the same ask in both
-  pub ask-agrees : (held : OpenAsk) → is_header h ≡ true
+  pub ask-agrees : (held : Option OpenAsk) → is_header h ≡ true
       → Agree h (step (state_of h (record { held = held; kept = kept; lapses = lapses }) figs) (ask address day slot out)) (book_ask h held kept lapses address day slot out)
   unfolding step Ask.asked book_ask ask_step
   ask-agrees held e =
       let cells = worked_out kept 0 (cells_of h) in
-      let sound : sound_of (image_of h cells (lapses_out lapses)) ≡ Sound h = sound-image (lapses_out lapses) h cells e (length-worked_out kept 0 (cells_of h)) in
+      let sound : sound_of (image_of h cells (lapses_out lapses)) ≡ Some h = sound-image (lapses_out lapses) h cells e (length-worked_out kept 0 (cells_of h)) in
       rw sound (go (ltb (length out) read_size) held (interval_of h day slot))
     where
-      go : (short : Bool) (held : OpenAsk) (i : Interval)
+      go : (short : Bool) (held : Option OpenAsk) (i : Option ℕ)
           → Agree h
           (ask_step
-          (cond short (Ask.answered answer.TooShort held out) (
-          if_none held (Ask.answered answer.AlreadyOpen held out) (
-          if_at i (Ask.answered answer.NotInLog held out) (λ i.
-          Ask.answered answer.Done (Open address day slot) (written out 0 (Ask.ask_frame h address day slot)))))))
+          (cond short (Ask.answered (Err answer.TooShort) held out) (
+          if_none held (Ask.answered (Err answer.AlreadyOpen) held out) (
+          if_at i (Ask.answered (Err answer.NotInLog) held out) (λ i.
+          Ask.answered (Ok tt) (opened_for address day slot) (written out 0 (Ask.ask_frame h address day slot)))))))
           (cond short (entry (plain 1) held kept lapses) (
           if_none held (entry (plain 21) held kept lapses) (
           if_at i (entry (plain 22) held kept lapses) (λ i.
-          entry (plain 0) (Open address day slot) kept lapses))))
+          entry (plain 0) (opened_for address day slot) kept lapses))))
       go true held i = record { answer = refl; state = refl }
-      go false (Open a d t) i = record { answer = refl; state = refl }
-      go false Closed Outside = record { answer = refl; state = refl }
-      go false Closed (At i) = record { answer = refl; state = refl }
+      go false (Some opened) i = record { answer = refl; state = refl }
+      go false None None = record { answer = refl; state = refl }
+      go false None (Some i) = record { answer = refl; state = refl }
 
 -- ---- a reply
 
@@ -114,13 +110,13 @@ module _ (h : Header) (kept : ℕ → List Row) (lapses : ℕ → ℕ) (figs : L
 take_step : List ℕ → Step → Outcome Answer State
 take_step s o =
     let d = o.result in
-    outcome (take_answer d.taken.answer) (record { log = applied d.change s; figures = o.left; held = d.taken.held })
+    outcome (take_answer d.answered.answer) (record { log = applied d.change s; figures = o.left; held = d.answered.held })
 
 lapse_step : List ℕ → List ℕ → LapseDecision → Outcome Answer State
-lapse_step s figs d = outcome (plain (Lapse.number_of d.lapsed.answer)) (record { log = applied d.change s; figures = figs; held = d.lapsed.held })
+lapse_step s figs d = outcome (plain (Lapse.number_of d.answered.answer)) (record { log = applied d.change s; figures = figs; held = d.answered.held })
 
 -- log and book give a reply that is not well formed the same answer
-same-fault : (f : Fault) → take_answer (Malformed f) ≡ fault_answer f
+same-fault : (f : Fault) → take_answer (Err (Malformed f)) ≡ fault_answer f
 same-fault (fault.Length n) = refl
 same-fault fault.Crc = refl
 same-fault fault.Address = refl
@@ -128,7 +124,7 @@ same-fault fault.Function = refl
 same-fault fault.Parameter = refl
 
 -- an update of a cell of an image, whose day's figures can follow it
-module _ (h : Header) (cells : List Cell) (lapses : ℕ → ℕ) (twice : Bool) (held : OpenAsk) (day i : ℕ) (figs : List ℕ) where
+module _ (h : Header) (cells : List Cell) (lapses : ℕ → ℕ) (twice : Bool) (held : Option OpenAsk) (day i : ℕ) (figs : List ℕ) where
   abbrev old : Cell
   old = get_or cells i Gap
 
@@ -137,11 +133,11 @@ module _ (h : Header) (cells : List Cell) (lapses : ℕ → ℕ) (twice : Bool) 
   after u = (Take.updated u twice held day i old figs).left
 
   Follows : Update → Type 0
-  Follows u = (c : Cell) → u ≡ Put c → (change_of day twice old c figs).result ≡ figure.Done
+  Follows u = (c : Cell) → u ≡ Put c → (change_of day twice old c figs).result ≡ Ok tt
 
   update-step : (u : Update) → Whole h cells lapses → i < cells_of h → PutsCell u → Follows u
       → take_step (image_of h cells lapses) (Take.updated u twice held day i old figs)
-      ≡ outcome (plain (update_number u)) (record { log = image_of h (set cells i (effect u old)) lapses; figures = after u; held = Closed })
+      ≡ outcome (plain (update_number u)) (record { log = image_of h (set cells i (effect u old)) lapses; figures = after u; held = None })
   unfolding take_step Take.updated Take.put_with update_number effect Follows
   update-step (Put new) w l is done = rw (done new refl, applied-image h cells lapses (change.Put i new) w (l, is)) refl
   update-step Keep w l is done = rw set-get_or (rw (applied-image h cells lapses change.None w tt))
@@ -161,16 +157,13 @@ module _ (h : Header) (kept : ℕ → List Row) (lapses : ℕ → ℕ) (figs : L
   cells = worked_out kept 0 (cells_of h)
 
   cell-here : (i : ℕ) → i < cells_of h → get_or cells i Gap ≡ afresh (kept i)
-  unfolding cells
   cell-here i l = worked_out-at kept 0 (cells_of h) i l ∙ ap (λ (k : ℕ). afresh (kept k)) (zero-add i)
 
-  read_here : (i : ℕ) → i < cells_of h → cell_in cells i ≡ Good (get_or cells i Gap)
-  unfolding cells
+  read_here : (i : ℕ) → i < cells_of h → cell_in cells i ≡ Some (get_or cells i Gap)
   read_here i l = cell_in_lem cells i (rw length-worked_out l)
 
   -- what the log that they give is made of, and what is seen of it
   pub whole : is_header h ≡ true → Whole h cells (lapses_out lapses)
-  unfolding cells
   whole e = record {
     right = e;
     count = length-worked_out kept 0 (cells_of h);
@@ -193,7 +186,7 @@ module _ (h : Header) (kept : ℕ → List Row) (lapses : ℕ → ℕ) (figs : L
       (seen-are-cells (image_of h cells (lapses_out lapses)) (bytes-image (lapses_out lapses) h cells w.fit e))
 
   -- a row that is kept for a cell of the log
-  keep-agrees : (held : OpenAsk) (i : ℕ) (o : OpenFor h held i) (r : Row) → RowFits r → is_header h ≡ true → RightHere → i < cells_of h
+  keep-agrees : (held : Option OpenAsk) (i : ℕ) (o : OpenFor h held i) (r : Row) → RowFits r → is_header h ≡ true → RightHere → i < cells_of h
       → Agree h
       (take_step (image_of h cells (lapses_out lapses)) (Take.updated (Take.update_of (get_or cells i Gap) r) (comes_twice h o.day o.slot) held o.day i (get_or cells i Gap) figs))
       (keep_reply kept lapses i r)
@@ -215,21 +208,21 @@ module _ (h : Header) (kept : ℕ → List Row) (lapses : ℕ → ℕ) (figs : L
         answer = ap (λ (s : Outcome Answer State). s.result) made
             ∙ ap plain (ap (λ (x : Cell). update_number (Take.update_of x r)) here ∙ number_more (kept i) r);
         state = ap (λ (s : Outcome Answer State). s.left) made
-            ∙ ap (λ (l : List Cell). record { log = image_of h l (lapses_out lapses); figures = figs-after; held = Closed }) (ap (set cells i) after ∙ sym with_row);
+            ∙ ap (λ (l : List Cell). record { log = image_of h l (lapses_out lapses); figures = figs-after; held = None }) (ap (set cells i) after ∙ sym with_row);
       }
 
   -- the interval of the open ask is the cell that the book keeps a reply for
-  cell-asked : (held : OpenAsk) (i : ℕ) (o : OpenFor h held i) → place_of h o.day o.slot ≡ i
+  cell-asked : (held : Option OpenAsk) (i : ℕ) (o : OpenFor h held i) → place_of h o.day o.slot ≡ i
   unfolding place_of
   cell-asked held i o = (in-log h o.day o.slot i o.interval).index
 
-  below : (held : OpenAsk) (y : List ℕ) (i : ℕ) → Heard h held y i → i < cells_of h
+  below : (held : Option OpenAsk) (y : List ℕ) (i : ℕ) → Heard h held y i → i < cells_of h
   below held y i o = interval-below h o.ask.day o.ask.slot i o.ask.interval
 
-  reply-cases : (held : OpenAsk) (y : List ℕ) → Bytes y → is_header h ≡ true → RightHere → HeldIn h held
+  reply-cases : (held : Option OpenAsk) (y : List ℕ) → Bytes y → is_header h ≡ true → RightHere → HeldIn h held
       → Cases (λ (d : Step). Agree h (take_step (image_of h cells (lapses_out lapses)) d) (book_reply h held kept lapses y))
       h (view_by h cells (lapses_out lapses)) figs held y
-  unfolding cells take_step book_reply applied
+  unfolding take_step book_reply applied
   reply-cases held y bytes e right k = record {
     few = λ n. absurd (false≢true (sym n ∙ right-enough h (cell_in cells) figs right));
     no-ask = λ e. rw e (record { answer = refl; state = refl });
@@ -250,9 +243,9 @@ module _ (h : Header) (kept : ℕ → List Row) (lapses : ℕ → ℕ) (figs : L
   }
 
   -- a reply is answered alike by log and book, and the log after it is the one that the book after it gives
-  pub reply-agrees : (held : OpenAsk) (y : List ℕ) → Bytes y → is_header h ≡ true → RightHere → HeldIn h held
+  pub reply-agrees : (held : Option OpenAsk) (y : List ℕ) → Bytes y → is_header h ≡ true → RightHere → HeldIn h held
       → Agree h (step (state_of h (record { held = held; kept = kept; lapses = lapses }) figs) (reply y)) (book_reply h held kept lapses y)
-  unfolding cells take_step step Take.taken
+  unfolding take_step step Take.taken
   reply-agrees held y bytes e right k =
       let P : Step → Type 0 = λ d. Agree h (take_step (image_of h cells (lapses_out lapses)) d) (book_reply h held kept lapses y) in
       subst (λ (v : View). P (Take.decided v figs held y)) (sym (seen_here e))
@@ -283,30 +276,30 @@ module _ (h : Header) (kept : ℕ → List Row) (lapses : ℕ → ℕ) (figs : L
       go false p = refl
 
   -- a lapse is answered alike by log and book, and counts in both
-  pub lapse-agrees : (held : OpenAsk) → is_header h ≡ true → HeldIn h held
+  pub lapse-agrees : (held : Option OpenAsk) → is_header h ≡ true → HeldIn h held
       → Agree h (step (state_of h (record { held = held; kept = kept; lapses = lapses }) figs) lapse) (book_lapse h held kept lapses)
-  unfolding cells step book_lapse Lapse.lapsed Lapse.lapsing lapse_step
-  lapse-agrees Closed e k = let w = whole e in record { answer = refl; state = rw (applied-image h cells (lapses_out lapses) change.None w tt) refl }
-  lapse-agrees (Open a day slot) e k =
+  unfolding step book_lapse Lapse.lapsed Lapse.lapsing lapse_step
+  lapse-agrees None e k = let w = whole e in record { answer = refl; state = rw (applied-image h cells (lapses_out lapses) change.None w tt) refl }
+  lapse-agrees (Some opened) e k =
       let w = whole e in
-      let i = place_of h day slot in
-      let l : i < cells_of h = interval-below h day slot i k in
+      let i = place_of h opened.day opened.slot in
+      let l : i < cells_of h = interval-below h opened.day opened.slot i k in
       let m : i < length cells = omega (arith, l, w.count) in
       let n = Lapse.one_more (cut_at255 (lapses i)) in
       let fits : n < 256 = rw (cut-more (lapses i)) (cut_fits (lapses i + 1)) in
       let done : applied (change.Lapses i n) (image_of h cells (lapses_out lapses)) ≡ image_of h cells (lapses_out (lapses_with lapses i)) =
       applied-image h cells (lapses_out lapses) (change.Lapses i n) w (l, fits)
       ∙ image-alike h cells (λ j. cond (eqb j i) n (cut_at255 (lapses j))) (lapses_out (lapses_with lapses i)) (λ j x. lapses-more i j) in
-      subst (λ (v : View). Agree h (lapse_step (image_of h cells (lapses_out lapses)) figs (Lapse.lapsing v (Open a day slot))) (book_lapse h (Open a day slot) kept lapses))
+      subst (λ (v : View). Agree h (lapse_step (image_of h cells (lapses_out lapses)) figs (Lapse.lapsing v (Some opened))) (book_lapse h (Some opened) kept lapses))
       (sym (seen_here e))
-      (rw (k, read_here i l, lt-ltb i (length cells) m) (record { answer = refl; state = ap (λ (x : List ℕ). record { log = x; figures = figs; held = Closed }) done }))
+      (rw (k, read_here i l, lt-ltb i (length cells) m) (record { answer = refl; state = ap (λ (x : List ℕ). record { log = x; figures = figs; held = None }) done }))
 
 -- ---- any call
 
 -- for demand 3: any call on the log that a book gives leaves the log that the book gives after its entry
 pub step-agrees : (h : Header) (b : Book) (figs : List ℕ) (c : Call) → is_header h ≡ true → Sane h b → CallBytes c
     → Right h (view_of (state_of h b figs).log).cell figs → Agree h (step (state_of h b figs) c) (book_step h b c)
-unfolding book_step cells
+unfolding book_step
 step-agrees h b figs (ask address day slot out) e s k right = ask-agrees h b.kept b.lapses figs address day slot out b.held e
 step-agrees h b figs lapse e s k right = lapse-agrees h b.kept b.lapses figs s.rows b.held e s.inside
 step-agrees h b figs (reply y) e s k right =
@@ -327,16 +320,16 @@ module _ (h : Header) (kept : ℕ → List Row) (lapses : ℕ → ℕ) (rows : (
   abbrev KeepsSane : Outcome Answer Book → Type 0
   KeepsSane e = Sane h e.left
 
-  ask-sane : (held : OpenAsk) (address day slot : ℕ) (out : List ℕ) → HeldIn h held → KeepsSane (book_ask h held kept lapses address day slot out)
+  ask-sane : (held : Option OpenAsk) (address day slot : ℕ) (out : List ℕ) → HeldIn h held → KeepsSane (book_ask h held kept lapses address day slot out)
   unfolding book_ask place_of
   ask-sane held address day slot out k =
       let same : Sane h (record { held = held; kept = kept; lapses = lapses }) = record { inside = k; rows = rows } in
       either KeepsSane (ltb (length out) read_size) same (
       by-none KeepsSane held (λ a d t o. same) (λ o.
       by-at KeepsSane (interval_of h day slot) (λ e. same) (λ i e.
-      record { inside = e ∙ ap At (sym (in-log h day slot i e).index); rows = rows })))
+      record { inside = e ∙ ap Some (sym (in-log h day slot i e).index); rows = rows })))
 
-  reply-sane : (held : OpenAsk) (y : List ℕ) → Bytes y → HeldIn h held → KeepsSane (book_reply h held kept lapses y)
+  reply-sane : (held : Option OpenAsk) (y : List ℕ) → Bytes y → HeldIn h held → KeepsSane (book_reply h held kept lapses y)
   unfolding book_reply keep_reply
   reply-sane held y k q =
       let same : Sane h (record { held = held; kept = kept; lapses = lapses }) = record { inside = q; rows = rows } in

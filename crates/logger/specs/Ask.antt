@@ -1,7 +1,10 @@
 -- Asking for an interval. Source: document 01, "The reader and the log": "The reader has at most one ask open, with its address
 -- (0..255)"; "An ask gets 1, 21 or 22 by the table, else 0 and opens"; 28 "stands right after 1"; document 02, CR 5: "22
 -- also for a slot that doesn't exist", which `interval_of` says.
-use Rattle.std.specs.Prelude.{cond, List, ℕ, ◌+◌, ltb, length}
+use Rattle.std.specs.Prelude.{cond, List, ℕ, ◌+◌, ltb, length, Err, Ok, Result, Option}
+use Rattle.logger.specs.Held.{opened_for}
+use Rattle.refusal.specs.Number.{answer_number}
+use Rattle.logger.specs.declared.ask.AskError.{AskError}
 use Rattle.refusal.specs.Outcome.{Outcome, outcome}
 use Rattle.byte_numbers.specs.Place.{written}
 use Rattle.parameters.specs.Code.{slice}
@@ -16,13 +19,15 @@ use Rattle.energy_log.specs.View.{View}
 use Rattle.log_header.specs.Interval.{interval_of, if_at}
 use Rattle.log_header.specs.declared.header.Header.{Header}
 use Rattle.logger.specs.Held.{if_none}
-use Rattle.logger.specs.declared.ask.AskAnswer.{AskAnswer}
-use Rattle.logger.specs.declared.ask.AskAnswer.TheVariants.{Done, TooShort, Unsound, AlreadyOpen, NotInLog}
-use Rattle.logger.specs.declared.ask.Asked.{Asked}
+use Rattle.logger.specs.declared.ask.AskError.TheVariants.{TooShort, Unsound, AlreadyOpen, NotInLog}
+use Rattle.logger.specs.declared.held.Answered.{Answered}
 use Rattle.logger.specs.declared.held.OpenAsk.{OpenAsk}
-use Rattle.logger.specs.declared.held.OpenAsk.TheVariants.{Open}
 
-abbrev pub answered : AskAnswer → OpenAsk → List ℕ → Outcome Asked (List ℕ)
+-- the answer of an ask with the ask left open
+abbrev pub Asked : Type 0
+Asked = Answered AskError
+
+abbrev pub answered : Result Unit AskError → Option OpenAsk → List ℕ → Outcome Asked (List ℕ)
 answered a held s = outcome (record { answer = a; held = held }) s
 
 -- the date of a day of the log
@@ -39,19 +44,21 @@ unfolding request_frame
 ask_frame h address day slot = request_frame (slice_request address (date_of_day h day) slot)
 
 -- an ask: 1, 28, 21, 22, and then 0, the frame and the ask open
-unfoldable pub asked : View → OpenAsk → ℕ → ℕ → ℕ → List ℕ → Outcome Asked (List ℕ)
+unfoldable pub asked : View → Option OpenAsk → ℕ → ℕ → ℕ → List ℕ → Outcome Asked (List ℕ)
 unfolding ask_frame
 asked v held address day slot out =
-    cond (ltb (length out) read_size) (answered TooShort held out) (
-    if_sound v.lent (answered Unsound held out) (λ h.
-    if_none held (answered AlreadyOpen held out) (
-    if_at (interval_of h day slot) (answered NotInLog held out) (λ i.
-    answered Done (Open address day slot) (written out 0 (ask_frame h address day slot))))))
+    cond (ltb (length out) read_size) (answered (Err TooShort) held out) (
+    if_sound v.lent (answered (Err Unsound) held out) (λ h.
+    if_none held (answered (Err AlreadyOpen) held out) (
+    if_at (interval_of h day slot) (answered (Err NotInLog) held out) (λ i.
+    answered (Ok tt) (opened_for address day slot) (written out 0 (ask_frame h address day slot))))))
 
 -- document 01's numbers
-abbrev pub number_of : AskAnswer → ℕ
-number_of Done = 0
-number_of TooShort = 1
-number_of Unsound = 28
-number_of AlreadyOpen = 21
-number_of NotInLog = 22
+abbrev pub error_number : AskError → ℕ
+error_number TooShort = 1
+error_number Unsound = 28
+error_number AlreadyOpen = 21
+error_number NotInLog = 22
+
+abbrev pub number_of : Result Unit AskError → ℕ
+number_of = answer_number error_number

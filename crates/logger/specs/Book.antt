@@ -3,7 +3,8 @@
 -- at first the cells that aren't gaps (empty as zeros)." Document 02, request 2: "23 goes, in demand 3's book too; in its place and this
 -- order 50 length, 51 CRC, 52 address, 53 function, or a top bit that belies the result, 54 parameter." CR 7: "Demand 3 then fixes it from the history: lapses
 -- of asks for that interval, added to what the file held and cut at 255."
-use Rattle.std.specs.Prelude.{Bool, cond, not, ◌&&◌, List, [], ◌∷◌, ◌++◌, ℕ, zero, suc, ◌+◌, ◌*◌, eqb, ltb, length, get_or}
+use Rattle.std.specs.Prelude.{Bool, cond, not, ◌&&◌, List, [], ◌∷◌, ◌++◌, ℕ, zero, suc, ◌+◌, ◌*◌, eqb, ltb, length, get_or, None, Option}
+use Rattle.logger.specs.Held.{opened_for}
 use Rattle.refusal.specs.Outcome.{Outcome, outcome}
 use Rattle.frame.specs.Layout.{read_size}
 use Rattle.slots.specs.Day.{slots_of}
@@ -20,7 +21,6 @@ use Rattle.reader.specs.declared.form.Fault.TheVariants as fault
 use Rattle.logger.specs.Held.{if_none, if_open}
 use Rattle.logger.specs.Reply.{slice_form, if_formed, result_of, if_ok}
 use Rattle.logger.specs.declared.held.OpenAsk.{OpenAsk}
-use Rattle.logger.specs.declared.held.OpenAsk.TheVariants.{Closed, Open}
 
 -- a call's arguments, without the log and the open ask: an ask's address, day, slot and lent output; a reply's bytes
 pub data Call : Type 0 where
@@ -82,7 +82,7 @@ afresh rows = by_first (first_of rows) rows
 -- ---- the book
 
 pub record Book : Type 0 where
-  pub held : OpenAsk
+  pub held : Option OpenAsk
   pub kept : ℕ → List Row
   -- "lapses of asks for that interval, added to what the file held"
   pub lapses : ℕ → ℕ
@@ -100,7 +100,7 @@ came_first (Measured a b c d) = row a b c d ∷ []
 -- the book of a start: no ask open, the cells that are no gaps as replies, and the lapses that the file held
 unfoldable pub start_book : List Cell → (ℕ → ℕ) → Book
 unfolding came_first
-start_book cells lapses = record { held = Closed; kept = λ i. came_first (get_or cells i Gap); lapses = lapses }
+start_book cells lapses = record { held = None; kept = λ i. came_first (get_or cells i Gap); lapses = lapses }
 
 -- the replies with one more at interval i
 unfoldable pub kept_with : (ℕ → List Row) → ℕ → Row → ℕ → List Row
@@ -111,7 +111,7 @@ unfoldable pub lapses_with : (ℕ → ℕ) → ℕ → ℕ → ℕ
 lapses_with lapses i j = cond (eqb j i) (lapses j + 1) (lapses j)
 
 -- an answer and the book after it
-abbrev pub entry : Answer → OpenAsk → (ℕ → List Row) → (ℕ → ℕ) → Outcome Answer Book
+abbrev pub entry : Answer → Option OpenAsk → (ℕ → List Row) → (ℕ → ℕ) → Outcome Answer Book
 entry a held kept lapses = outcome a (record { held = held; kept = kept; lapses = lapses })
 
 -- "25 if nonzero and unlike that interval's first nonzero one, else 0"
@@ -122,32 +122,32 @@ kept_answer (counts q) r = cond (not (is_zero r) && not (alike q r)) 25 0
 -- a reply with result 0 "is kept for the ask's interval"
 unfoldable pub keep_reply : (ℕ → List Row) → (ℕ → ℕ) → ℕ → Row → Outcome Answer Book
 unfolding kept_with
-keep_reply kept lapses i r = entry (plain (kept_answer (first_of (kept i)) r)) Closed (kept_with kept i r) lapses
+keep_reply kept lapses i r = entry (plain (kept_answer (first_of (kept i)) r)) None (kept_with kept i r) lapses
 
 -- "A reply gets 20 with none open. If it isn't well formed it gets 23", now one of the five, "and the ask stays. Else the ask closes: a
 -- result other than 0 gets 24 with that result; any other reply is kept for the ask's interval"
-unfoldable pub book_reply : Header → OpenAsk → (ℕ → List Row) → (ℕ → ℕ) → List ℕ → Outcome Answer Book
+unfoldable pub book_reply : Header → Option OpenAsk → (ℕ → List Row) → (ℕ → ℕ) → List ℕ → Outcome Answer Book
 unfolding keep_reply counts_in
 book_reply h held kept lapses y =
     if_open held (entry (plain 20) held kept lapses) (λ address day slot.
     if_formed (slice_form address y) (λ fault. entry (fault_answer fault) held kept lapses) (
-    if_ok (result_of y) (entry (record { number = 24; result = result_of y; length = 0 }) Closed kept lapses) (
+    if_ok (result_of y) (entry (record { number = 24; result = result_of y; length = 0 }) None kept lapses) (
     keep_reply kept lapses (place_of h day slot) (counts_in y))))
 
 -- "An ask gets 1, 21 or 22 by the table, else 0 and opens"; document 02, CR 5: "22 also for a slot that doesn't exist"
-unfoldable pub book_ask : Header → OpenAsk → (ℕ → List Row) → (ℕ → ℕ) → ℕ → ℕ → ℕ → List ℕ → Outcome Answer Book
+unfoldable pub book_ask : Header → Option OpenAsk → (ℕ → List Row) → (ℕ → ℕ) → ℕ → ℕ → ℕ → List ℕ → Outcome Answer Book
 book_ask h held kept lapses address day slot out =
     cond (ltb (length out) read_size) (entry (plain 1) held kept lapses) (
     if_none held (entry (plain 21) held kept lapses) (
     if_at (interval_of h day slot) (entry (plain 22) held kept lapses) (λ i.
-    entry (plain 0) (Open address day slot) kept lapses)))
+    entry (plain 0) (opened_for address day slot) kept lapses)))
 
 -- "A lapse gets 0, and none is open"; where one was, it counts for the ask's interval (CR 7)
-unfoldable pub book_lapse : Header → OpenAsk → (ℕ → List Row) → (ℕ → ℕ) → Outcome Answer Book
+unfoldable pub book_lapse : Header → Option OpenAsk → (ℕ → List Row) → (ℕ → ℕ) → Outcome Answer Book
 unfolding lapses_with
 book_lapse h held kept lapses =
-    if_open held (entry (plain 0) Closed kept lapses) (λ address day slot.
-    entry (plain 0) Closed kept (lapses_with lapses (place_of h day slot)))
+    if_open held (entry (plain 0) None kept lapses) (λ address day slot.
+    entry (plain 0) None kept (lapses_with lapses (place_of h day slot)))
 
 -- one call
 unfoldable pub book_step : Header → Book → Call → Outcome Answer Book

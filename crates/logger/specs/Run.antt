@@ -1,6 +1,7 @@
 -- A list of calls, run: each call gets log, figures and open ask as the one before left them (demand 3; document 02, CR 8). The steps are the very definitions that
 -- the contracts of `put_ask`, `lapse` and `take_reply` cite.
-use Rattle.std.specs.Prelude.{List, ℕ}
+use Rattle.std.specs.Prelude.{List, ℕ, Result, Option}
+use Rattle.logger.specs.declared.take.TakeError.{TakeError}
 use Rattle.refusal.specs.Outcome.{Outcome, outcome}
 use Rattle.energy_log.specs.View.{view_of}
 use Rattle.day_rows.specs.LogAndRows.{LogAndRows, log_and_rows}
@@ -9,20 +10,19 @@ use Rattle.logger.specs.Lapse as Lapse
 use Rattle.logger.specs.Take as Take
 use Rattle.logger.specs.Book.{Call, ask, lapse, reply, Answer, plain, run_of}
 use Rattle.logger.specs.declared.held.OpenAsk.{OpenAsk}
-use Rattle.logger.specs.declared.take.TakeAnswer.{TakeAnswer}
 
 -- what the calls hand on to each other
 pub record State : Type 0 where
   pub log : List ℕ
   pub figures : List ℕ
-  pub held : OpenAsk
+  pub held : Option OpenAsk
 
 -- the number of a taken reply's answer, with the result that 24 returns and the length that 50 does
-abbrev pub take_answer : TakeAnswer → Answer
+abbrev pub take_answer : Result Unit TakeError → Answer
 take_answer a = record { number = Take.number_of a; result = Take.result_or a 0; length = Take.length_or a 0 }
 
 -- a log and its figures with an ask that is held
-abbrev pub state : LogAndRows → OpenAsk → State
+abbrev pub state : LogAndRows → Option OpenAsk → State
 state b held = record { log = b.log; figures = b.figures; held = held }
 
 -- one call, by the definition that its contract cites: its answer and the state after it; an ask and a lapse are lent no figures

@@ -7,7 +7,7 @@ mod held;
 mod no_reply;
 mod take;
 
-pub use ask::{AskAnswer, Asked, put_ask};
-pub use held::OpenAsk;
-pub use no_reply::{LapseAnswer, Lapsed, lapse};
-pub use take::{TakeAnswer, Taken, take_reply};
+pub use ask::{AskError, Asked, put_ask};
+pub use held::{Answered, OpenAsk};
+pub use no_reply::{LapseError, Lapsed, lapse};
+pub use take::{TakeError, Taken, take_reply};

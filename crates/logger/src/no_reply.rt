@@ -2,110 +2,71 @@
 ghost use Rattle.std.specs.Prelude.{◌≡◌};
 ghost use Rattle.refusal.specs.Outcome.{outcome};
 ghost use Rattle.energy_log.specs.View.{view_of};
-ghost use Rattle.logger.specs.Lapse.{one_more, stays, lapse_closes, lapsing, lapsed, number_of};
+ghost use Rattle.logger.specs.Lapse.{one_more, lapsing, lapsed, error_number};
 
-use crate::held::OpenAsk;
+use crate::held::{Answered, Decided, OpenAsk};
 use energy_log::Change;
-use log_cell::CellAnswer;
-use log_header::{Interval, LogHeader};
+use refusal::Numbered;
 
-#[derive(Clone, Copy)]
-pub enum LapseAnswer {
-    Done,
+#[derive(Clone, Copy, PartialEq, Eq)]
+pub enum LapseError {
     NotInLog,
     Unsound,
 }
 
-// The answer, and the ask that is open after it.
-#[derive(Clone, Copy)]
-pub struct Lapsed {
-    pub answer: LapseAnswer,
-    pub held: OpenAsk,
-}
+pub type Lapsed = Answered<LapseError>;
 
-// What a lapse comes to: what is answered, and what is done to the log.
-#[derive(Clone, Copy)]
-pub struct LapseDecision {
-    pub lapsed: Lapsed,
-    pub change: Change,
-}
+type LapseDecision = Decided<LapseError>;
 
-impl LapseAnswer {
+impl Numbered for LapseError {
     // Document 01's number.
-    pub fn number(self) -> u8
-        ensures { result ≡ number_of self }
-    {
+    ghost number_of = { error_number };
+
+    fn number(&self) -> u8 {
         match self {
-            LapseAnswer::Done => refusal::DONE,
-            LapseAnswer::NotInLog => refusal::NOT_IN_LOG,
-            LapseAnswer::Unsound => refusal::UNSOUND,
+            LapseError::NotInLog => refusal::NOT_IN_LOG,
+            LapseError::Unsound => refusal::UNSOUND,
         }
     }
 }
 
-// A cell's count of lapses stays here.
-const LAPSES_MOST: u8 = 255;
-
 // Closes the open ask, and counts a lapse more for its cell. With none open it does nothing, whatever the log is.
-pub fn lapse(log: &mut [u8], held: OpenAsk) -> Lapsed
+#[tactic(auto, unfolding(crate::specs::Lapse::lapsed))]
+pub fn lapse(log: &mut [u8], held: Option<OpenAsk>) -> Lapsed
     ensures { outcome result log.new ≡ lapsed log.old held }
 {
     let lapsing = lapsing(log, held);
-    let change = lapsing.change;
-    energy_log::apply(log, change);
-    lapsing.lapsed
+    energy_log::apply(log, lapsing.change);
+    lapsing.answered
 }
 
 // What it comes to, check after check. The log is only read.
-fn lapsing(log: &[u8], held: OpenAsk) -> LapseDecision
+#[tactic(auto, unfolding(crate::specs::Lapse::lapsing))]
+fn lapsing(log: &[u8], held: Option<OpenAsk>) -> LapseDecision
     ensures { result ≡ lapsing (view_of log.now) held }
 {
-    let OpenAsk::Open(_, day, slot) = held else {
-        return closes(Change::None);
+    let Some(OpenAsk { day, slot, .. }) = held else {
+        return Decided::closes(Ok(()), Change::None);
     };
-    let LogHeader::Sound(h) = log_header::sound(log) else {
-        return stays(LapseAnswer::Unsound, held);
+    let Some(h) = log_header::sound(log) else {
+        return Decided::stays(Err(LapseError::Unsound), held);
     };
-    let Interval::At(i) = log_header::interval_of(h, day, slot) else {
-        return stays(LapseAnswer::NotInLog, held);
+    let Some(i) = log_header::interval_of(h, day, slot) else {
+        return Decided::stays(Err(LapseError::NotInLog), held);
     };
-    let CellAnswer::Good(_) = energy_log::cell_at(log, i) else {
-        return stays(LapseAnswer::Unsound, held);
+    let Some(_) = energy_log::cell_at(log, i) else {
+        return Decided::stays(Err(LapseError::Unsound), held);
     };
-    closes(Change::Lapses(i, one_more(energy_log::lapses_at(log, i))))
+    Decided::closes(
+        Ok(()),
+        Change::Lapses(i, one_more(energy_log::lapses_at(log, i))),
+    )
 }
 
+// A cell's count of lapses stays at 255.
+#[tactic(auto, unfolding(crate::specs::Lapse::one_more))]
 fn one_more(lapses: u8) -> u8
     ensures { result ≡ one_more lapses }
 {
-    if lapses < LAPSES_MOST {
-        return lapses + 1;
-    }
-    LAPSES_MOST
-}
-
-// Refused, and all stays as it was.
-fn stays(answer: LapseAnswer, held: OpenAsk) -> LapseDecision
-    ensures { result ≡ stays answer held }
-{
-    LapseDecision {
-        lapsed: Lapsed {
-            answer: answer,
-            held: held,
-        },
-        change: Change::None,
-    }
-}
-
-// None is open after it.
-fn closes(change: Change) -> LapseDecision
-    ensures { result ≡ lapse_closes change }
-{
-    LapseDecision {
-        lapsed: Lapsed {
-            answer: LapseAnswer::Done,
-            held: OpenAsk::Closed,
-        },
-        change: change,
-    }
+    lapses.saturating_add(1)
 }

@@ -1,26 +1,25 @@
 // Taking a reply for the open ask.
-ghost use Rattle.std.specs.Prelude.{◌≡◌};
+ghost use Rattle.std.specs.Prelude.{◌≡◌, Err};
 ghost use Rattle.refusal.specs.Outcome.{outcome};
 ghost use Rattle.energy_log.specs.View.{view_of};
 ghost use Rattle.log_cell.specs.Cell.{if_good};
 ghost use Rattle.energy_log.specs.Image.{cell_at};
 ghost use Rattle.day_rows.specs.LogAndRows.{log_and_rows};
-ghost use Rattle.logger.specs.declared.take.TakeAnswer.TheVariants.{Unsound};
-ghost use Rattle.logger.specs.Take.{taken, decided, stays, take_closes, put_with, updated, update_of, filled, compared, number_of, result_or, length_or};
+ghost use Rattle.logger.specs.declared.take.TakeError.TheVariants.{Unsound};
+ghost use Rattle.logger.specs.Take.{taken, decided, stays, updated, update_of, filled, compared, error_number, result_or, length_or};
 
-use crate::held::OpenAsk;
-use day_rows::FigureAnswer;
+use crate::held::{Answered, Decided, OpenAsk};
+use day_rows::FigureError;
 use energy_log::Change;
 use frame::layout;
-use log_cell::{Cell, CellAnswer};
-use log_header::{Interval, LogHeader};
+use log_cell::Cell;
 use parameters::code;
-use reader::{Fault, Reply};
+use reader::{Fault, ReplyError};
+use refusal::Numbered;
 use wire_values::Row;
 
-#[derive(Clone, Copy)]
-pub enum TakeAnswer {
-    Done,
+#[derive(Clone, Copy, PartialEq, Eq)]
+pub enum TakeError {
     // There are fewer figures than the log has.
     TooShort,
     NoAskOpen,
@@ -34,19 +33,9 @@ pub enum TakeAnswer {
     Unsound,
 }
 
-// The answer, and the ask that is open after it.
-#[derive(Clone, Copy)]
-pub struct Taken {
-    pub answer: TakeAnswer,
-    pub held: OpenAsk,
-}
+pub type Taken = Answered<TakeError>;
 
-// What a reply comes to: what is answered, and what is done to the log.
-#[derive(Clone, Copy)]
-pub struct Decision {
-    pub taken: Taken,
-    pub change: Change,
-}
+type Decision = Decided<TakeError>;
 
 // What a reply does to a cell.
 #[derive(Clone, Copy)]
@@ -56,90 +45,83 @@ pub enum Update {
     Conflict,
 }
 
-impl TakeAnswer {
+impl Numbered for TakeError {
     // Document 01's number, and document 02's of a reply that is not well formed.
-    pub fn number(self) -> u8
-        ensures { result ≡ number_of self }
-    {
+    ghost number_of = { error_number };
+
+    fn number(&self) -> u8 {
         match self {
-            TakeAnswer::Done => refusal::DONE,
-            TakeAnswer::TooShort => refusal::TOO_SHORT,
-            TakeAnswer::NoAskOpen => refusal::NO_ASK_OPEN,
-            TakeAnswer::NotInLog => refusal::NOT_IN_LOG,
-            TakeAnswer::Malformed(fault) => fault.number(),
-            TakeAnswer::MeterRefused(_) => refusal::METER_REFUSED,
-            TakeAnswer::OtherCounts => refusal::OTHER_COUNTS,
-            TakeAnswer::Unsound => refusal::UNSOUND,
+            TakeError::TooShort => refusal::TOO_SHORT,
+            TakeError::NoAskOpen => refusal::NO_ASK_OPEN,
+            TakeError::NotInLog => refusal::NOT_IN_LOG,
+            TakeError::Malformed(fault) => fault.number(),
+            TakeError::MeterRefused(_) => refusal::METER_REFUSED,
+            TakeError::OtherCounts => refusal::OTHER_COUNTS,
+            TakeError::Unsound => refusal::UNSOUND,
         }
     }
+}
 
+impl TakeError {
     // The meter's result, which 24 alone returns.
     pub fn result_or(self, other: u8) -> u8
-        ensures { result ≡ result_or self other }
+        ensures { result ≡ result_or (Err self) other }
     {
         match self {
-            TakeAnswer::MeterRefused(result) => result,
-            TakeAnswer::Done => other,
-            TakeAnswer::TooShort => other,
-            TakeAnswer::NoAskOpen => other,
-            TakeAnswer::NotInLog => other,
-            TakeAnswer::Malformed(_) => other,
-            TakeAnswer::OtherCounts => other,
-            TakeAnswer::Unsound => other,
+            TakeError::MeterRefused(result) => result,
+            _ => other,
         }
     }
 
     // The length received, which 50 alone returns.
     pub fn length_or(self, other: usize) -> usize
-        ensures { result ≡ length_or self other }
+        ensures { result ≡ length_or (Err self) other }
     {
         match self {
-            TakeAnswer::Malformed(fault) => fault.length_or(other),
-            TakeAnswer::Done => other,
-            TakeAnswer::TooShort => other,
-            TakeAnswer::NoAskOpen => other,
-            TakeAnswer::NotInLog => other,
-            TakeAnswer::MeterRefused(_) => other,
-            TakeAnswer::OtherCounts => other,
-            TakeAnswer::Unsound => other,
+            TakeError::Malformed(fault) => fault.length_or(other),
+            _ => other,
         }
     }
 }
 
 // Takes a reply for the open ask into the log, and keeps its day's figures right.
-pub fn take_reply(log: &mut [u8], figures: &mut [u32], held: OpenAsk, reply: &[u8]) -> Taken
+#[tactic(auto, unfolding(crate::specs::Take::taken))]
+pub fn take_reply(log: &mut [u8], figures: &mut [u32], held: Option<OpenAsk>, reply: &[u8]) -> Taken
     ensures { outcome result (log_and_rows log.new figures.new)
         ≡ taken (log_and_rows log.old figures.old) held reply.now }
 {
     let decided = decided(log, figures, held, reply);
-    let change = decided.change;
-    energy_log::apply(log, change);
-    decided.taken
+    energy_log::apply(log, decided.change);
+    decided.answered
 }
 
 // What the reply comes to, check after check. The log is only read.
-fn decided(log: &[u8], figures: &mut [u32], held: OpenAsk, reply: &[u8]) -> Decision
+#[tactic(auto, unfolding(crate::specs::Take::decided))]
+fn decided(log: &[u8], figures: &mut [u32], held: Option<OpenAsk>, reply: &[u8]) -> Decision
     ensures { outcome result figures.new
         ≡ decided (view_of log.now) figures.old held reply.now }
 {
-    let LogHeader::Sound(h) = log_header::sound(log) else {
-        return stays(TakeAnswer::Unsound, held);
+    let Some(h) = log_header::sound(log) else {
+        return Decided::stays(Err(TakeError::Unsound), held);
     };
     if figures.len() < day_rows::figures_of(h) {
-        return stays(TakeAnswer::TooShort, held);
+        return Decided::stays(Err(TakeError::TooShort), held);
     }
-    let OpenAsk::Open(address, day, slot) = held else {
-        return stays(TakeAnswer::NoAskOpen, held);
+    let Some(OpenAsk { address, day, slot }) = held else {
+        return Decided::stays(Err(TakeError::NoAskOpen), held);
     };
-    let Interval::At(i) = log_header::interval_of(h, day, slot) else {
-        return stays(TakeAnswer::NotInLog, held);
+    let Some(i) = log_header::interval_of(h, day, slot) else {
+        return Decided::stays(Err(TakeError::NotInLog), held);
     };
     // Early, where the header still lies in registers.
     let twice = day_rows::comes_twice(h, day, slot);
     match reader::reply_of(address, code::READ, code::SLICE, layout::SLICE_REPLY, reply) {
-        Reply::Malformed(fault) => stays(TakeAnswer::Malformed(fault), held),
-        Reply::Refused(result) => closes(TakeAnswer::MeterRefused(result), Change::None),
-        Reply::Answered => {
+        Err(ReplyError::Malformed(fault)) => Decided::stays(Err(TakeError::Malformed(fault)), held),
+        Err(ReplyError::Refused(result)) => Decided::closes(
+            Err(TakeError::MeterRefused(result)),
+            Change::None,
+        ),
+        Ok(()) => {
             let row = wire_values::row_at(reply, layout::DATA);
             into_cell(log, figures, twice, held, day, i, row)
         }
@@ -151,53 +133,28 @@ fn into_cell(
     log: &[u8],
     figures: &mut [u32],
     twice: bool,
-    held: OpenAsk,
+    held: Option<OpenAsk>,
     day: u8,
     i: usize,
     row: Row,
 ) -> Decision
-    ensures { outcome result figures.new ≡ if_good (cell_at log.now i) (outcome (stays Unsound held) figures.old)
+    ensures { outcome result figures.new ≡ if_good (cell_at log.now i) (outcome (stays (Err Unsound) held) figures.old)
         (λ c. updated (update_of c row) twice held day i c figures.old) }
 {
-    let CellAnswer::Good(cell) = energy_log::cell_at(log, i) else {
-        return stays(TakeAnswer::Unsound, held);
+    let Some(cell) = energy_log::cell_at(log, i) else {
+        return Decided::stays(Err(TakeError::Unsound), held);
     };
     let update = update_of(cell, row);
     updated(update, figures, twice, held, day, i, cell)
 }
 
-// Refused, and all stays as it was.
-fn stays(answer: TakeAnswer, held: OpenAsk) -> Decision
-    ensures { result ≡ stays answer held }
-{
-    Decision {
-        taken: Taken {
-            answer: answer,
-            held: held,
-        },
-        change: Change::None,
-    }
-}
-
-// The ask is closed.
-fn closes(answer: TakeAnswer, change: Change) -> Decision
-    ensures { result ≡ take_closes answer change }
-{
-    Decision {
-        taken: Taken {
-            answer: answer,
-            held: OpenAsk::Closed,
-        },
-        change: change,
-    }
-}
-
 // A cell is put where its day's figures can follow.
+#[tactic(auto, unfolding(crate::specs::Take::updated, crate::specs::Take::put_with))]
 fn updated(
     update: Update,
     figures: &mut [u32],
     twice: bool,
-    held: OpenAsk,
+    held: Option<OpenAsk>,
     day: u8,
     i: usize,
     old: Cell,
@@ -205,30 +162,21 @@ fn updated(
     ensures { outcome result figures.new ≡ updated update twice held day i old figures.old }
 {
     match update {
-        Update::Put(new) => {
-            let answer = day_rows::change(figures, day, twice, old, new);
-            put_with(answer, held, i, new)
-        }
-        Update::Keep => closes(TakeAnswer::Done, Change::None),
-        Update::Conflict => closes(TakeAnswer::OtherCounts, Change::None),
+        Update::Put(new) => match day_rows::change(figures, day, twice, old, new) {
+            Ok(()) => Decided::closes(Ok(()), Change::Put(i, new)),
+            Err(FigureError::Unfit) => Decided::stays(Err(TakeError::Unsound), held),
+        },
+        Update::Keep => Decided::closes(Ok(()), Change::None),
+        Update::Conflict => Decided::closes(Err(TakeError::OtherCounts), Change::None),
     }
 }
 
-fn put_with(answer: FigureAnswer, held: OpenAsk, i: usize, new: Cell) -> Decision
-    ensures { result ≡ put_with answer held i new }
-{
-    match answer {
-        FigureAnswer::Done => closes(TakeAnswer::Done, Change::Put(i, new)),
-        FigureAnswer::Unfit => stays(TakeAnswer::Unsound, held),
-    }
-}
-
+#[tactic(auto, unfolding(crate::specs::Take::update_of))]
 fn update_of(cell: Cell, row: Row) -> Update
     ensures { result ≡ update_of cell row }
 {
     match cell {
-        Cell::Gap => filled_with(row),
-        Cell::Empty => filled_with(row),
+        Cell::Gap | Cell::Empty => filled_with(row),
         Cell::Measured(e_plus, e_minus, r_plus, r_minus) => {
             compared_with(wire_values::row_of(e_plus, e_minus, r_plus, r_minus), row)
         }
@@ -250,10 +198,7 @@ fn filled_with(row: Row) -> Update
 fn compared_with(held: Row, row: Row) -> Update
     ensures { result ≡ compared held row }
 {
-    if row.is_zero() {
-        return Update::Keep;
-    }
-    if held.is_like(row) {
+    if row.is_zero() || held.is_like(row) {
         Update::Keep
     } else {
         Update::Conflict

@@ -1,4 +1,5 @@
 -- What follows from the definitions of specs/Form.antt, specs/Request.antt and specs/Reply.antt, for proofs alone: no contract cites it.
+use Rattle.std.specs.Prelude.{Err, Ok, Result}
 use mathlib.Core.Path.{◌≡◌, refl, sym, ap, ap₂, ◌∙◌}
 use mathlib.Core.Bool.{Bool, true, false, cond}
 use mathlib.Core.List.{List, [], ◌∷◌, ◌++◌, append_assoc, append-nil}
@@ -21,19 +22,18 @@ use Rattle.mercury.specs.Form.{form_of, request_form, repeats, reply_form}
 use Rattle.mercury.specs.Layout.{address_bytes, address_in, head_of}
 use Rattle.mercury.specs.Reply.{reply_frame}
 use Rattle.mercury.specs.Request.{request_frame}
-use Rattle.mercury.specs.declared.form.Form.TheVariants.{WellFormed, Faulty}
 use Rattle.mercury.specs.declared.form.Fault.{Fault}
 use Rattle.mercury.specs.declared.form.Fault.TheVariants as fault
 use Rattle.mercury.proofs.LayoutLaws.{length-head, address-head, bytes-head, head-back}
 
-not-formed : (f : Fault) → Faulty f ≡ WellFormed → ⊥
-not-formed f h = let z : ◌≡◌ {A = ℕ} 0 1 = cc in omega arith
+abbrev well-formed : Result Unit Fault
+well-formed = Ok tt
 
 -- ---- frames that were made are well formed
 
 -- a frame whose body begins with an address and a command
 formed-head : (address code size : ℕ) (rest : List ℕ) → address < 256 ^ 4 → Bytes (head_of address code ++ rest) → 7 + length rest ≡ size
-    → form_of address size true (framed (head_of address code ++ rest)) ≡ WellFormed
+    → form_of address size true (framed (head_of address code ++ rest)) ≡ Ok tt
 unfolding form_of framed
 formed-head address code size rest h bytes l =
     let head = head_of address code in
@@ -57,13 +57,13 @@ command-framed address code rest =
 
 module _ (address code : ℕ) (h : address < 256 ^ 4) (small : code < 256) (known : is_known (command_of code) ≡ true) where
   -- a request that was made is heard by its meter
-  pub request-formed : request_form address (request_frame address code) ≡ WellFormed
+  pub request-formed : request_form address (request_frame address code) ≡ Ok tt
   unfolding request_form request_frame
   request-formed =
       let head = head_of address code in
       let bare : head ++ [] ≡ head = append-nil head in
       let said : byte_at (framed head) 4 ≡ code = rw bare at (command-framed address code []) in
-      let made : form_of address 7 true (framed head) ≡ WellFormed =
+      let made : form_of address 7 true (framed head) ≡ Ok tt =
       rw bare at (formed-head address code 7 [] h (rw bare (bytes-head address code small)) refl) in
       rw (said, known) made
 
@@ -74,7 +74,7 @@ module _ (address code : ℕ) (h : address < 256 ^ 4) (small : code < 256) (know
 
   -- what the bench sends is well formed to the reader
   pub reply-formed : (bytes : List ℕ) → Bytes bytes → length bytes ≡ data_size (command_of code)
-      → reply_form address code (reply_frame address code bytes) ≡ WellFormed
+      → reply_form address code (reply_frame address code bytes) ≡ Ok tt
   unfolding reply_form reply_frame
   reply-formed bytes b l =
       let head = head_of address code in
@@ -100,14 +100,14 @@ pub record Accepted (address code : ℕ) (y : List ℕ) : Type 0 where
   pub command : byte_at y 4 ≡ code
 
 -- it is known of every well-formed one
-pub accepted : (address code : ℕ) (y : List ℕ) → reply_form address code y ≡ WellFormed → Accepted address code y
+pub accepted : (address code : ℕ) (y : List ℕ) → reply_form address code y ≡ Ok tt → Accepted address code y
 unfolding reply_form form_of
 accepted address code y =
     go (eqb (length y) (7 + data_size (command_of code))) refl (crc_fits y) refl (eqb (address_in y) address) refl (repeats code y) refl
   where
     go : (a : Bool) → eqb (length y) (7 + data_size (command_of code)) ≡ a → (b : Bool) → crc_fits y ≡ b → (c : Bool) → eqb (address_in y) address ≡ c
         → (d : Bool) → repeats code y ≡ d
-        → cond a (cond b (cond c (cond d WellFormed (Faulty fault.Command)) (Faulty fault.Address)) (Faulty fault.Crc)) (Faulty fault.Length) ≡ WellFormed
+        → cond a (cond b (cond c (cond d well-formed (Err fault.Command)) (Err fault.Address)) (Err fault.Crc)) (Err fault.Length) ≡ well-formed
         → Accepted address code y
     go true p true q true r true s h =
         let t = both (is_known (command_of code)) (eqb (byte_at y 4) code) s in
@@ -118,10 +118,10 @@ accepted address code y =
           known = t.0;
           command = eqb-true (byte_at y 4) code t.1;
         }
-    go true p true q true r false s h = absurd (not-formed fault.Command h)
-    go true p true q false r d s h = absurd (not-formed fault.Address h)
-    go true p false q c r d s h = absurd (not-formed fault.Crc h)
-    go false p b q c r d s h = absurd (not-formed fault.Length h)
+    go true p true q true r false s h = absurd cc
+    go true p true q false r d s h = absurd cc
+    go true p false q c r d s h = absurd cc
+    go false p b q c r d s h = absurd cc
 
 -- the first five bytes are address and command
 head-of : (y : List ℕ) → Bytes y → 5 ≤ length y → head_of (address_in y) (byte_at y 4) ≡ take 5 y
@@ -151,15 +151,15 @@ reply-back address code y bytes b a e =
     ap framed (ap₂ ◌++◌ head e ∙ sym (take-add 5 k y) ∙ ap (λ (m : ℕ). take m y) (sym n)) ∙ sym (framed-of-fits y b a.crc)
 
 -- a request that is well formed has one of the three commands
-pub requested : (address : ℕ) (q : List ℕ) → request_form address q ≡ WellFormed → is_known (command_of (byte_at q 4)) ≡ true
+pub requested : (address : ℕ) (q : List ℕ) → request_form address q ≡ Ok tt → is_known (command_of (byte_at q 4)) ≡ true
 unfolding request_form form_of
 requested address q = go (eqb (length q) 7) (crc_fits q) (eqb (address_in q) address) (is_known (command_of (byte_at q 4))) refl
   where
     go : (a b c d : Bool) → is_known (command_of (byte_at q 4)) ≡ d
-        → cond a (cond b (cond c (cond d WellFormed (Faulty fault.Command)) (Faulty fault.Address)) (Faulty fault.Crc)) (Faulty fault.Length) ≡ WellFormed
+        → cond a (cond b (cond c (cond d well-formed (Err fault.Command)) (Err fault.Address)) (Err fault.Crc)) (Err fault.Length) ≡ well-formed
         → is_known (command_of (byte_at q 4)) ≡ true
     go true true true true s h = s
-    go true true true false s h = absurd (not-formed fault.Command h)
-    go true true false d s h = absurd (not-formed fault.Address h)
-    go true false c d s h = absurd (not-formed fault.Crc h)
-    go false b c d s h = absurd (not-formed fault.Length h)
+    go true true true false s h = absurd cc
+    go true true false d s h = absurd cc
+    go true false c d s h = absurd cc
+    go false b c d s h = absurd cc

@@ -1,17 +1,17 @@
 -- The figures of a reading, and their bytes in a reply. Source: document 02, CR 1: "four tariffs, four bytes each of packed decimal, in units of
 -- 10 Wh", "voltage x 10, current x 100, power, two, two and three bytes", "frequency x 100 in the first two of nine data bytes; the other seven
 -- come back as they are", "41 a half-byte above 9".
-use Rattle.std.specs.Prelude.{List, [], ◌∷◌, ◌++◌, ℕ}
+use Rattle.mercury.specs.declared.reply.DecodeError.{DecodeError}
+use Rattle.std.specs.Prelude.{List, [], ◌∷◌, ◌++◌, ℕ, Err, None, Ok, Option, Result, Some}
 use Rattle.byte_numbers.specs.Place.{byte_at}
 use Rattle.packed_decimal.specs.Packed.{packed_of, decimal_at}
-use Rattle.packed_decimal.specs.declared.Decimal.{Decimal}
-use Rattle.packed_decimal.specs.declared.Decimal.TheVariants as decimal
 use Rattle.mercury.specs.declared.units.Tariffs.{Tariffs as FourTariffs}
 use Rattle.mercury.specs.declared.units.Load.{Load as LoadFigures}
 use Rattle.mercury.specs.declared.units.Frequency.{Frequency as FrequencyFigures}
 use Rattle.mercury.specs.declared.units.Rest.{Rest}
 use Rattle.mercury.specs.declared.reply.Decoded.{Decoded}
-use Rattle.mercury.specs.declared.reply.Decoded.TheVariants.{Tariffs, Load, Frequency, NotDecimal}
+use Rattle.mercury.specs.declared.reply.Decoded.TheVariants.{Tariffs, Load, Frequency}
+use Rattle.mercury.specs.declared.reply.DecodeError.TheVariants.{NotDecimal}
 
 -- ---- written
 
@@ -29,26 +29,26 @@ frequency_bytes f = packed_of 2 f.frequency.0 ++ rest_bytes f.rest
 
 -- ---- read: all figures, or none is handed over
 
-unfoldable pub tariffs_by : Decimal → Decimal → Decimal → Decimal → Decoded
-tariffs_by decimal.NotDecimal b c d = NotDecimal
-tariffs_by (decimal.Number a) decimal.NotDecimal c d = NotDecimal
-tariffs_by (decimal.Number a) (decimal.Number b) decimal.NotDecimal d = NotDecimal
-tariffs_by (decimal.Number a) (decimal.Number b) (decimal.Number c) decimal.NotDecimal = NotDecimal
-tariffs_by (decimal.Number a) (decimal.Number b) (decimal.Number c) (decimal.Number d) =
-    Tariffs (record { first = record { 0 = a }; second = record { 0 = b }; third = record { 0 = c }; fourth = record { 0 = d } })
+unfoldable pub tariffs_by : Option ℕ → Option ℕ → Option ℕ → Option ℕ → Result Decoded DecodeError
+tariffs_by None b c d = Err NotDecimal
+tariffs_by (Some a) None c d = Err NotDecimal
+tariffs_by (Some a) (Some b) None d = Err NotDecimal
+tariffs_by (Some a) (Some b) (Some c) None = Err NotDecimal
+tariffs_by (Some a) (Some b) (Some c) (Some d) =
+    Ok (Tariffs (record { first = record { 0 = a }; second = record { 0 = b }; third = record { 0 = c }; fourth = record { 0 = d } }))
 
-unfoldable pub tariffs_of : List ℕ → Decoded
+unfoldable pub tariffs_of : List ℕ → Result Decoded DecodeError
 unfolding tariffs_by
 tariffs_of bs = tariffs_by (decimal_at bs 0 4) (decimal_at bs 4 4) (decimal_at bs 8 4) (decimal_at bs 12 4)
 
-unfoldable pub load_by : Decimal → Decimal → Decimal → Decoded
-load_by decimal.NotDecimal i p = NotDecimal
-load_by (decimal.Number v) decimal.NotDecimal p = NotDecimal
-load_by (decimal.Number v) (decimal.Number i) decimal.NotDecimal = NotDecimal
-load_by (decimal.Number v) (decimal.Number i) (decimal.Number p) =
-    Load (record { voltage = record { 0 = v }; current = record { 0 = i }; power = record { 0 = p } })
+unfoldable pub load_by : Option ℕ → Option ℕ → Option ℕ → Result Decoded DecodeError
+load_by None i p = Err NotDecimal
+load_by (Some v) None p = Err NotDecimal
+load_by (Some v) (Some i) None = Err NotDecimal
+load_by (Some v) (Some i) (Some p) =
+    Ok (Load (record { voltage = record { 0 = v }; current = record { 0 = i }; power = record { 0 = p } }))
 
-unfoldable pub load_of : List ℕ → Decoded
+unfoldable pub load_of : List ℕ → Result Decoded DecodeError
 unfolding load_by
 load_of bs = load_by (decimal_at bs 0 2) (decimal_at bs 2 2) (decimal_at bs 4 3)
 
@@ -64,10 +64,10 @@ rest_of bs = record {
   6 = byte_at bs 8;
 }
 
-unfoldable pub frequency_by : Decimal → Rest → Decoded
-frequency_by decimal.NotDecimal rest = NotDecimal
-frequency_by (decimal.Number f) rest = Frequency (record { frequency = record { 0 = f }; rest = rest })
+unfoldable pub frequency_by : Option ℕ → Rest → Result Decoded DecodeError
+frequency_by None rest = Err NotDecimal
+frequency_by (Some f) rest = Ok (Frequency (record { frequency = record { 0 = f }; rest = rest }))
 
-unfoldable pub frequency_of : List ℕ → Decoded
+unfoldable pub frequency_of : List ℕ → Result Decoded DecodeError
 unfolding frequency_by
 frequency_of bs = frequency_by (decimal_at bs 0 2) (rest_of bs)

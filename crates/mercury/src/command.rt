@@ -8,6 +8,7 @@ pub enum Command {
     // Voltage, current and power.
     Load,
     Frequency,
+    // Any other code: no failure, but a command whose reply has no figures.
     Unknown,
 }
 
@@ -20,47 +21,49 @@ pub const FREQUENCY: u8 = 0x81;
 // Stands for the commands that are not known.
 const UNKNOWN: u8 = 0;
 
-pub fn command_of(code: u8) -> Command
-    ensures { result ≡ command_of code }
-{
-    match code {
-        TARIFFS => Command::Tariffs,
-        LOAD => Command::Load,
-        FREQUENCY => Command::Frequency,
-        _ => Command::Unknown,
+impl From<u8> for Command {
+    ghost from_gives = { λ code gives. gives ≡ command_of code };
+
+    #[tactic(auto, unfolding(crate::specs::Command::command_of))]
+    fn from(code: u8) -> Command {
+        match code {
+            TARIFFS => Command::Tariffs,
+            LOAD => Command::Load,
+            FREQUENCY => Command::Frequency,
+            _ => Command::Unknown,
+        }
     }
 }
 
-pub fn code_of(c: Command) -> u8
-    ensures { result ≡ code_of c }
-{
-    match c {
-        Command::Tariffs => TARIFFS,
-        Command::Load => LOAD,
-        Command::Frequency => FREQUENCY,
-        Command::Unknown => UNKNOWN,
+impl From<Command> for u8 {
+    ghost from_gives = { λ c gives. gives ≡ code_of c };
+
+    fn from(c: Command) -> u8 {
+        match c {
+            Command::Tariffs => TARIFFS,
+            Command::Load => LOAD,
+            Command::Frequency => FREQUENCY,
+            Command::Unknown => UNKNOWN,
+        }
     }
 }
 
-pub fn is_known(c: Command) -> bool
-    ensures { result ≡ is_known c }
-{
-    match c {
-        Command::Tariffs => true,
-        Command::Load => true,
-        Command::Frequency => true,
-        Command::Unknown => false,
+impl Command {
+    pub fn is_known(self) -> bool
+        ensures { result ≡ is_known self }
+    {
+        !matches!(self, Command::Unknown)
     }
-}
 
-// How many data bytes the reply has.
-pub fn data_bytes(c: Command) -> usize
-    ensures { result ≡ data_size c }
-{
-    match c {
-        Command::Tariffs => 16,
-        Command::Load => 7,
-        Command::Frequency => 9,
-        Command::Unknown => 0,
+    // How many data bytes the reply has.
+    pub fn data_bytes(self) -> usize
+        ensures { result ≡ data_size self }
+    {
+        match self {
+            Command::Tariffs => 16,
+            Command::Load => 7,
+            Command::Frequency => 9,
+            Command::Unknown => 0,
+        }
     }
 }

@@ -2,11 +2,12 @@
 ghost use Rattle.std.specs.Prelude.{◌≡◌};
 ghost use Rattle.mercury.specs.Form.{form_of, request_form, reply_form, repeats};
 
+use crate::command::Command;
 use crate::head::address_in;
-use crate::{command, layout};
+use crate::layout;
 
 // What is wrong with a frame, in the order in which it is looked for.
-#[derive(Clone, Copy)]
+#[derive(Clone, Copy, PartialEq, Eq)]
 pub enum Fault {
     Length,
     Crc,
@@ -14,44 +15,41 @@ pub enum Fault {
     Command,
 }
 
-#[derive(Clone, Copy)]
-pub enum Form {
-    WellFormed,
-    Faulty(Fault),
-}
-
 // The form of a frame of `size` bytes for `address`, whose command is right or not.
-fn form_of(address: u32, size: usize, right: bool, frame: &[u8]) -> Form
+#[tactic(auto, unfolding(crate::specs::Form::form_of))]
+fn form_of(address: u32, size: usize, right: bool, frame: &[u8]) -> Result<(), Fault>
     ensures { result ≡ form_of address size right frame.now }
 {
     if frame.len() != size {
-        return Form::Faulty(Fault::Length);
+        return Err(Fault::Length);
     }
-    if frame::crc_fits(frame) {
-        if address_in(frame) != address {
-            return Form::Faulty(Fault::Address);
-        }
-        if right {
-            return Form::WellFormed;
-        }
-        return Form::Faulty(Fault::Command);
+    if !frame::crc_fits(frame) {
+        return Err(Fault::Crc);
     }
-    Form::Faulty(Fault::Crc)
+    if address_in(frame) != address {
+        return Err(Fault::Address);
+    }
+    if !right {
+        return Err(Fault::Command);
+    }
+    Ok(())
 }
 
 // Of a request to the meter with this address: any of the three commands is right.
-pub fn request_form(address: u32, request: &[u8]) -> Form
+#[tactic(auto, unfolding(crate::specs::Form::request_form))]
+pub fn request_form(address: u32, request: &[u8]) -> Result<(), Fault>
     ensures { result ≡ request_form address request.now }
 {
-    let c = command::command_of(byte_numbers::byte_at(request, layout::COMMAND));
-    form_of(address, layout::BARE_BYTES, command::is_known(c), request)
+    let c = Command::from(byte_numbers::byte_at(request, layout::COMMAND));
+    form_of(address, layout::BARE_BYTES, c.is_known(), request)
 }
 
 // Of a reply to the request with this address and command.
-pub fn reply_form(address: u32, code: u8, reply: &[u8]) -> Form
+#[tactic(auto, unfolding(crate::specs::Form::reply_form))]
+pub fn reply_form(address: u32, code: u8, reply: &[u8]) -> Result<(), Fault>
     ensures { result ≡ reply_form address code reply.now }
 {
-    let size = layout::BARE_BYTES + command::data_bytes(command::command_of(code));
+    let size = layout::BARE_BYTES + Command::from(code).data_bytes();
     form_of(address, size, repeats(code, reply), reply)
 }
 
@@ -59,8 +57,5 @@ pub fn reply_form(address: u32, code: u8, reply: &[u8]) -> Form
 fn repeats(code: u8, reply: &[u8]) -> bool
     ensures { result ≡ repeats code reply.now }
 {
-    if command::is_known(command::command_of(code)) {
-        return byte_numbers::byte_at(reply, layout::COMMAND) == code;
-    }
-    false
+    Command::from(code).is_known() && byte_numbers::byte_at(reply, layout::COMMAND) == code
 }

@@ -15,8 +15,8 @@ pub mod units;
 
 pub use command::Command;
 pub use data::{put_frequency, put_load, put_tariffs};
-pub use form::{Fault, Form, request_form};
+pub use form::{Fault, request_form};
 pub use head::put_head;
-pub use reply::{Decoded, decode};
-pub use request::{RequestAnswer, put_request};
+pub use reply::{DecodeError, Decoded, decode};
+pub use request::{RequestError, put_request};
 pub use units::{Frequency, Load, Tariffs};

@@ -1,55 +1,57 @@
 // Replies decoded against their request.
 ghost use Rattle.std.specs.Prelude.{◌≡◌};
-ghost use Rattle.mercury.specs.Reply.{figures_of, decoded_of, number_of};
+ghost use Rattle.mercury.specs.Reply.{figures_of, decoded_of, error_number};
 
 use crate::command::Command;
-use crate::form::{Fault, Form, reply_form};
+use crate::data;
+use crate::form::{Fault, reply_form};
 use crate::layout::DATA;
 use crate::units::{Frequency, Load, Tariffs};
-use crate::{command, data};
+use refusal::Numbered;
 
 #[derive(Clone, Copy)]
 pub enum Decoded {
     Tariffs(Tariffs),
     Load(Load),
     Frequency(Frequency),
+}
+
+#[derive(Clone, Copy, PartialEq, Eq)]
+pub enum DecodeError {
     Malformed(Fault),
     // A half-byte of a figure is above 9.
     NotDecimal,
 }
 
-impl Decoded {
+impl Numbered for DecodeError {
     // The papers' number.
-    pub fn number(self) -> u8
-        ensures { result ≡ number_of self }
-    {
+    ghost number_of = { error_number };
+
+    fn number(&self) -> u8 {
         match self {
-            Decoded::Tariffs(_) => refusal::DONE,
-            Decoded::Load(_) => refusal::DONE,
-            Decoded::Frequency(_) => refusal::DONE,
-            Decoded::Malformed(_) => refusal::MERCURY_FORM,
-            Decoded::NotDecimal => refusal::MERCURY_DIGIT,
+            DecodeError::Malformed(_) => refusal::MERCURY_FORM,
+            DecodeError::NotDecimal => refusal::MERCURY_DIGIT,
         }
     }
 }
 
 // A reply to the request with this address and command.
-pub fn decode(address: u32, code: u8, reply: &[u8]) -> Decoded
+#[tactic(auto, unfolding(crate::specs::Reply::decoded_of, crate::specs::Reply::formed))]
+pub fn decode(address: u32, code: u8, reply: &[u8]) -> Result<Decoded, DecodeError>
     ensures { result ≡ decoded_of address code reply.now }
 {
-    match reply_form(address, code, reply) {
-        Form::WellFormed => figures_of(command::command_of(code), byte_numbers::tail(reply, DATA)),
-        Form::Faulty(fault) => Decoded::Malformed(fault),
-    }
+    reply_form(address, code, reply).map_err(DecodeError::Malformed)?;
+    figures_of(Command::from(code), byte_numbers::tail(reply, DATA))
 }
 
-fn figures_of(c: Command, bytes: &[u8]) -> Decoded
+#[tactic(auto, unfolding(crate::specs::Reply::figures_of))]
+fn figures_of(c: Command, bytes: &[u8]) -> Result<Decoded, DecodeError>
     ensures { result ≡ figures_of c bytes.now }
 {
     match c {
         Command::Tariffs => data::tariffs_of(bytes),
         Command::Load => data::load_of(bytes),
         Command::Frequency => data::frequency_of(bytes),
-        Command::Unknown => Decoded::Malformed(Fault::Command),
+        Command::Unknown => Err(DecodeError::Malformed(Fault::Command)),
     }
 }

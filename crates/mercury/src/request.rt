@@ -1,44 +1,43 @@
 // Requests.
 ghost use Rattle.std.specs.Prelude.{◌≡◌};
 ghost use Rattle.refusal.specs.Outcome.{outcome};
-ghost use Rattle.mercury.specs.Request.{requested, number_of};
+ghost use Rattle.mercury.specs.Request.{requested, error_number};
 
-use crate::command;
+use crate::command::Command;
 use crate::head::put_head;
 use crate::layout::{BARE_BYTES, DATA};
+use refusal::Numbered;
 
-#[derive(Clone, Copy)]
-pub enum RequestAnswer {
-    Done,
+#[derive(Clone, Copy, PartialEq, Eq)]
+pub enum RequestError {
     TooShort,
     UnknownCommand,
 }
 
-impl RequestAnswer {
+impl Numbered for RequestError {
     // The papers' number.
-    pub fn number(self) -> u8
-        ensures { result ≡ number_of self }
-    {
+    ghost number_of = { error_number };
+
+    fn number(&self) -> u8 {
         match self {
-            RequestAnswer::Done => refusal::DONE,
-            RequestAnswer::TooShort => refusal::TOO_SHORT,
-            RequestAnswer::UnknownCommand => refusal::MERCURY_FORM,
+            RequestError::TooShort => refusal::TOO_SHORT,
+            RequestError::UnknownCommand => refusal::MERCURY_FORM,
         }
     }
 }
 
 // Puts a request's frame to the front of a lent output.
-pub fn put_request(address: u32, code: u8, out: &mut [u8]) -> RequestAnswer
+#[tactic(auto, unfolding(crate::specs::Request::requested, crate::specs::Request::request_frame))]
+pub fn put_request(address: u32, code: u8, out: &mut [u8]) -> Result<(), RequestError>
     ensures { outcome result out.new ≡ requested address code out.old }
 {
     if out.len() < BARE_BYTES {
-        return RequestAnswer::TooShort;
+        return Err(RequestError::TooShort);
     }
-    if command::is_known(command::command_of(code)) {
-        put_head(out, address, code);
-        frame::seal(out, DATA);
-        RequestAnswer::Done
-    } else {
-        RequestAnswer::UnknownCommand
+    if !Command::from(code).is_known() {
+        return Err(RequestError::UnknownCommand);
     }
+    put_head(out, address, code);
+    frame::seal(out, DATA);
+    Ok(())
 }

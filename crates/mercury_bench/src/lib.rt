@@ -5,4 +5,4 @@ mod meter;
 mod reply;
 
 pub use meter::{Meter, is_within};
-pub use reply::{Answered, answer};
+pub use reply::{AnswerError, answer};

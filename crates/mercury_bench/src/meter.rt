@@ -23,57 +23,32 @@ const MOST_POWER: u32 = 999_999;
 const MOST_FREQUENCY: u16 = 9_999;
 
 // Whether every figure has no more digits than a reply has for it.
+#[tactic(auto, unfolding(crate::specs::Meter::is_within))]
 pub fn is_within(m: Meter) -> bool
     ensures { result ≡ is_within m }
 {
-    let tariffs = m.tariffs;
-    let load = m.load;
-    let frequency = m.frequency;
-    if tariffs_fit(tariffs) {
-        if load_fits(load) {
-            return frequency_fits(frequency);
-        }
-    }
-    false
+    tariffs_fit(m.tariffs) && load_fits(m.load) && frequency_fits(m.frequency)
 }
 
+#[tactic(auto, unfolding(crate::specs::Meter::tariffs_fit))]
 fn tariffs_fit(t: Tariffs) -> bool
     ensures { result ≡ tariffs_fit t }
 {
-    let first = t.first;
-    let second = t.second;
-    let third = t.third;
-    let fourth = t.fourth;
-    if MOST_TARIFF < first.0 {
-        return false;
-    }
-    if MOST_TARIFF < second.0 {
-        return false;
-    }
-    if MOST_TARIFF < third.0 {
-        return false;
-    }
-    fourth.0 <= MOST_TARIFF
+    t.first.0 <= MOST_TARIFF
+        && t.second.0 <= MOST_TARIFF
+        && t.third.0 <= MOST_TARIFF
+        && t.fourth.0 <= MOST_TARIFF
 }
 
+#[tactic(auto, unfolding(crate::specs::Meter::load_fits))]
 fn load_fits(l: Load) -> bool
     ensures { result ≡ load_fits l }
 {
-    let voltage = l.voltage;
-    let current = l.current;
-    let power = l.power;
-    if MOST_VOLTAGE < voltage.0 {
-        return false;
-    }
-    if MOST_CURRENT < current.0 {
-        return false;
-    }
-    power.0 <= MOST_POWER
+    l.voltage.0 <= MOST_VOLTAGE && l.current.0 <= MOST_CURRENT && l.power.0 <= MOST_POWER
 }
 
 fn frequency_fits(f: Frequency) -> bool
     ensures { result ≡ frequency_fits f }
 {
-    let frequency = f.frequency;
-    frequency.0 <= MOST_FREQUENCY
+    f.frequency.0 <= MOST_FREQUENCY
 }

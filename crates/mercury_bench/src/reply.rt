@@ -5,16 +5,15 @@ ghost use Rattle.frame.specs.Layout.{longest};
 ghost use Rattle.refusal.specs.Outcome.{outcome};
 ghost use Rattle.mercury.specs.Layout.{data_place};
 ghost use Rattle.mercury.specs.Form.{request_form};
-ghost use Rattle.mercury_bench.specs.Reply.{data_of, reply_of, command_in, heard, answered, number_of};
+ghost use Rattle.mercury_bench.specs.Reply.{data_of, reply_of, command_in, heard, answered, error_number};
 
 use crate::meter::{Meter, is_within};
 use frame::layout::LONGEST;
-use mercury::{Command, Fault, Form, command, layout};
+use mercury::{Command, Fault, layout};
+use refusal::Numbered;
 
-#[derive(Clone, Copy)]
-pub enum Answered {
-    // The reply's bytes, at the front of the output.
-    Done(usize),
+#[derive(Clone, Copy, PartialEq, Eq)]
+pub enum AnswerError {
     TooShort,
     // A figure above its digits.
     OutOfRange,
@@ -22,45 +21,42 @@ pub enum Answered {
     Silent(Fault),
 }
 
-impl Answered {
+impl Numbered for AnswerError {
     // The papers' number.
-    pub fn number(self) -> u8
-        ensures { result ≡ number_of self }
-    {
+    ghost number_of = { error_number };
+
+    fn number(&self) -> u8 {
         match self {
-            Answered::Done(_) => refusal::DONE,
-            Answered::TooShort => refusal::TOO_SHORT,
-            Answered::OutOfRange => refusal::OUT_OF_RANGE,
-            Answered::Silent(_) => refusal::MERCURY_FORM,
+            AnswerError::TooShort => refusal::TOO_SHORT,
+            AnswerError::OutOfRange => refusal::OUT_OF_RANGE,
+            AnswerError::Silent(_) => refusal::MERCURY_FORM,
         }
     }
 }
 
 // The meter's answer: the reply goes to the front of `out`.
-pub fn answer(m: Meter, request: &[u8], out: &mut [u8]) -> Answered
+#[tactic(auto, unfolding(crate::specs::Reply::answered))]
+pub fn answer(m: Meter, request: &[u8], out: &mut [u8]) -> Result<usize, AnswerError>
     ensures { outcome result out.new ≡ answered m request.now out.old }
 {
     if out.len() < LONGEST {
-        return Answered::TooShort;
+        return Err(AnswerError::TooShort);
     }
-    if is_within(m) {
-        return heard(m, request, out);
+    if !is_within(m) {
+        return Err(AnswerError::OutOfRange);
     }
-    Answered::OutOfRange
+    heard(m, request, out)
 }
 
-fn heard(m: Meter, request: &[u8], out: &mut [u8]) -> Answered
+#[tactic(auto, unfolding(crate::specs::Reply::heard))]
+fn heard(m: Meter, request: &[u8], out: &mut [u8]) -> Result<usize, AnswerError>
     requires { longest ≤ length out.old }
     ensures { outcome result out.new
         ≡ heard (request_form m.address request.now) (command_in request.now) m out.old }
 {
-    match mercury::request_form(m.address, request) {
-        Form::WellFormed => {
-            let c = command::command_of(byte_numbers::byte_at(request, layout::COMMAND));
-            Answered::Done(replied(c, m, out))
-        }
-        Form::Faulty(fault) => Answered::Silent(fault),
-    }
+    mercury::request_form(m.address, request).map_err(AnswerError::Silent)?;
+    let c = Command::from(byte_numbers::byte_at(request, layout::COMMAND));
+    Ok(replied(c, m, out))
 }
 
 // Head, data and CRC, and how many bytes they are.
@@ -68,14 +64,15 @@ fn replied(c: Command, m: Meter, out: &mut [u8]) -> usize
     requires { longest ≤ length out.old }
     ensures { (result ≡ length (reply_of c m)) × (out.new ≡ written out.old 0 (reply_of c m)) }
 {
-    let size = command::data_bytes(c);
-    mercury::put_head(out, m.address, command::code_of(c));
+    let size = c.data_bytes();
+    mercury::put_head(out, m.address, u8::from(c));
     fill(out, c, m);
     frame::seal(out, layout::DATA + size);
     layout::BARE_BYTES + size
 }
 
 // The data part, lent on from its first byte to whoever fills it.
+#[tactic(auto, using(crate::proofs::ReplyLaws::part_filled))]
 fn fill(out: &mut [u8], c: Command, m: Meter)
     requires { longest ≤ length out.old }
     ensures { out.new ≡ written out.old data_place (data_of c m) }
@@ -83,16 +80,14 @@ fn fill(out: &mut [u8], c: Command, m: Meter)
     put_data(&mut out[layout::DATA..], c, m);
 }
 
+#[tactic(auto, unfolding(crate::specs::Reply::data_of, byte_numbers::specs::Place::written))]
 fn put_data(out: &mut [u8], c: Command, m: Meter)
     ensures { out.new ≡ written out.old 0 (data_of c m) }
 {
-    let tariffs = m.tariffs;
-    let load = m.load;
-    let frequency = m.frequency;
     match c {
-        Command::Tariffs => mercury::put_tariffs(out, tariffs),
-        Command::Load => mercury::put_load(out, load),
-        Command::Frequency => mercury::put_frequency(out, frequency),
+        Command::Tariffs => mercury::put_tariffs(out, m.tariffs),
+        Command::Load => mercury::put_load(out, m.load),
+        Command::Frequency => mercury::put_frequency(out, m.frequency),
         Command::Unknown => {}
     }
 }

@@ -1,4 +1,6 @@
 -- Every call keeps record and store a meter's: what a sound record and store become is sound.
+use Rattle.std.specs.Prelude.{Err, Ok, Result}
+use Rattle.meter_record.specs.declared.record.RecordError.{RecordError}
 use mathlib.Core.Path.{◌≡◌, refl, ap, ap₂, ◌∙◌}
 use mathlib.Core.Bool.{Bool, true, false, ◌&&◌}
 use mathlib.Core.List.{List}
@@ -20,8 +22,7 @@ use Rattle.meter_store.proofs.StoreLaws.{length-cleared, length-put, next-in-ran
 use Rattle.meter_record.proofs.RangeLaws.{Within, within, is_within_lem, remade-within}
 use Rattle.meter_record.specs.Ranges.{is_within}
 use Rattle.meter_record.specs.declared.record.Record.{Record}
-use Rattle.meter_record.specs.declared.record.RecordAnswer.{RecordAnswer}
-use Rattle.meter_record.specs.declared.record.RecordAnswer.TheVariants.{Done, OutOfRange, Unsound}
+use Rattle.meter_record.specs.declared.record.RecordError.TheVariants.{OutOfRange, Unsound}
 use Rattle.meter_command.specs.Access.{is_open, level_for}
 use Rattle.meter_command.proofs.JudgementLaws.{change-accepted, zero-accepted, allowed-open, main_open, open-runs}
 use Rattle.meter_command.specs.Judgement.{verdict_of, verdict_by}
@@ -97,10 +98,10 @@ answer-sound r s f out h = go (ltb (length out) 64) refl (heard r f) refl (is_do
     go false e true g true k = simp (e, h, g, k) (done-sound r s f h k)
 
 -- the record that a bench call hands back, and the store beside it
-abbrev pub hands_back : RecordAnswer → List ℕ → Bool
-hands_back (Done r) s = is_sound r s
-hands_back OutOfRange s = true
-hands_back Unsound s = true
+abbrev pub hands_back : Result Record RecordError → List ℕ → Bool
+hands_back (Ok r) s = is_sound r s
+hands_back (Err OutOfRange) s = true
+hands_back (Err Unsound) s = true
 
 -- a slice that is put leaves record and store sound, for the calls after it
 pub put-sound : (r : Record) (s : List ℕ) (k : Key) (row : List ℕ) → hands_back (slice_put r s k row).result (slice_put r s k row).left ≡ true

@@ -1,4 +1,6 @@
 -- What follows: how long a reply's data are, and that a reply's parts, written one behind the other and sealed, are its frame.
+use Rattle.std.specs.Prelude.{Result}
+use Rattle.meter_command.specs.declared.verdict.Refusal.{Refusal}
 use mathlib.Core.Path.{◌≡◌, refl, sym, ap, ap₂, ◌∙◌}
 use mathlib.Core.Bool.{Bool, true, false, cond}
 use mathlib.Core.List.{List, ◌++◌}
@@ -31,7 +33,6 @@ use Rattle.meter_record.specs.declared.record.Record.{Record}
 use Rattle.meter_command.specs.Command.{function_in, parameter_in, request_in, command_of}
 use Rattle.meter_command.specs.declared.command.Command.{Command}
 use Rattle.meter_command.specs.Verdict.{is_done}
-use Rattle.meter_command.specs.declared.verdict.Verdict.{Verdict}
 use Rattle.meter_reply_data.specs.Reading.{power_data, six_bytes, figures_of, displayed_of, figures_as, is_read, data_of, data_size}
 use Rattle.parameters.specs.declared.code.Parameter.TheVariants as parameter
 use Rattle.meter.specs.Reply.{outcome, is_sound, heard, verdict_on, head_of, filled, done, refused, replied, answer_of}
@@ -95,18 +96,18 @@ data-small f = go (is_read (function_in f)) refl
 -- ---- a reply's parts, one behind the other
 
 -- a reply's head is four bytes: address, function, parameter and result
-pub length-head : (v : Verdict) (c : Command) → length (head_of v c) ≡ 4
+pub length-head : (v : Result Unit Refusal) (c : Command) → length (head_of v c) ≡ 4
 unfolding head_of
 length-head v c = refl
 
 -- the head alone, sealed
-pub refused-whole : (v : Verdict) (c : Command) (out : List ℕ) → 64 ≤ length out
+pub refused-whole : (v : Result Unit Refusal) (c : Command) (out : List ℕ) → 64 ≤ length out
     → sealed (written out 0 (head_of v c)) 4 ≡ written out 0 (framed (head_of v c))
 refused-whole v c out h =
     ap (sealed (written out 0 (head_of v c))) (sym (length-head v c)) ∙ sealed-written out (head_of v c) (rw length-head (omega arith))
 
 -- the head and the data behind it, sealed
-pub filled-whole : (v : Verdict) (r : Record) (s f out : List ℕ) → 64 ≤ length out
+pub filled-whole : (v : Result Unit Refusal) (r : Record) (s f out : List ℕ) → 64 ≤ length out
     → filled v r s f (written out 0 (head_of v (command_of f))) ≡ done v r s f out
 filled-whole v r s f out h =
     let c = command_of f in
@@ -127,20 +128,20 @@ part_filled s x bs e =
     ap (λ (l : List ℕ). take 4 s ++ (l ++ drop (length s - 4) (drop 4 s))) e ∙ written-rest 4 s 0 bs
 
 -- which of the two a verdict that the judge gave leads to
-pub replied-done : (v w : Verdict) (r : Record) (s f out : List ℕ) → v ≡ w → is_done v ≡ true → done v r s f out ≡ replied w r s f out
+pub replied-done : (v w : Result Unit Refusal) (r : Record) (s f out : List ℕ) → v ≡ w → is_done v ≡ true → done v r s f out ≡ replied w r s f out
 unfolding replied
 replied-done v w r s f out e d =
     let q : is_done w ≡ true = ap is_done (sym e) ∙ d in
-    ap (λ (x : Verdict). done x r s f out) e ∙ sym (ap (λ (b : Bool). cond b (done w r s f out) (refused w r s f out)) q)
+    ap (λ (x : Result Unit Refusal). done x r s f out) e ∙ sym (ap (λ (b : Bool). cond b (done w r s f out) (refused w r s f out)) q)
 
 -- for `replied`: a verdict that refuses leads to the head alone, in six bytes, and leaves record and store
-pub replied-refused : (v w : Verdict) (r : Record) (s f out x : List ℕ) → v ≡ w → is_done v ≡ false → x ≡ written out 0 (framed (head_of v (command_of f)))
+pub replied-refused : (v w : Result Unit Refusal) (r : Record) (s f out x : List ℕ) → v ≡ w → is_done v ≡ false → x ≡ written out 0 (framed (head_of v (command_of f)))
     → outcome (record { verdict = v; length = 6; after = r }) s x ≡ replied w r s f out
 unfolding replied
 replied-refused v w r s f out x e d p =
     let q : is_done w ≡ false = ap is_done (sym e) ∙ d in
     ap (λ (y : List ℕ). outcome (record { verdict = v; length = 6; after = r }) s y) p
-    ∙ ap (λ (y : Verdict). refused y r s f out) e
+    ∙ ap (λ (y : Result Unit Refusal). refused y r s f out) e
     ∙ sym (ap (λ (b : Bool). cond b (done w r s f out) (refused w r s f out)) q)
 
 -- a reply has at most 54 bytes

@@ -12,23 +12,22 @@ use parameters::code::Function;
 fn renewed(r: Record) -> Record
     ensures { result ≡ renewed r }
 {
-    let protection = r.protection;
-    let level = protection.level;
     Record {
-        protection: meter_clock::opened(level),
+        protection: meter_clock::opened(r.protection.level),
         ..r
     }
 }
 
+#[tactic(auto, unfolding(crate::specs::Effect::after_of))]
 pub fn record_after(r: Record, c: Command, frame: &[u8]) -> Record
     ensures { result ≡ after_of r c frame.now }
 {
-    let function = c.function;
-    let row = c.row;
-    let bytes = byte_numbers::tail(frame, layout::DATA);
-    match function {
-        Function::Change => renewed(meter_command::changed(row.code, r, c.detail, bytes)),
-        Function::Zero => renewed(meter_command::zeroed(row.code, r)),
+    match c.function {
+        Function::Change => {
+            let bytes = byte_numbers::tail(frame, layout::DATA);
+            renewed(meter_command::changed(c.row.code, r, c.detail, bytes))
+        }
+        Function::Zero => renewed(meter_command::zeroed(c.row.code, r)),
         Function::Unlock => Record {
             protection: meter_clock::opened(meter_command::level_for(c.detail)),
             ..r
@@ -37,27 +36,19 @@ pub fn record_after(r: Record, c: Command, frame: &[u8]) -> Record
             protection: meter_clock::shut(),
             ..r
         },
-        Function::Read(_) => r,
-        Function::Unknown => r,
+        Function::Read(_) | Function::Unknown => r,
     }
 }
 
 // Whether a command zeroes the slices.
+#[tactic(auto, unfolding(crate::specs::Effect::clears))]
 fn clears(c: Command) -> bool
     ensures { result ≡ clears c }
 {
-    let function = c.function;
-    let row = c.row;
-    match function {
-        Function::Zero => row.code == code::SLICE,
-        Function::Read(_) => false,
-        Function::Change => false,
-        Function::Unlock => false,
-        Function::Lock => false,
-        Function::Unknown => false,
-    }
+    matches!(c.function, Function::Zero) && c.row.code == code::SLICE
 }
 
+#[tactic(auto, unfolding(crate::specs::Effect::store_after))]
 pub fn clear_store(store: &mut [u8], c: Command)
     ensures { store.new ≡ store_after store.old c }
 {

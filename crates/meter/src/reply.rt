@@ -2,7 +2,6 @@
 ghost use Rattle.std.specs.Prelude.{◌≡◌, ◌≤◌, ◌+◌, length};
 ghost use Rattle.byte_numbers.specs.Place.{written};
 ghost use Rattle.frame.specs.Layout.{data_place, longest};
-ghost use Rattle.frame.specs.Sealing.{sealed};
 ghost use Rattle.meter.specs.Reply.{outcome, is_sound, met_at, is_heard, function_for, head_of, replied, filled, answer_of};
 ghost use Rattle.meter_command.specs.Command.{command_of};
 ghost use Rattle.meter_command.specs.Judgement.{verdict_of};
@@ -10,75 +9,68 @@ ghost use Rattle.meter_reply_data.specs.Reading.{data_of};
 
 use crate::effect;
 use frame::layout;
-use meter_command::{Command, Met, Verdict};
+use meter_command::{Command, Met, Refusal};
 use meter_record::Record;
 use parameters::code;
 
 #[derive(Clone, Copy)]
 pub struct Answered {
-    pub verdict: Verdict,
+    pub verdict: Result<(), Refusal>,
     // The reply's bytes, at the front of the output; none where the meter is silent.
     pub length: usize,
     pub after: Record,
 }
 
 // Whether record and store are a meter's.
+#[tactic(auto, unfolding(crate::specs::Reply::is_sound))]
 pub fn is_sound(r: Record, store: &[u8]) -> bool
     ensures { result ≡ is_sound r store.now }
 {
-    if store.len() != meter_store::STORE_BYTES {
-        return false;
-    }
-    meter_record::is_within(r)
+    store.len() == meter_store::STORE_BYTES && meter_record::is_within(r)
 }
 
 // Which address bytes met that may be a frame for the meter with an address of its own: that one, 0, or neither.
 fn address_met(own: u8, frame: &[u8]) -> Met
     ensures { result ≡ met_at own frame.now }
 {
-    let address = byte_numbers::byte_at(frame, layout::ADDRESS);
-    if frame::is_sealed(frame) {
-        if address == 0 {
-            return Met::Zero;
-        }
-        if address == own {
-            return Met::Own;
-        }
+    if !frame::is_sealed(frame) {
         return Met::Neither;
     }
-    Met::Neither
+    let address = byte_numbers::byte_at(frame, layout::ADDRESS);
+    if address == 0 {
+        Met::Zero
+    } else if address == own {
+        Met::Own
+    } else {
+        Met::Neither
+    }
 }
 
 fn is_heard(met: Met) -> bool
     ensures { result ≡ is_heard met }
 {
-    match met {
-        Met::Own => true,
-        Met::Zero => true,
-        Met::Neither => false,
-    }
+    met != Met::Neither
 }
 
 // The command's function, with its top bit set where the command is refused.
-fn function_for(v: Verdict, function: u8) -> u8
+#[tactic(auto, unfolding(crate::specs::Reply::function_for))]
+fn function_for(v: Result<(), Refusal>, function: u8) -> u8
     ensures { result ≡ function_for v function }
 {
-    if meter_command::is_done(v) {
-        return function;
+    if meter_command::is_done(v) || code::REFUSED <= function {
+        function
+    } else {
+        code::REFUSED + function
     }
-    if code::REFUSED <= function {
-        return function;
-    }
-    code::REFUSED + function
 }
 
 // The four bytes before the data: the command's address, function and parameter, and the result.
-fn put_head(out: &mut [u8], v: Verdict, c: Command)
+#[tactic(auto, unfolding(crate::specs::Reply::head_of))]
+fn put_head(out: &mut [u8], v: Result<(), Refusal>, c: Command)
     ensures { out.new ≡ written out.old 0 (head_of v c) }
 {
-    let q = c.request;
     let head = [
-        q.address,
+        c.request.address,
         function_for(v, c.function_byte),
         c.parameter_byte,
         meter_command::result_of(v),
@@ -87,29 +79,23 @@ fn put_head(out: &mut [u8], v: Verdict, c: Command)
 }
 
 // The meter's answer: the reply goes to the front of `out`, and what the command changes in the store is changed.
+#[tactic(auto, unfolding(crate::specs::Reply::answer_of, crate::specs::Reply::heard, crate::specs::Reply::met))]
 pub fn answer(r: Record, store: &mut [u8], frame: &[u8], out: &mut [u8]) -> Answered
     ensures { outcome result store.new out.new ≡ answer_of r store.old frame.now out.old }
 {
-    if out.len() < layout::LONGEST {
-        return Answered {
-            verdict: Verdict::TooShort,
-            length: 0,
-            after: r,
-        };
-    }
-    if is_sound(r, store) {
+    let refusal = if out.len() < layout::LONGEST {
+        Refusal::TooShort
+    } else if !is_sound(r, store) {
+        Refusal::Unsound
+    } else {
         let met = address_met(r.address, frame);
         if is_heard(met) {
             return replied(met, r, store, frame, out);
         }
-        return Answered {
-            verdict: Verdict::Silent,
-            length: 0,
-            after: r,
-        };
-    }
+        Refusal::Silent
+    };
     Answered {
-        verdict: Verdict::Unsound,
+        verdict: Err(refusal),
         length: 0,
         after: r,
     }
@@ -144,7 +130,7 @@ fn fill(out: &mut [u8], r: Record, store: &[u8], c: Command)
 
 // The data behind the head, and what the command leaves.
 fn done(
-    v: Verdict,
+    v: Result<(), Refusal>,
     r: Record,
     store: &mut [u8],
     c: Command,

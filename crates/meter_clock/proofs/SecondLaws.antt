@@ -1,5 +1,8 @@
 -- What follows: the automatic date as the calendar answers it, which dates are switchable by the hours beside them, and that a second
 -- keeps the ranges.
+use Rattle.std.specs.Prelude.{Err, Ok, Result}
+use Rattle.std.specs.Result.{is_ok}
+use Rattle.calendar.specs.declared.time.TimeError.{TimeError}
 use mathlib.Core.Path.{◌≡◌, refl, ap₂}
 use mathlib.Core.Bool.{Bool, true, false, ◌&&◌}
 use Prim.Native.Nat.{ℕ, ◌+◌, ◌-◌, ◌≤◌, ◌<◌}
@@ -12,10 +15,9 @@ use Rattle.calendar.specs.Sunday.{last_sunday, last_sunday_of}
 use Rattle.calendar.specs.Time.{is_time, second_number, century_seconds, time_at, time_back, seconds_later, seconds_earlier}
 use Rattle.calendar.proofs.TimeLaws.{second_below, seconds-later, seconds-earlier}
 use Rattle.calendar.specs.declared.time.DateTime.{DateTime}
-use Rattle.calendar.specs.declared.time.TimeAnswer.{TimeAnswer}
-use Rattle.calendar.specs.declared.time.TimeAnswer.TheVariants as time
+use Rattle.calendar.specs.declared.time.TimeError.TheVariants as time
 use Rattle.meter_clock.specs.Protection.{is_running, is_protection, quiet_second}
-use Rattle.meter_clock.specs.Season.{day_of, is_at, is_switchable, is_choice, is_fitting, time_or, shows, switched, into_winter, into_summer, in_season, reached, next_time, same_time}
+use Rattle.meter_clock.specs.Season.{day_of, is_switchable, is_choice, is_fitting, time_or, shows, switched, into_winter, into_summer, in_season, reached, next_time, same_time}
 use Rattle.meter_clock.specs.declared.protection.Level.{Level}
 use Rattle.meter_clock.specs.declared.protection.Level.TheVariants.{Shut, Auxiliary, Main}
 use Rattle.meter_clock.specs.declared.protection.Protection.{Protection}
@@ -24,9 +26,9 @@ use Rattle.meter_clock.specs.declared.season.Season.TheVariants.{Winter, Summer}
 use Rattle.meter_clock.specs.declared.season.Time.{Time}
 
 -- the calendar's answer has the last Sunday's day; past 2099 there is none, and no day
-pub sunday-day : (y m : ℕ) → day_of (last_sunday_of y m) ≡ last_sunday y m
+pub sunday_day : (y m : ℕ) → day_of (last_sunday_of y m) ≡ last_sunday y m
 unfolding last_sunday_of last_sunday days_in_month
-sunday-day y m = go (ltb y 100) refl
+sunday_day y m = go (ltb y 100) refl
   where
     go : (b : Bool) → ltb y 100 ≡ b → day_of (last_sunday_of y m) ≡ last_sunday y m
     go true e = simp e
@@ -35,12 +37,12 @@ sunday-day y m = go (ltb y 100) refl
 -- ---- a date is switchable exactly where the calendar has the hour before it and the hour after it
 
 -- `is_switchable` asks the calendar for both hours: that is its definition
-pub hours-beside : (t : DateTime) → is_at (seconds_earlier t 3600) && is_at (seconds_later t 3600) ≡ is_switchable t
+pub hours-ok : (t : DateTime) → is_ok (seconds_earlier t 3600) && is_ok (seconds_later t 3600) ≡ is_switchable t
 unfolding is_switchable seconds_earlier seconds_later time_back time_at
-hours-beside t = go (is_time t) refl (leb 3600 (second_number t)) refl (ltb (second_number t + 3600) century_seconds) refl
+hours-ok t = go (is_time t) refl (leb 3600 (second_number t)) refl (ltb (second_number t + 3600) century_seconds) refl
   where
     go : (a : Bool) → is_time t ≡ a → (b : Bool) → leb 3600 (second_number t) ≡ b → (c : Bool) → ltb (second_number t + 3600) century_seconds ≡ c
-        → is_at (seconds_earlier t 3600) && is_at (seconds_later t 3600) ≡ is_switchable t
+        → is_ok (seconds_earlier t 3600) && is_ok (seconds_later t 3600) ≡ is_switchable t
     go false e b f c g = simp (e, f, g)
     go true e false f c g = simp (e, f, g)
     go true e true f c g =
@@ -48,17 +50,17 @@ hours-beside t = go (is_time t) refl (leb 3600 (second_number t)) refl (ltb (sec
         go-more c g below
       where
         go-more : (c : Bool) → ltb (second_number t + 3600) century_seconds ≡ c → ltb (second_number t - 3600) century_seconds ≡ true
-            → is_at (seconds_earlier t 3600) && is_at (seconds_later t 3600) ≡ is_switchable t
+            → is_ok (seconds_earlier t 3600) && is_ok (seconds_later t 3600) ≡ is_switchable t
         go-more true g h = simp (e, f, g, h)
         go-more false g h = simp (e, f, g, h)
 
 -- ---- a second keeps the ranges
 
 -- the time that the calendar answered, or the one that it was asked about
-answer-is-time : (u : DateTime) (a : TimeAnswer) → ((v : DateTime) → a ≡ time.At v → is_time v ≡ true) → is_time u ≡ true → is_time (time_or a u) ≡ true
-answer-is-time u (time.At v) f h = f v refl
-answer-is-time u time.NotATime f h = h
-answer-is-time u time.OutOfRange f h = h
+answer-is-time : (u : DateTime) (a : Result DateTime TimeError) → ((v : DateTime) → a ≡ Ok v → is_time v ≡ true) → is_time u ≡ true → is_time (time_or a u) ≡ true
+answer-is-time u (Ok v) f h = f v refl
+answer-is-time u (Err time.NotATime) f h = h
+answer-is-time u (Err time.OutOfRange) f h = h
 
 -- what fits, part by part
 pub record Fitting (t : Time) : Type 0 where
@@ -99,10 +101,10 @@ pub next_fits : (t : Time) → is_fitting t ≡ true → is_fitting (next_time t
 unfolding next_time reached
 next_fits t h = go (seconds_later t.clock 1) refl
   where
-    go : (a : TimeAnswer) → seconds_later t.clock 1 ≡ a → is_fitting (next_time t) ≡ true
-    go (time.At u) e = simp e (reached-fits t.season t u h (seconds-later t.clock 1 u e).valid)
-    go time.NotATime e = simp e h
-    go time.OutOfRange e = simp e h
+    go : (a : Result DateTime TimeError) → seconds_later t.clock 1 ≡ a → is_fitting (next_time t) ≡ true
+    go (Ok u) e = simp e (reached-fits t.season t u h (seconds-later t.clock 1 u e).valid)
+    go (Err time.NotATime) e = simp e h
+    go (Err time.OutOfRange) e = simp e h
 
 -- a second fewer of those that run, but the last
 fewer : {n : ℕ} → 1 < n → is_running n ≡ true → is_running (n - 1) ≡ true

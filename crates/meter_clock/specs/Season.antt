@@ -1,13 +1,13 @@
 -- The clock and its seasons. Source: document 01, "Clock" and "Seasons".
-use Rattle.std.specs.Prelude.{Bool, true, false, cond, ◌&&◌, ℕ, ◌+◌, eqb, leb, ltb}
+use Rattle.calendar.specs.declared.date.DateError.{DateError}
+use Rattle.calendar.specs.declared.time.TimeError.{TimeError}
+use Rattle.std.specs.Prelude.{Bool, true, cond, ◌&&◌, ℕ, ◌+◌, eqb, leb, ltb, Err, Ok, Result}
 use Rattle.calendar.specs.Sunday.{last_sunday}
 use Rattle.calendar.specs.Time.{is_time, second_number, century_seconds, seconds_later, seconds_earlier}
 use Rattle.calendar.specs.declared.date.Date.{Date}
-use Rattle.calendar.specs.declared.date.DateAnswer.{DateAnswer}
-use Rattle.calendar.specs.declared.date.DateAnswer.TheVariants as date
+use Rattle.calendar.specs.declared.date.DateError.TheVariants as date
 use Rattle.calendar.specs.declared.time.DateTime.{DateTime}
-use Rattle.calendar.specs.declared.time.TimeAnswer.{TimeAnswer}
-use Rattle.calendar.specs.declared.time.TimeAnswer.TheVariants as time
+use Rattle.calendar.specs.declared.time.TimeError.TheVariants as time
 use Rattle.meter_clock.specs.declared.season.Season.{Season}
 use Rattle.meter_clock.specs.declared.season.Season.TheVariants.{Winter, Summer}
 use Rattle.meter_clock.specs.declared.season.SwitchDate.{SwitchDate}
@@ -15,10 +15,10 @@ use Rattle.meter_clock.specs.declared.season.SwitchDate.TheVariants.{Automatic, 
 use Rattle.meter_clock.specs.declared.season.Time.{Time}
 
 -- the day of the month that the calendar answered
-abbrev pub day_of : DateAnswer → ℕ
-day_of (date.On d) = d.day
-day_of date.NotADate = 0
-day_of date.OutOfRange = 0
+abbrev pub day_of : Result Date DateError → ℕ
+day_of (Ok d) = d.day
+day_of (Err date.NotADate) = 0
+day_of (Err date.OutOfRange) = 0
 
 -- a date at a full hour
 abbrev pub on_hour : Date → ℕ → DateTime
@@ -40,12 +40,6 @@ summer_date c y = chosen_date c (on_hour (sunday y 3) 2)
 -- when winter begins: "03:00:00 on the last Sunday of October"
 abbrev pub winter_date : SwitchDate → ℕ → DateTime
 winter_date c y = chosen_date c (on_hour (sunday y 10) 3)
-
--- whether the calendar has a time that was asked for
-abbrev pub is_at : TimeAnswer → Bool
-is_at (time.At u) = true
-is_at time.NotATime = false
-is_at time.OutOfRange = false
 
 -- "A date in the first hour of 2000 or the last of 2099 is a wrong argument"
 unfoldable pub is_switchable : DateTime → Bool
@@ -69,10 +63,10 @@ same_time a b =
     eqb a.second b.second && eqb a.minute b.minute && eqb a.hour b.hour && same_date a.date b.date
 
 -- the time that the calendar answered, else t
-abbrev pub time_or : TimeAnswer → DateTime → DateTime
-time_or (time.At u) t = u
-time_or time.NotATime t = t
-time_or time.OutOfRange t = t
+abbrev pub time_or : Result DateTime TimeError → DateTime → DateTime
+time_or (Ok u) t = u
+time_or (Err time.NotATime) t = t
+time_or (Err time.OutOfRange) t = t
 
 -- the clock at u in a season
 abbrev pub shows : Time → DateTime → Season → Time
@@ -103,11 +97,11 @@ unfoldable pub reached : Time → DateTime → Time
 unfolding in_season
 reached t u = in_season t.season t u
 
-answered : TimeAnswer → Time → Time
+answered : Result DateTime TimeError → Time → Time
 unfolding reached
-answered (time.At u) t = reached t u
-answered time.NotATime t = t
-answered time.OutOfRange t = t
+answered (Ok u) t = reached t u
+answered (Err time.NotATime) t = t
+answered (Err time.OutOfRange) t = t
 
 -- one second: "After 2099-12-31 23:59:59 the clock stands still."
 unfoldable pub next_time : Time → Time

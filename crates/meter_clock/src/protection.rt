@@ -2,14 +2,14 @@
 ghost use Rattle.std.specs.Prelude.{◌≡◌};
 ghost use Rattle.meter_clock.specs.Protection.{shut, opened, is_running, is_protection, quiet_second};
 
-#[derive(Clone, Copy)]
+#[derive(Clone, Copy, PartialEq, Eq)]
 pub enum Level {
     Shut,
     Auxiliary,
     Main,
 }
 
-#[derive(Clone, Copy)]
+#[derive(Clone, Copy, PartialEq, Eq)]
 pub struct Protection {
     pub level: Level,
     // Seconds until protection returns; 0 while it is shut.
@@ -32,42 +32,41 @@ pub fn opened(level: Level) -> Protection
     ensures { result ≡ opened level }
 {
     Protection {
-        level: level,
+        level,
         left: QUIET_SECONDS,
     }
 }
 
 // Whether the level and the seconds left go together.
+#[tactic(auto, unfolding(crate::specs::Protection::is_protection))]
 pub fn is_protection(p: Protection) -> bool
     ensures { result ≡ is_protection p }
 {
-    let level = p.level;
-    match level {
+    match p.level {
         Level::Shut => p.left == 0,
-        Level::Auxiliary => is_running(p.left),
-        Level::Main => is_running(p.left),
+        Level::Auxiliary | Level::Main => is_running(p.left),
     }
 }
 
+#[tactic(auto, unfolding(crate::specs::Protection::is_running))]
 fn is_running(left: u8) -> bool
     ensures { result ≡ is_running left }
 {
-    if left < 1 {
-        return false;
-    }
-    left <= QUIET_SECONDS
+    1 <= left && left <= QUIET_SECONDS
 }
 
 // A second without an accepted change.
+#[tactic(auto, unfolding(crate::specs::Protection::quiet_second))]
 pub fn quiet_second(p: Protection) -> Protection
     ensures { result ≡ quiet_second p }
 {
     if p.left <= 1 {
-        return shut();
-    }
-    Protection {
-        left: p.left - 1,
-        ..p
+        shut()
+    } else {
+        Protection {
+            left: p.left - 1,
+            ..p
+        }
     }
 }
 

@@ -1,18 +1,18 @@
 // The clock and its seasons: when summer time begins and ends, and what the clock shows a second later.
 ghost use Rattle.std.specs.Prelude.{◌≡◌};
-ghost use Rattle.meter_clock.specs.Season.{day_of, on_hour, chosen_date, summer_date, winter_date, is_at, is_switchable, is_choice, is_fitting};
-ghost use Rattle.meter_clock.specs.Season.{same_date, same_time, time_or, reached, switched, into_winter, into_summer, next_time};
+ghost use Rattle.meter_clock.specs.Season.{day_of, on_hour, chosen_date, summer_date, winter_date, is_switchable, is_choice, is_fitting};
+ghost use Rattle.meter_clock.specs.Season.{reached, switched, into_winter, into_summer, next_time};
 
-use calendar::{Date, DateAnswer, DateTime, TimeAnswer};
+use calendar::{Date, DateError, DateTime};
 
-#[derive(Clone, Copy)]
+#[derive(Clone, Copy, PartialEq, Eq)]
 pub enum Season {
     Winter,
     Summer,
 }
 
 // The date on which a season begins.
-#[derive(Clone, Copy)]
+#[derive(Clone, Copy, PartialEq, Eq)]
 pub enum SwitchDate {
     // The calendar's, year by year.
     Automatic,
@@ -20,7 +20,7 @@ pub enum SwitchDate {
     ByHand(DateTime),
 }
 
-#[derive(Clone, Copy)]
+#[derive(Clone, Copy, PartialEq, Eq)]
 pub struct Time {
     pub clock: DateTime,
     pub season: Season,
@@ -37,36 +37,32 @@ const SUMMER_HOUR: u8 = 2;
 
 const WINTER_HOUR: u8 = 3;
 
-fn day_of(answer: DateAnswer) -> u8
+fn day_of(answer: Result<Date, DateError>) -> u8
     ensures { result ≡ day_of answer }
 {
-    match answer {
-        DateAnswer::On(d) => d.day,
-        DateAnswer::NotADate => 0,
-        DateAnswer::OutOfRange => 0,
-    }
+    answer.map_or(0, |d| d.day)
 }
 
+#[tactic(auto, using(crate::proofs::SecondLaws::sunday_day))]
 pub fn summer_date(choice: SwitchDate, year: u8) -> DateTime
     ensures { result ≡ summer_date choice year }
 {
-    let day = day_of(calendar::last_sunday_of_march(year));
     let sunday = Date {
-        year: year,
+        year,
         month: MARCH,
-        day: day,
+        day: day_of(calendar::last_sunday_of_march(year)),
     };
     chosen(choice, sunday, SUMMER_HOUR)
 }
 
+#[tactic(auto, using(crate::proofs::SecondLaws::sunday_day))]
 pub fn winter_date(choice: SwitchDate, year: u8) -> DateTime
     ensures { result ≡ winter_date choice year }
 {
-    let day = day_of(calendar::last_sunday_of_october(year));
     let sunday = Date {
-        year: year,
+        year,
         month: OCTOBER,
-        day: day,
+        day: day_of(calendar::last_sunday_of_october(year)),
     };
     chosen(choice, sunday, WINTER_HOUR)
 }
@@ -77,8 +73,8 @@ fn chosen(choice: SwitchDate, date: Date, hour: u8) -> DateTime
 {
     match choice {
         SwitchDate::Automatic => DateTime {
-            date: date,
-            hour: hour,
+            date,
+            hour,
             minute: 0,
             second: 0,
         },
@@ -90,20 +86,7 @@ fn chosen(choice: SwitchDate, date: Date, hour: u8) -> DateTime
 pub fn is_switchable(t: DateTime) -> bool
     ensures { result ≡ is_switchable t }
 {
-    if is_at(calendar::hour_earlier(t)) {
-        return is_at(calendar::hour_later(t));
-    }
-    false
-}
-
-fn is_at(answer: TimeAnswer) -> bool
-    ensures { result ≡ is_at answer }
-{
-    match answer {
-        TimeAnswer::At(_) => true,
-        TimeAnswer::NotATime => false,
-        TimeAnswer::OutOfRange => false,
-    }
+    calendar::hour_earlier(t).is_ok() && calendar::hour_later(t).is_ok()
 }
 
 fn is_choice(choice: SwitchDate) -> bool
@@ -115,116 +98,70 @@ fn is_choice(choice: SwitchDate) -> bool
     }
 }
 
+#[tactic(auto, unfolding(crate::specs::Season::is_fitting))]
 pub fn is_fitting(t: Time) -> bool
     ensures { result ≡ is_fitting t }
 {
-    let clock = t.clock;
-    let summer = t.summer;
-    let winter = t.winter;
-    if calendar::is_time(clock) {
-        if is_choice(summer) {
-            return is_choice(winter);
-        }
-    }
-    false
-}
-
-fn same_time(a: DateTime, b: DateTime) -> bool
-    ensures { result ≡ same_time a b }
-{
-    if a.second != b.second {
-        return false;
-    }
-    if a.minute != b.minute {
-        return false;
-    }
-    if a.hour != b.hour {
-        return false;
-    }
-    same_date(a.date, b.date)
-}
-
-fn same_date(a: Date, b: Date) -> bool
-    ensures { result ≡ same_date a b }
-{
-    if a.day != b.day {
-        return false;
-    }
-    if a.month != b.month {
-        return false;
-    }
-    a.year == b.year
-}
-
-fn time_or(answer: TimeAnswer, t: DateTime) -> DateTime
-    ensures { result ≡ time_or answer t }
-{
-    match answer {
-        TimeAnswer::At(u) => u,
-        TimeAnswer::NotATime => t,
-        TimeAnswer::OutOfRange => t,
-    }
+    calendar::is_time(t.clock) && is_choice(t.summer) && is_choice(t.winter)
 }
 
 // The clock and seasons one second later.
+#[tactic(auto, unfolding(crate::specs::Season::next_time))]
 pub fn next_time(t: Time) -> Time
     ensures { result ≡ next_time t }
 {
-    let clock = t.clock;
-    match calendar::next_second(clock) {
-        TimeAnswer::At(u) => reached(t, u),
-        TimeAnswer::NotATime => t,
-        TimeAnswer::OutOfRange => t,
+    match calendar::next_second(t.clock) {
+        Ok(u) => reached(t, u),
+        Err(_) => t,
     }
 }
 
 // A second that would reach u.
+#[tactic(auto, unfolding(crate::specs::Season::reached))]
 fn reached(t: Time, u: DateTime) -> Time
     ensures { result ≡ reached t u }
 {
-    let season = t.season;
-    match season {
+    match t.season {
         Season::Summer => into_winter(t, u),
         Season::Winter => into_summer(t, u),
     }
 }
 
+#[tactic(auto, unfolding(crate::specs::Season::into_winter))]
 fn into_winter(t: Time, u: DateTime) -> Time
     ensures { result ≡ into_winter t u }
 {
-    let winter = t.winter;
-    let date = u.date;
     switched(
         t,
         u,
-        winter_date(winter, date.year),
-        time_or(calendar::hour_earlier(u), u),
+        winter_date(t.winter, u.date.year),
+        calendar::hour_earlier(u).unwrap_or(u),
         Season::Winter,
     )
 }
 
+#[tactic(auto, unfolding(crate::specs::Season::into_summer))]
 fn into_summer(t: Time, u: DateTime) -> Time
     ensures { result ≡ into_summer t u }
 {
-    let summer = t.summer;
-    let date = u.date;
     switched(
         t,
         u,
-        summer_date(summer, date.year),
-        time_or(calendar::hour_later(u), u),
+        summer_date(t.summer, u.date.year),
+        calendar::hour_later(u).unwrap_or(u),
         Season::Summer,
     )
 }
 
 // The clock at u, or, if a season begins there, at the time that it begins with.
+#[tactic(auto, unfolding(crate::specs::Season::switched, crate::specs::Season::same_time, crate::specs::Season::same_date))]
 fn switched(t: Time, u: DateTime, begins: DateTime, shown: DateTime, season: Season) -> Time
     ensures { result ≡ switched t u begins shown season }
 {
-    if same_time(u, begins) {
+    if u == begins {
         Time {
             clock: shown,
-            season: season,
+            season,
             ..t
         }
     } else {

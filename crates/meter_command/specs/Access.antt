@@ -1,5 +1,6 @@
 -- Protection. Source: document 01, "Protection"; 002, sections 5.1 and 5.2, figures 21 and 22 (page 20); document 02, CR 6.
-use Rattle.std.specs.Prelude.{Bool, true, false, cond, List, ℕ, eqb, leb}
+use Rattle.meter_command.specs.declared.verdict.Refusal.{Refusal}
+use Rattle.std.specs.Prelude.{Bool, true, false, cond, List, ℕ, eqb, leb, Err, Ok, Result}
 use Rattle.byte_numbers.specs.Place.{number_at}
 use Rattle.parameters.specs.declared.code.Parameter.{Parameter}
 use Rattle.frame.specs.Layout.{data_place, bare_size, unlock_size}
@@ -12,8 +13,7 @@ use Rattle.meter_record.specs.declared.record.Passwords.{Passwords}
 use Rattle.meter_command.specs.declared.command.Command.{Command}
 use Rattle.meter_command.specs.declared.access.Met.{Met}
 use Rattle.meter_command.specs.declared.access.Met.TheVariants.{Own, Zero, Neither}
-use Rattle.meter_command.specs.declared.verdict.Verdict.{Verdict}
-use Rattle.meter_command.specs.declared.verdict.Verdict.TheVariants.{Done, WrongLength, NoAccess, WrongArgument}
+use Rattle.meter_command.specs.declared.verdict.Refusal.TheVariants.{WrongLength, NoAccess, WrongArgument}
 
 -- document 02, CR 6: "Changes, a new password too, and zeroing by 0 are refused": the access that they need includes the meter's own address
 abbrev pub by_own : Met → Bool
@@ -47,21 +47,21 @@ unfoldable pub level_for : ℕ → Level
 level_for named = cond (eqb named 1) Auxiliary Main
 
 -- function 31: 0, level, eight bytes of password (figure 21): 13, then 15 for a level that there is not, 14 and 15
-unfoldable pub unlock_verdict : Passwords → Command → List ℕ → Verdict
+unfoldable pub unlock_verdict : Passwords → Command → List ℕ → Result Unit Refusal
 unfolding password_for
 unlock_verdict p c f =
     cond (eqb c.length unlock_size)
     (cond (leb c.detail 1)
     (cond (eqb (number_at f data_place 8) (password_for p c.detail))
     (cond (eqb c.request.parameter 0)
-    Done
-    WrongArgument)
-    NoAccess)
-    WrongArgument)
-    WrongLength
+    (Ok tt)
+    (Err WrongArgument))
+    (Err NoAccess))
+    (Err WrongArgument))
+    (Err WrongLength)
 
 -- function 32: 0, 0 (figure 22)
-unfoldable pub lock_verdict : Command → Verdict
+unfoldable pub lock_verdict : Command → Result Unit Refusal
 lock_verdict c =
     cond (eqb c.length bare_size)
-    (cond (eqb c.request.parameter 0) (cond (eqb c.detail 0) Done WrongArgument) WrongArgument) WrongLength
+    (cond (eqb c.request.parameter 0) (cond (eqb c.detail 0) (Ok tt) (Err WrongArgument)) (Err WrongArgument)) (Err WrongLength)

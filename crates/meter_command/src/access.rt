@@ -3,17 +3,17 @@ ghost use Rattle.std.specs.Prelude.{◌≡◌};
 ghost use Rattle.meter_command.specs.Access.{by_own, is_main, is_open, allows, password_for, level_for, unlock_verdict, lock_verdict};
 
 use crate::command::Command;
-use crate::verdict::Verdict;
+use crate::verdict::Refusal;
 use frame::layout;
 use meter_clock::Level;
-use meter_record::{Password, Passwords};
+use meter_record::Passwords;
 use parameters::table::Access;
 
 // The levels as a command names them: main 0, auxiliary 1.
-const AUXILIARY: u8 = 1;
+pub const AUXILIARY: u8 = 1;
 
 // The address by which a frame met the meter: its own, 0, or neither.
-#[derive(Clone, Copy)]
+#[derive(Clone, Copy, PartialEq, Eq)]
 pub enum Met {
     Own,
     Zero,
@@ -24,31 +24,19 @@ pub enum Met {
 pub fn by_own(met: Met) -> bool
     ensures { result ≡ by_own met }
 {
-    match met {
-        Met::Own => true,
-        Met::Zero => false,
-        Met::Neither => false,
-    }
+    met == Met::Own
 }
 
 pub fn is_main(level: Level) -> bool
     ensures { result ≡ is_main level }
 {
-    match level {
-        Level::Shut => false,
-        Level::Auxiliary => false,
-        Level::Main => true,
-    }
+    level == Level::Main
 }
 
 fn is_open(level: Level) -> bool
     ensures { result ≡ is_open level }
 {
-    match level {
-        Level::Shut => false,
-        Level::Auxiliary => true,
-        Level::Main => true,
-    }
+    level != Level::Shut
 }
 
 // Whether a level opens a change that needs the access.
@@ -62,18 +50,18 @@ pub fn allows(access: Access, level: Level) -> bool
 }
 
 // The password of the level that a command names.
+#[tactic(auto, unfolding(crate::specs::Access::password_for))]
 fn password_for(p: Passwords, named: u8) -> u64
     ensures { result ≡ password_for p named }
 {
-    let main = p.main;
-    let auxiliary = p.auxiliary;
     if named == AUXILIARY {
-        auxiliary.0
+        p.auxiliary.0
     } else {
-        main.0
+        p.main.0
     }
 }
 
+#[tactic(auto, unfolding(crate::specs::Access::level_for))]
 pub fn level_for(named: u8) -> Level
     ensures { result ≡ level_for named }
 {
@@ -84,38 +72,34 @@ pub fn level_for(named: u8) -> Level
     }
 }
 
-pub fn unlock_verdict(p: Passwords, c: Command, frame: &[u8]) -> Verdict
+#[tactic(auto, unfolding(crate::specs::Access::unlock_verdict))]
+pub fn unlock_verdict(p: Passwords, c: Command, frame: &[u8]) -> Result<(), Refusal>
     ensures { result ≡ unlock_verdict p c frame.now }
 {
-    let q = c.request;
-    let right = password_for(p, c.detail);
     if c.length != layout::UNLOCK_BYTES {
-        return Verdict::WrongLength;
+        return Err(Refusal::WrongLength);
     }
     if AUXILIARY < c.detail {
-        return Verdict::WrongArgument;
+        return Err(Refusal::WrongArgument);
     }
-    if byte_numbers::u64_at(frame, layout::DATA) != right {
-        return Verdict::NoAccess;
+    if byte_numbers::u64_at(frame, layout::DATA) != password_for(p, c.detail) {
+        return Err(Refusal::NoAccess);
     }
-    if q.parameter != 0 {
-        return Verdict::WrongArgument;
+    if c.request.parameter != 0 {
+        return Err(Refusal::WrongArgument);
     }
-    Verdict::Done
+    Ok(())
 }
 
-pub fn lock_verdict(c: Command) -> Verdict
+#[tactic(auto, unfolding(crate::specs::Access::lock_verdict))]
+pub fn lock_verdict(c: Command) -> Result<(), Refusal>
     ensures { result ≡ lock_verdict c }
 {
-    let q = c.request;
     if c.length != layout::BARE_BYTES {
-        return Verdict::WrongLength;
+        return Err(Refusal::WrongLength);
     }
-    if q.parameter != 0 {
-        return Verdict::WrongArgument;
+    if c.request.parameter != 0 || c.detail != 0 {
+        return Err(Refusal::WrongArgument);
     }
-    if c.detail != 0 {
-        return Verdict::WrongArgument;
-    }
-    Verdict::Done
+    Ok(())
 }

@@ -4,8 +4,8 @@ ghost use Rattle.meter_command.specs.Command.{named, reading_of, function_in, pa
 
 use frame::layout;
 use parameters::code::{Function, Parameter, Reading};
+use parameters::table;
 use parameters::table::Row;
-use parameters::{code, table};
 use request::Request;
 
 #[derive(Clone, Copy)]
@@ -29,34 +29,28 @@ pub struct Command {
 pub fn function_in(frame: &[u8]) -> Function
     ensures { result ≡ function_in frame.now }
 {
-    code::function_of(byte_numbers::byte_at(frame, layout::FUNCTION))
+    Function::from(byte_numbers::byte_at(frame, layout::FUNCTION))
 }
 
 // Whether the function's commands name a parameter.
 fn is_named(function: Function) -> bool
     ensures { result ≡ named function }
 {
-    match function {
-        Function::Read(_) => true,
-        Function::Change => true,
-        Function::Zero => true,
-        Function::Unlock => false,
-        Function::Lock => false,
-        Function::Unknown => false,
-    }
+    matches!(
+        function,
+        Function::Read(_) | Function::Change | Function::Zero
+    )
 }
 
 fn parameter_by(function: Function, frame: &[u8]) -> u8
     ensures { result ≡ parameter_by function frame.now }
 {
-    // No more than address, function and CRC.
-    if frame.len() <= layout::SHORTEST {
-        return 0;
+    // The shortest frame has no more than address, function and CRC.
+    if layout::SHORTEST < frame.len() && is_named(function) {
+        byte_numbers::byte_at(frame, layout::PARAMETER)
+    } else {
+        0
     }
-    if is_named(function) {
-        return byte_numbers::byte_at(frame, layout::PARAMETER);
-    }
-    0
 }
 
 // What a read is answered with. Of another command it is not looked at.
@@ -65,11 +59,7 @@ fn reading_of(function: Function) -> Reading
 {
     match function {
         Function::Read(reading) => reading,
-        Function::Change => Reading::Stored,
-        Function::Zero => Reading::Stored,
-        Function::Unlock => Reading::Stored,
-        Function::Lock => Reading::Stored,
-        Function::Unknown => Reading::Stored,
+        _ => Reading::Stored,
     }
 }
 
@@ -87,17 +77,18 @@ fn request_by(function: Function, frame: &[u8]) -> Request
     }
 }
 
+#[tactic(auto, unfolding(crate::specs::Command::parameter_byte))]
 pub fn command_of(frame: &[u8]) -> Command
     ensures { result ≡ command_of frame.now }
 {
     let function = function_in(frame);
     let parameter_byte = parameter_by(function, frame);
-    let parameter = table::parameter_of(parameter_byte);
+    let parameter = Parameter::from(parameter_byte);
     Command {
-        function: function,
+        function,
         function_byte: byte_numbers::byte_at(frame, layout::FUNCTION),
-        parameter_byte: parameter_byte,
-        parameter: parameter,
+        parameter_byte,
+        parameter,
         row: table::parameter_row(parameter),
         request: request_by(function, frame),
         detail: byte_numbers::byte_at(frame, layout::DETAIL),

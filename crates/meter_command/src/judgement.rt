@@ -1,11 +1,11 @@
 // What becomes of a command, by the address that it met, the record and the frame alone.
-ghost use Rattle.std.specs.Prelude.{◌≡◌, Bool, ◌+◌, eqb};
+ghost use Rattle.std.specs.Prelude.{◌≡◌, ◌+◌, eqb};
 ghost use Rattle.frame.specs.Layout.{bare_size};
 ghost use Rattle.meter_command.specs.Judgement.{passed, checked, argument_fits, read_verdict, change_verdict, zero_verdict, verdict_of};
 
 use crate::access::Met;
 use crate::command::Command;
-use crate::verdict::Verdict;
+use crate::verdict::Refusal;
 use crate::{access, change};
 use frame::layout;
 use meter_record::Record;
@@ -15,6 +15,7 @@ use parameters::{code, table};
 use wire_values::Telemetry;
 
 // The papers' order: 11, 12, 13, and then 16, 14, 15.
+#[tactic(auto, unfolding(crate::specs::Judgement::checked))]
 fn checked(
     known: bool,
     opens: bool,
@@ -22,50 +23,49 @@ fn checked(
     own: bool,
     allowed: bool,
     fits: bool,
-) -> Verdict
+) -> Result<(), Refusal>
     ensures { result ≡ checked known opens length_fits own allowed fits }
 {
-    if known {
-        if opens {
-            if length_fits {
-                return passed(own, allowed, fits);
-            }
-            return Verdict::WrongLength;
-        }
-        return Verdict::NotOpen;
+    if !known {
+        return Err(Refusal::UnknownParameter);
     }
-    Verdict::UnknownParameter
+    if !opens {
+        return Err(Refusal::NotOpen);
+    }
+    if !length_fits {
+        return Err(Refusal::WrongLength);
+    }
+    passed(own, allowed, fits)
 }
 
-fn passed(own: bool, allowed: bool, fits: bool) -> Verdict
+#[tactic(auto, unfolding(crate::specs::Judgement::passed))]
+fn passed(own: bool, allowed: bool, fits: bool) -> Result<(), Refusal>
     ensures { result ≡ passed own allowed fits }
 {
-    if own {
-        if allowed {
-            if fits {
-                return Verdict::Done;
-            }
-            return Verdict::WrongArgument;
-        }
-        return Verdict::NoAccess;
+    if !own {
+        return Err(Refusal::ByAddressZero);
     }
-    Verdict::ByAddressZero
+    if !allowed {
+        return Err(Refusal::NoAccess);
+    }
+    if !fits {
+        return Err(Refusal::WrongArgument);
+    }
+    Ok(())
 }
 
-fn read_verdict(r: Record, c: Command) -> Verdict
+#[tactic(auto, unfolding(crate::specs::Judgement::read_verdict))]
+fn read_verdict(r: Record, c: Command) -> Result<(), Refusal>
     ensures { result ≡ read_verdict r c }
 {
     let row = c.row;
-    let fields = row.fields;
-    let q = c.request;
-    let reading = q.reading;
     checked(
         row.code != code::UNKNOWN,
-        table::opens_to(reading, row),
+        table::opens_to(c.request.reading, row),
         c.length == layout::READ_BYTES,
         true,
         true,
-        request::fields_fit(fields, q, slots::slots_of(r.minutes)),
+        request::fields_fit(row.fields, c.request, slots::slots_of(r.minutes)),
     )
 }
 
@@ -73,76 +73,63 @@ fn read_verdict(r: Record, c: Command) -> Verdict
 fn has_data(length: usize, size: usize) -> bool
     ensures { result ≡ eqb length (bare_size + size) }
 {
-    if length < layout::BARE_BYTES {
-        return false;
-    }
-    let rest = length - layout::BARE_BYTES;
-    if rest == size {
-        return true;
-    }
-    false
+    length.checked_sub(layout::BARE_BYTES) == Some(size)
 }
 
-fn change_verdict(met: Met, r: Record, c: Command, frame: &[u8]) -> Verdict
+#[tactic(auto, unfolding(crate::specs::Judgement::change_verdict))]
+fn change_verdict(met: Met, r: Record, c: Command, frame: &[u8]) -> Result<(), Refusal>
     ensures { result ≡ change_verdict met r c frame.now }
 {
     let row = c.row;
-    let access = row.access;
-    let protection = r.protection;
-    let level = protection.level;
-    let stored = r.telemetry;
     checked(
         row.code != code::UNKNOWN,
         row.changeable,
         has_data(c.length, row.change_bytes),
         access::by_own(met),
-        access::allows(access, level),
+        access::allows(row.access, r.protection.level),
         argument_fits(
             row,
             c.detail,
-            stored,
+            r.telemetry,
             byte_numbers::tail(frame, layout::DATA),
         ),
     )
 }
 
+#[tactic(auto, unfolding(crate::specs::Judgement::argument_fits))]
 fn argument_fits(row: Row, detail: u8, stored: Telemetry, bytes: &[u8]) -> bool
     ensures { result ≡ argument_fits row detail stored bytes.now }
 {
-    if change::detail_fits(row.detail_from, row.detail_to, detail) {
-        return change::data_fits(row.code, stored, bytes);
-    }
-    false
+    change::detail_fits(row.detail_from, row.detail_to, detail)
+        && change::data_fits(row.code, stored, bytes)
 }
 
-fn zero_verdict(met: Met, r: Record, c: Command) -> Verdict
+#[tactic(auto, unfolding(crate::specs::Judgement::zero_verdict))]
+fn zero_verdict(met: Met, r: Record, c: Command) -> Result<(), Refusal>
     ensures { result ≡ zero_verdict met r c }
 {
     let row = c.row;
-    let protection = r.protection;
-    let level = protection.level;
     checked(
         row.code != code::UNKNOWN,
         row.zeroable,
         c.length == layout::BARE_BYTES,
         access::by_own(met),
-        access::is_main(level),
+        access::is_main(r.protection.level),
         c.detail == 0,
     )
 }
 
 // A frame that met neither address is not heard and does not come here; what it would change is refused as by address 0.
-pub fn judge(met: Met, r: Record, c: Command, frame: &[u8]) -> Verdict
+#[tactic(auto, unfolding(crate::specs::Judgement::verdict_of))]
+pub fn judge(met: Met, r: Record, c: Command, frame: &[u8]) -> Result<(), Refusal>
     ensures { result ≡ verdict_of met r c frame.now }
 {
-    let passwords = r.passwords;
-    let function = c.function;
-    match function {
+    match c.function {
         Function::Read(_) => read_verdict(r, c),
         Function::Change => change_verdict(met, r, c, frame),
         Function::Zero => zero_verdict(met, r, c),
-        Function::Unlock => access::unlock_verdict(passwords, c, frame),
+        Function::Unlock => access::unlock_verdict(r.passwords, c, frame),
         Function::Lock => access::lock_verdict(c),
-        Function::Unknown => Verdict::UnknownFunction,
+        Function::Unknown => Err(Refusal::UnknownFunction),
     }
 }

@@ -8,11 +8,10 @@ mod access;
 mod change;
 mod command;
 mod judgement;
-mod remade;
 mod verdict;
 
 pub use access::{Met, level_for};
 pub use change::{changed, zeroed};
 pub use command::{Command, command_of, function_in};
 pub use judgement::judge;
-pub use verdict::{Verdict, is_done, result_of};
+pub use verdict::{Refusal, is_done, result_of};

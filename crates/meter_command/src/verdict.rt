@@ -1,12 +1,12 @@
 // What became of a frame.
 ghost use Rattle.std.specs.Prelude.{◌≡◌};
-ghost use Rattle.meter_command.specs.Verdict.{number_of, result_of, is_done};
+ghost use Rattle.meter_command.specs.Verdict.{error_number, result_of, is_done};
 
 use parameters::code;
+use refusal::Numbered;
 
-#[derive(Clone, Copy)]
-pub enum Verdict {
-    Done,
+#[derive(Clone, Copy, PartialEq, Eq)]
+pub enum Refusal {
     TooShort,
     Unsound,
     // No answer: not a frame, or not for this meter.
@@ -21,60 +21,41 @@ pub enum Verdict {
     WrongArgument,
 }
 
-impl Verdict {
+impl Numbered for Refusal {
     // Document 01's number.
-    pub fn number(self) -> u8
-        ensures { result ≡ number_of self }
-    {
+    ghost number_of = { error_number };
+
+    fn number(&self) -> u8 {
         match self {
-            Verdict::Done => refusal::DONE,
-            Verdict::TooShort => refusal::TOO_SHORT,
-            Verdict::Unsound => refusal::UNSOUND,
-            Verdict::Silent => refusal::SILENT,
-            Verdict::UnknownFunction => refusal::UNKNOWN_FUNCTION,
-            Verdict::UnknownParameter => refusal::UNKNOWN_PARAMETER,
-            Verdict::NotOpen => refusal::NOT_OPEN,
-            Verdict::WrongLength => refusal::WRONG_LENGTH,
-            Verdict::ByAddressZero => refusal::BY_ADDRESS_ZERO,
-            Verdict::NoAccess => refusal::NO_ACCESS,
-            Verdict::WrongArgument => refusal::WRONG_ARGUMENT,
+            Refusal::TooShort => refusal::TOO_SHORT,
+            Refusal::Unsound => refusal::UNSOUND,
+            Refusal::Silent => refusal::SILENT,
+            Refusal::UnknownFunction => refusal::UNKNOWN_FUNCTION,
+            Refusal::UnknownParameter => refusal::UNKNOWN_PARAMETER,
+            Refusal::NotOpen => refusal::NOT_OPEN,
+            Refusal::WrongLength => refusal::WRONG_LENGTH,
+            Refusal::ByAddressZero => refusal::BY_ADDRESS_ZERO,
+            Refusal::NoAccess => refusal::NO_ACCESS,
+            Refusal::WrongArgument => refusal::WRONG_ARGUMENT,
         }
     }
 }
 
-pub fn is_done(v: Verdict) -> bool
+pub fn is_done(v: Result<(), Refusal>) -> bool
     ensures { result ≡ is_done v }
 {
-    match v {
-        Verdict::Done => true,
-        Verdict::TooShort => false,
-        Verdict::Unsound => false,
-        Verdict::Silent => false,
-        Verdict::UnknownFunction => false,
-        Verdict::UnknownParameter => false,
-        Verdict::NotOpen => false,
-        Verdict::WrongLength => false,
-        Verdict::ByAddressZero => false,
-        Verdict::NoAccess => false,
-        Verdict::WrongArgument => false,
-    }
+    v.is_ok()
 }
 
 // The result byte of a reply. Silence has none.
-pub fn result_of(v: Verdict) -> u8
+pub fn result_of(v: Result<(), Refusal>) -> u8
     ensures { result ≡ result_of v }
 {
     match v {
-        Verdict::Done => code::OK,
-        Verdict::TooShort => code::WRONG_ARGUMENT,
-        Verdict::Unsound => code::WRONG_ARGUMENT,
-        Verdict::Silent => code::WRONG_ARGUMENT,
-        Verdict::UnknownFunction => code::UNKNOWN_FUNCTION,
-        Verdict::UnknownParameter => code::UNKNOWN_PARAMETER,
-        Verdict::NotOpen => code::WRONG_ARGUMENT,
-        Verdict::WrongLength => code::WRONG_ARGUMENT,
-        Verdict::ByAddressZero => code::NO_ACCESS,
-        Verdict::NoAccess => code::NO_ACCESS,
-        Verdict::WrongArgument => code::WRONG_ARGUMENT,
+        Ok(()) => code::OK,
+        Err(Refusal::UnknownFunction) => code::UNKNOWN_FUNCTION,
+        Err(Refusal::UnknownParameter) => code::UNKNOWN_PARAMETER,
+        Err(Refusal::ByAddressZero | Refusal::NoAccess) => code::NO_ACCESS,
+        Err(_) => code::WRONG_ARGUMENT,
     }
 }

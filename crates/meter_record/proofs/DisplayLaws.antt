@@ -10,19 +10,19 @@ use Rattle.meter_record.specs.Display.{is_bit, with_bit}
 -- ---- a bit that is there, and one that is not
 
 -- for `with_first`: an odd mask has bit 0 already
-pub first-there : (n : ℕ) → n % 2 ≡ 1 → n ≡ with_bit n 0
+pub first_there : (n : ℕ) → n % 2 ≡ 1 → n ≡ with_bit n 0
 unfolding with_bit is_bit
-first-there n h = let b : n / 2 ^ 0 % 2 ≡ 1 = omega arith in simp (eq-eqb _ _ b)
+first_there n h = let b : n / 2 ^ 0 % 2 ≡ 1 = omega arith in simp (eq-eqb _ _ b)
 
 -- for `with_first`: one more gives an even mask bit 0
-pub first-set : (n : ℕ) → (n % 2 ≡ 1 → ⊥) → n + 1 ≡ with_bit n 0
+pub first_set : (n : ℕ) → (n % 2 ≡ 1 → ⊥) → n + 1 ≡ with_bit n 0
 unfolding with_bit is_bit
-first-set n h = let b : n / 2 ^ 0 % 2 ≡ 1 → ⊥ = λ q. h (omega arith) in simp (ne_eqb _ _ b)
+first_set n h = let b : n / 2 ^ 0 % 2 ≡ 1 → ⊥ = λ q. h (omega arith) in simp (ne_eqb _ _ b)
 
 -- for `with_last`: a mask from 2 ^ 31 on has bit 31 already
-pub last-there : (n : ℕ) → 0x80000000 ≤ n → n < 2 ^ 32 → n ≡ with_bit n 31
+pub last_there : (n : ℕ) → 0x80000000 ≤ n → n < 2 ^ 32 → n ≡ with_bit n 31
 unfolding with_bit is_bit
-last-there n h l = let b : n / 2 ^ 31 % 2 ≡ 1 = omega arith in simp (eq-eqb _ _ b)
+last_there n h l = let b : n / 2 ^ 31 % 2 ≡ 1 = omega arith in simp (eq-eqb _ _ b)
 
 -- for `with_last`: 2 ^ 31 more gives a lower mask bit 31
 pub last_set : (n : ℕ) → n < 0x80000000 → n + 0x80000000 ≡ with_bit n 31

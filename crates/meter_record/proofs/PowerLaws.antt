@@ -1,5 +1,6 @@
 -- What the bench's bounds say of the powers. Source: document 01, "Powers": "The bench sets only finite figures from -1,000,000 to 1,000,000."
 -- So the total of three such powers is finite too, and the meter's reply is one that the reader takes.
+use Rattle.std.specs.Prelude.{Some}
 use mathlib.Core.Path.{◌≡◌, refl, sym, subst}
 use lib.Ieee.{binary32, of_bits, of_int, Float, nan, inf, fin, le}
 use lib.IntN.{pos, negsuc}
@@ -14,7 +15,6 @@ use Rattle.wire_values.specs.Power.{total_of, powers_of, powers_bytes, FitsPhase
 use Rattle.wire_values.proofs.PowerLaws.{FinitePhases, powers_of-bytes}
 use Rattle.wire_values.proofs.Within.{Within, within-finite, not-above, not-below, total-within}
 use Rattle.wire_values.specs.declared.power.Phases.{Phases}
-use Rattle.wire_values.specs.declared.power.PowersAnswer.TheVariants as powers
 use Rattle.meter_record.specs.Power.{most, least, in_bounds, are_powers}
 
 -- "to 1,000,000": the upper bound, given by its bits, is the float of that number
@@ -87,7 +87,7 @@ total-finite p e =
 
 -- the reader gets the powers that the bench set, bit for bit
 pub powers-read : (p : Phases) (rest : List ℕ) → FitsPhases p → are_powers p ≡ true
-    → powers_of (powers_bytes p ++ rest) ≡ powers.Finite (record { total = total_of p; phases = p })
+    → powers_of (powers_bytes p ++ rest) ≡ Some (record { total = total_of p; phases = p })
 powers-read p rest f e =
     let h = powers-bounds p e in
     let each : FinitePhases p = record { a = bounds-finite p.a h.a; b = bounds-finite p.b h.b; c = bounds-finite p.c h.c } in

@@ -1,4 +1,6 @@
 -- What a record within its ranges keeps to, part by part, and that the bench's own calls keep it so.
+use Rattle.std.specs.Prelude.{Err, Ok, Result}
+use Rattle.meter_record.specs.declared.record.RecordError.{RecordError}
 use mathlib.Core.Path.{◌≡◌, refl, ap₂}
 use mathlib.Core.Bool.{Bool, true, false, ◌&&◌}
 use Prim.Native.Nat.{ℕ}
@@ -24,8 +26,7 @@ use Rattle.meter_record.specs.Record.{later, second_of, made, fresh, with_powers
 use Rattle.meter_record.specs.With.{remade}
 use Rattle.meter_record.specs.declared.record.Passwords.{Passwords}
 use Rattle.meter_record.specs.declared.record.Record.{Record}
-use Rattle.meter_record.specs.declared.record.RecordAnswer.{RecordAnswer}
-use Rattle.meter_record.specs.declared.record.RecordAnswer.TheVariants.{Done, OutOfRange, Unsound}
+use Rattle.meter_record.specs.declared.record.RecordError.TheVariants.{OutOfRange, Unsound}
 
 -- every part of a record is in its range
 pub record Within (r : Record) : Type 0 where
@@ -99,10 +100,10 @@ later-within r h =
 -- ---- what a bench call that is done hands back is within its ranges
 
 -- whether a record that a bench call hands back is within its ranges; a refused call hands back none
-abbrev pub hands_back : RecordAnswer → Bool
-hands_back (Done r) = is_within r
-hands_back OutOfRange = true
-hands_back Unsound = true
+abbrev pub hands_back : Result Record RecordError → Bool
+hands_back (Ok r) = is_within r
+hands_back (Err OutOfRange) = true
+hands_back (Err Unsound) = true
 
 -- a meter that is made is within its ranges
 pub made-within : (address minutes : ℕ) (t : Telemetry) (c : DateTime) (s : Season) → hands_back (made address minutes t c s) ≡ true

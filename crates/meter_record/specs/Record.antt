@@ -1,5 +1,7 @@
 -- The bench's own calls on a record. Source: document 01, "The bench meter's record".
-use Rattle.std.specs.Prelude.{cond, ℕ, eqb}
+use Rattle.refusal.specs.Number.{answer_number}
+use Rattle.meter_record.specs.declared.record.RecordError.{RecordError}
+use Rattle.std.specs.Prelude.{cond, ℕ, eqb, Err, Ok, Result}
 use Rattle.std.specs.Float.{binary32}
 use Rattle.std.specs.Float.Ieee.{of_bits}
 use Rattle.calendar.specs.declared.time.DateTime.{DateTime}
@@ -14,8 +16,7 @@ use Rattle.meter_record.specs.Ranges.{is_within}
 use Rattle.meter_record.specs.Ratios.{are_ratios}
 use Rattle.meter_record.specs.declared.record.Ratios.{Ratios}
 use Rattle.meter_record.specs.declared.record.Record.{Record}
-use Rattle.meter_record.specs.declared.record.RecordAnswer.{RecordAnswer}
-use Rattle.meter_record.specs.declared.record.RecordAnswer.TheVariants.{Done, OutOfRange, Unsound}
+use Rattle.meter_record.specs.declared.record.RecordError.TheVariants.{OutOfRange, Unsound}
 
 -- no power
 abbrev pub no_powers : Phases
@@ -38,11 +39,11 @@ fresh address minutes telemetry clock season = record {
 }
 
 -- making a record: 27 for a "bench setting .. out of range"
-unfoldable pub made : ℕ → ℕ → Telemetry → DateTime → Season → RecordAnswer
+unfoldable pub made : ℕ → ℕ → Telemetry → DateTime → Season → Result Record RecordError
 unfolding fresh
 made address minutes telemetry clock season =
     let r = fresh address minutes telemetry clock season in
-    cond (is_within r) (Done r) OutOfRange
+    cond (is_within r) (Ok r) (Err OutOfRange)
 
 -- a second later: "Clock", "Seasons" and "Protection"
 unfoldable pub later : Record → Record
@@ -61,9 +62,9 @@ later r = record {
 }
 
 -- "One call is one second."
-unfoldable pub second_of : Record → RecordAnswer
+unfoldable pub second_of : Record → Result Record RecordError
 unfolding later
-second_of r = cond (is_within r) (Done (later r)) Unsound
+second_of r = cond (is_within r) (Ok (later r)) (Err Unsound)
 
 -- the record with other powers, active and reactive
 abbrev pub with_powers : Record → Phases → Phases → Record
@@ -82,13 +83,13 @@ with_powers r active reactive = record {
 }
 
 -- parameter 8 is the active power and 9 the reactive one; no other is a power
-unfoldable pub powers_set : Record → ℕ → Phases → RecordAnswer
+unfoldable pub powers_set : Record → ℕ → Phases → Result Record RecordError
 powers_set r n p =
-    cond (eqb n 8) (Done (with_powers r p r.reactive)) (cond (eqb n 9) (Done (with_powers r r.active p)) OutOfRange)
+    cond (eqb n 8) (Ok (with_powers r p r.reactive)) (cond (eqb n 9) (Ok (with_powers r r.active p)) (Err OutOfRange))
 
 -- setting powers: 28, then 27
-unfoldable pub set_powers : Record → ℕ → Phases → RecordAnswer
-set_powers r n p = cond (is_within r) (cond (are_powers p) (powers_set r n p) OutOfRange) Unsound
+unfoldable pub set_powers : Record → ℕ → Phases → Result Record RecordError
+set_powers r n p = cond (is_within r) (cond (are_powers p) (powers_set r n p) (Err OutOfRange)) (Err Unsound)
 
 -- the record with other ratios
 abbrev pub with_ratios : Record → Ratios → Record
@@ -107,11 +108,13 @@ with_ratios r k = record {
 }
 
 -- setting both ratios: 28, then 27
-unfoldable pub set_ratios : Record → Ratios → RecordAnswer
-set_ratios r k = cond (is_within r) (cond (are_ratios k) (Done (with_ratios r k)) OutOfRange) Unsound
+unfoldable pub set_ratios : Record → Ratios → Result Record RecordError
+set_ratios r k = cond (is_within r) (cond (are_ratios k) (Ok (with_ratios r k)) (Err OutOfRange)) (Err Unsound)
 
 -- document 01's numbers
-abbrev pub number_of : RecordAnswer → ℕ
-number_of (Done r) = 0
-number_of OutOfRange = 27
-number_of Unsound = 28
+abbrev pub error_number : RecordError → ℕ
+error_number OutOfRange = 27
+error_number Unsound = 28
+
+abbrev pub number_of : Result Record RecordError → ℕ
+number_of = answer_number error_number

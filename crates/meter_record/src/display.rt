@@ -8,6 +8,7 @@ use wire_values::DisplayMask;
 const LAST_PARAMETER: u32 = 0x8000_0000;
 
 // What is shown, as a mask: parameters 1 and 32 and direction E+ always are.
+#[tactic(auto, using(crate::proofs::DisplayLaws::first_byte), unfolding(crate::specs::Display::shown_of))]
 pub fn shown(m: DisplayMask) -> DisplayMask
     ensures { result ≡ shown_of m }
 {
@@ -18,12 +19,15 @@ pub fn shown(m: DisplayMask) -> DisplayMask
     }
 }
 
+// By a sum and not by `|`: the laws of a mask are those of its number.
+#[tactic(auto, using(crate::proofs::DisplayLaws::first_there, crate::proofs::DisplayLaws::first_set))]
 fn with_first(mask: u32) -> u32
     ensures { result ≡ with_bit mask 0 }
 {
     if mask % 2 == 1 { mask } else { mask + 1 }
 }
 
+#[tactic(auto, using(crate::proofs::DisplayLaws::last_there, crate::proofs::DisplayLaws::last_set))]
 fn with_last(mask: u32) -> u32
     ensures { result ≡ with_bit mask 31 }
 {

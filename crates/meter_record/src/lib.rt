@@ -18,4 +18,4 @@ pub use passing::pass_second;
 pub use power::set_powers;
 pub use ranges::{is_telemetry, is_within};
 pub use ratios::{are_ratios, set_ratios};
-pub use record::{Password, Passwords, Ratios, Record, RecordAnswer};
+pub use record::{Password, Passwords, Ratios, Record, RecordError};

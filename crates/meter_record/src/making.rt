@@ -3,7 +3,7 @@ ghost use Rattle.std.specs.Prelude.{◌≡◌};
 ghost use Rattle.meter_record.specs.Record.{fresh, made};
 
 use crate::ranges::is_within;
-use crate::record::{Password, Passwords, Ratios, Record, RecordAnswer};
+use crate::record::{Password, Passwords, Ratios, Record, RecordError};
 use calendar::DateTime;
 use meter_clock::{Season, SwitchDate, Time};
 use wire_values::{DisplayMask, Phases, Telemetry};
@@ -19,22 +19,24 @@ const ALL_TARIFFS: u8 = 0xFF;
 const ALL_DIRECTIONS: u8 = 0xFF;
 
 // A meter as it comes from the factory, with what the bench gives it.
+#[tactic(auto, unfolding(crate::specs::Record::made))]
 pub fn make(
     address: u8,
     minutes: u8,
     telemetry: Telemetry,
     clock: DateTime,
     season: Season,
-) -> RecordAnswer
+) -> Result<Record, RecordError>
     ensures { result ≡ made address minutes telemetry clock season }
 {
     let r = new_record(address, minutes, telemetry, clock, season);
-    if is_within(r) {
-        return RecordAnswer::Done(r);
+    if !is_within(r) {
+        return Err(RecordError::OutOfRange);
     }
-    RecordAnswer::OutOfRange
+    Ok(r)
 }
 
+#[tactic(auto, unfolding(crate::specs::Record::fresh))]
 fn new_record(
     address: u8,
     minutes: u8,
@@ -45,19 +47,19 @@ fn new_record(
     ensures { result ≡ fresh address minutes telemetry clock season }
 {
     Record {
-        address: address,
+        address,
         protection: meter_clock::shut(),
         passwords: Passwords {
             main: Password(FACTORY_PASSWORD),
             auxiliary: Password(FACTORY_PASSWORD),
         },
         time: Time {
-            clock: clock,
-            season: season,
+            clock,
+            season,
             summer: SwitchDate::Automatic,
             winter: SwitchDate::Automatic,
         },
-        telemetry: telemetry,
+        telemetry,
         mask: DisplayMask {
             parameters: ALL_PARAMETERS,
             tariffs: ALL_TARIFFS,
@@ -73,7 +75,7 @@ fn new_record(
             b: 0.0,
             c: 0.0,
         },
-        minutes: minutes,
+        minutes,
         next: 0,
         ratios: Ratios { ki: 1, ku: 1 },
     }

@@ -3,19 +3,18 @@ ghost use Rattle.std.specs.Prelude.{◌≡◌};
 ghost use Rattle.meter_record.specs.Record.{second_of};
 
 use crate::ranges::is_within;
-use crate::record::{Record, RecordAnswer};
+use crate::record::{Record, RecordError};
 
-pub fn pass_second(r: Record) -> RecordAnswer
+#[tactic(auto, unfolding(crate::specs::Record::second_of))]
+pub fn pass_second(r: Record) -> Result<Record, RecordError>
     ensures { result ≡ second_of r }
 {
-    if is_within(r) {
-        let protection = r.protection;
-        let time = r.time;
-        return RecordAnswer::Done(Record {
-            protection: meter_clock::ticked(protection),
-            time: meter_clock::next_time(time),
-            ..r
-        });
+    if !is_within(r) {
+        return Err(RecordError::Unsound);
     }
-    RecordAnswer::Unsound
+    Ok(Record {
+        protection: meter_clock::ticked(r.protection),
+        time: meter_clock::next_time(r.time),
+        ..r
+    })
 }

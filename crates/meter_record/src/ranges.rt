@@ -12,60 +12,38 @@ const LEAST_PULSES: u64 = 40_000;
 
 const MOST_PULSES: u64 = 5_000_000;
 
+#[tactic(auto, unfolding(crate::specs::Ranges::is_telemetry))]
 pub fn is_telemetry(t: Telemetry) -> bool
     ensures { result ≡ is_telemetry t }
 {
     let pulses = (t.k as u64) * (t.ke as u64);
-    if pulses < LEAST_PULSES {
-        return false;
-    }
-    pulses <= MOST_PULSES
+    LEAST_PULSES <= pulses && pulses <= MOST_PULSES
 }
 
+#[tactic(auto, unfolding(crate::specs::Ranges::is_within))]
 pub fn is_within(r: Record) -> bool
     ensures { result ≡ is_within r }
 {
-    if r.address < 1 {
-        return false;
-    }
-    let ratios = r.ratios;
-    if settings_right(r) {
-        if bench_right(r) {
-            return are_ratios(ratios);
-        }
-    }
-    false
+    1 <= r.address && settings_right(r) && bench_right(r) && are_ratios(r.ratios)
 }
 
 // What the meter's own commands and seconds change.
+#[tactic(auto, unfolding(crate::specs::Ranges::settings_right))]
 fn settings_right(r: Record) -> bool
     ensures { result ≡ settings_right r }
 {
-    let protection = r.protection;
-    let time = r.time;
-    let telemetry = r.telemetry;
-    if meter_clock::is_protection(protection) {
-        if meter_clock::is_fitting(time) {
-            return is_telemetry(telemetry);
-        }
-    }
-    false
+    meter_clock::is_protection(r.protection)
+        && meter_clock::is_fitting(r.time)
+        && is_telemetry(r.telemetry)
 }
 
 // What the bench sets.
+#[tactic(auto, unfolding(crate::specs::Ranges::bench_right, slots::specs::Day::slots_of, slots::specs::Day::is_minutes))]
 fn bench_right(r: Record) -> bool
     ensures { result ≡ bench_right r }
 {
-    let active = r.active;
-    let reactive = r.reactive;
-    if slots::slots_of(r.minutes) == 0 {
-        return false;
-    }
-    if meter_store::PLACES <= r.next {
-        return false;
-    }
-    if are_powers(active) {
-        return are_powers(reactive);
-    }
-    false
+    slots::slots_of(r.minutes) != 0
+        && r.next < meter_store::PLACES
+        && are_powers(r.active)
+        && are_powers(r.reactive)
 }

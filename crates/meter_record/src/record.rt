@@ -1,21 +1,22 @@
 ghost use Rattle.std.specs.Prelude.{◌≡◌};
-ghost use Rattle.meter_record.specs.Record.{number_of};
+ghost use Rattle.meter_record.specs.Record.{error_number};
 
 use meter_clock::{Protection, Time};
+use refusal::Numbered;
 use wire_values::{DisplayMask, Phases, Telemetry};
 
 // Eight bytes as one number, the first of them lowest.
-#[derive(Clone, Copy)]
+#[derive(Clone, Copy, PartialEq, Eq)]
 pub struct Password(pub u64);
 
-#[derive(Clone, Copy)]
+#[derive(Clone, Copy, PartialEq, Eq)]
 pub struct Passwords {
     pub main: Password,
     pub auxiliary: Password,
 }
 
 // The ratios of the transformers before the meter, of current and of voltage.
-#[derive(Clone, Copy)]
+#[derive(Clone, Copy, PartialEq, Eq)]
 pub struct Ratios {
     pub ki: u32,
     pub ku: u32,
@@ -39,24 +40,21 @@ pub struct Record {
 }
 
 // What the bench's own calls answer.
-#[derive(Clone, Copy)]
-pub enum RecordAnswer {
-    // The record after the call.
-    Done(Record),
+#[derive(Clone, Copy, PartialEq, Eq)]
+pub enum RecordError {
     OutOfRange,
     // A record outside its ranges was handed in.
     Unsound,
 }
 
-impl RecordAnswer {
+impl Numbered for RecordError {
     // Document 01's number.
-    pub fn number(self) -> u8
-        ensures { result ≡ number_of self }
-    {
+    ghost number_of = { error_number };
+
+    fn number(&self) -> u8 {
         match self {
-            RecordAnswer::Done(_) => refusal::DONE,
-            RecordAnswer::OutOfRange => refusal::OUT_OF_RANGE,
-            RecordAnswer::Unsound => refusal::UNSOUND,
+            RecordError::OutOfRange => refusal::OUT_OF_RANGE,
+            RecordError::Unsound => refusal::UNSOUND,
         }
     }
 }

@@ -1,4 +1,5 @@
 -- What follows: how long a record's bytes are, and that a record whose numbers fit and whose powers are finite is read back as it was.
+use Rattle.std.specs.Prelude.{None, Some}
 use mathlib.Core.Path.{◌≡◌, refl, ap, ◌∙◌}
 use mathlib.Core.Bool.{Bool, true, false}
 use mathlib.Core.List.{List, [], ◌∷◌, ◌++◌, append-nil}
@@ -20,15 +21,11 @@ use Rattle.wire_values.specs.Telemetry.{telemetry_of, telemetry_bytes}
 use Rattle.wire_values.proofs.TelemetryLaws.{telemetry_of-bytes}
 use Rattle.meter_record.specs.Widths.{FitsRecord}
 use Rattle.meter_record.specs.declared.record.Record.{Record}
-use Rattle.wire_values.specs.declared.power.PhasesAnswer.TheVariants as phases
 use Rattle.meter_record_bytes.specs.Level.{level_byte, level_of}
 use Rattle.meter_record_bytes.proofs.LevelLaws.{level-back}
 use Rattle.meter_record_bytes.specs.Time.{time_bytes, time_of, switch_bytes}
 use Rattle.meter_record_bytes.proofs.TimeLaws.{time-back}
 use Rattle.meter_record_bytes.specs.Record.{record_size, access_bytes, setting_bytes, bench_bytes, record_bytes, record_with, together, record_in, record_of}
-use Rattle.meter_record_bytes.specs.declared.record.RecordRead.TheVariants.{Read, Unreadable}
-use Rattle.meter_record_bytes.specs.declared.level.LevelRead.TheVariants as level
-use Rattle.meter_record_bytes.specs.declared.time.TimeRead.TheVariants as time
 
 -- ---- lengths
 
@@ -62,14 +59,14 @@ record-whole s r h =
     ∙ append-nil (record_bytes r)
 
 -- bytes that are read as a record are as many
-pub read-size : (s : List ℕ) (r : Record) → record_of s ≡ Read r → length s ≡ record_size
+pub read-size : (s : List ℕ) (r : Record) → record_of s ≡ Some r → length s ≡ record_size
 unfolding record_of
 read-size s r e = go (eqb (length s) record_size) refl
   where
     go : (b : Bool) → eqb (length s) record_size ≡ b → length s ≡ record_size
     go true q = eqb-true (length s) record_size q
     go false q =
-        let refused : record_of s ≡ Unreadable = rw q in
+        let refused : record_of s ≡ None = rw q in
         let never : ◌≡◌ {A = ℕ} 0 1 = cc in
         omega arith
 
@@ -130,14 +127,14 @@ module _ (r : Record) where
   front-there = (refl, refl, refl)
 
   -- a record that is kept as bytes between two calls is the same in the second
-  pub record-back : FitsRecord r → FinitePhases r.active → FinitePhases r.reactive → record_of (record_bytes r) ≡ Read r
+  pub record-back : FitsRecord r → FinitePhases r.active → FinitePhases r.reactive → record_of (record_bytes r) ≡ Some r
   unfolding record_of record_in together record_with
   record-back f a p =
       let bs = record_bytes r in
-      let level-read : level_of (byte_at bs 1) ≡ level.Read r.protection.level = rw front-there.1 (level-back r.protection.level) in
-      let time-read : time_of (drop 19 bs) ≡ time.Read r.time = rw from-time (time-back r.time _) in
-      let active_read : phases_of (drop 54 bs) ≡ phases.Finite r.active = rw from-active (phases_of-bytes r.active _ f.active a) in
-      let reactive_read : phases_of (drop 66 bs) ≡ phases.Finite r.reactive = rw from-reactive (phases_of-bytes r.reactive _ f.reactive p) in
+      let level-read : level_of (byte_at bs 1) ≡ Some r.protection.level = rw front-there.1 (level-back r.protection.level) in
+      let time-read : time_of (drop 19 bs) ≡ Some r.time = rw from-time (time-back r.time _) in
+      let active_read : phases_of (drop 54 bs) ≡ Some r.active = rw from-active (phases_of-bytes r.active _ f.active a) in
+      let reactive_read : phases_of (drop 66 bs) ≡ Some r.reactive = rw from-reactive (phases_of-bytes r.reactive _ f.reactive p) in
       let telemetry-read : telemetry_of (drop 40 bs) ≡ r.telemetry = rw from-telemetry (telemetry_of-bytes r.telemetry _ f.telemetry) in
       let mask-read : mask_of (drop 48 bs) ≡ r.mask = rw from-mask (mask_of-bytes r.mask _ f.parameters) in
       let main-read : number_at bs 3 8 ≡ r.passwords.main.0 = main-there ∙ number_at-front 8 r.passwords.main.0 [] ∙ mod-eq_of_lt f.main in
@@ -165,6 +162,6 @@ module _ (r : Record) where
       )
 
 -- what a call puts over the bytes that it read, the next call reads
-pub record-renewed : (s : List ℕ) (r after : Record) → record_of s ≡ Read r
-    → FitsRecord after → FinitePhases after.active → FinitePhases after.reactive → record_of (written s 0 (record_bytes after)) ≡ Read after
+pub record-renewed : (s : List ℕ) (r after : Record) → record_of s ≡ Some r
+    → FitsRecord after → FinitePhases after.active → FinitePhases after.reactive → record_of (written s 0 (record_bytes after)) ≡ Some after
 record-renewed s r after e f a p = ap record_of (record-whole s after (read-size s r e)) ∙ record-back after f a p

@@ -1,26 +1,18 @@
 -- The bench meter's record as 89 bytes. Source: document 01, "The bench meter's record"; the order is this project's own. Numbers of
 -- several bytes stand lowest byte first, figures as the wire has them.
-use Rattle.std.specs.Prelude.{cond, List, [], ◌∷◌, ◌++◌, ℕ, eqb, length, drop}
+use Rattle.std.specs.Prelude.{cond, List, [], ◌∷◌, ◌++◌, ℕ, eqb, length, drop, None, Option, Some}
 use Rattle.byte_numbers.specs.Number.{bytes_of}
 use Rattle.byte_numbers.specs.Place.{byte_at, number_at}
 use Rattle.wire_values.specs.Mask.{mask_of, mask_bytes}
 use Rattle.wire_values.specs.Power.{phases_bytes, phases_of}
 use Rattle.wire_values.specs.Telemetry.{telemetry_of, telemetry_bytes}
 use Rattle.wire_values.specs.declared.power.Phases.{Phases}
-use Rattle.wire_values.specs.declared.power.PhasesAnswer.{PhasesAnswer}
-use Rattle.wire_values.specs.declared.power.PhasesAnswer.TheVariants as phases
 use Rattle.meter_record.specs.declared.record.Passwords.{Passwords}
 use Rattle.meter_record.specs.declared.record.Record.{Record}
 use Rattle.meter_clock.specs.declared.protection.Level.{Level}
 use Rattle.meter_clock.specs.declared.season.Time.{Time}
 use Rattle.meter_record_bytes.specs.Level.{level_byte, level_of}
 use Rattle.meter_record_bytes.specs.Time.{time_bytes, time_of}
-use Rattle.meter_record_bytes.specs.declared.level.LevelRead.{LevelRead}
-use Rattle.meter_record_bytes.specs.declared.level.LevelRead.TheVariants as level
-use Rattle.meter_record_bytes.specs.declared.time.TimeRead.{TimeRead}
-use Rattle.meter_record_bytes.specs.declared.time.TimeRead.TheVariants as time
-use Rattle.meter_record_bytes.specs.declared.record.RecordRead.{RecordRead}
-use Rattle.meter_record_bytes.specs.declared.record.RecordRead.TheVariants.{Read, Unreadable}
 
 abbrev pub record_size : ℕ
 record_size = 89
@@ -64,16 +56,16 @@ record_with bs l t a p = record {
 }
 
 -- the parts that may be unreadable: all of them, or no record is read
-unfoldable pub together : List ℕ → LevelRead → TimeRead → PhasesAnswer → PhasesAnswer → RecordRead
-together bs level.Unreadable t a p = Unreadable
-together bs (level.Read l) time.Unreadable a p = Unreadable
-together bs (level.Read l) (time.Read t) phases.NotFinite p = Unreadable
-together bs (level.Read l) (time.Read t) (phases.Finite a) phases.NotFinite = Unreadable
-together bs (level.Read l) (time.Read t) (phases.Finite a) (phases.Finite p) = Read (record_with bs l t a p)
+unfoldable pub together : List ℕ → Option Level → Option Time → Option Phases → Option Phases → Option Record
+together bs None t a p = None
+together bs (Some l) None a p = None
+together bs (Some l) (Some t) None p = None
+together bs (Some l) (Some t) (Some a) None = None
+together bs (Some l) (Some t) (Some a) (Some p) = Some (record_with bs l t a p)
 
-unfoldable pub record_in : List ℕ → RecordRead
+unfoldable pub record_in : List ℕ → Option Record
 record_in bs = together bs (level_of (byte_at bs 1)) (time_of (drop 19 bs)) (phases_of (drop 54 bs)) (phases_of (drop 66 bs))
 
 -- bytes of another length are no record
-unfoldable pub record_of : List ℕ → RecordRead
-record_of bs = cond (eqb (length bs) record_size) (record_in bs) Unreadable
+unfoldable pub record_of : List ℕ → Option Record
+record_of bs = cond (eqb (length bs) record_size) (record_in bs) None

@@ -10,12 +10,6 @@ const AUXILIARY: u8 = 1;
 
 const MAIN: u8 = 2;
 
-#[derive(Clone, Copy)]
-pub enum LevelRead {
-    Read(Level),
-    Unreadable,
-}
-
 pub fn level_byte(l: Level) -> u8
     ensures { result ≡ level_byte l }
 {
@@ -26,13 +20,14 @@ pub fn level_byte(l: Level) -> u8
     }
 }
 
-pub fn level_of(byte: u8) -> LevelRead
+#[tactic(auto, unfolding(crate::specs::Level::level_of))]
+pub fn level_of(byte: u8) -> Option<Level>
     ensures { result ≡ level_of byte }
 {
     match byte {
-        SHUT => LevelRead::Read(Level::Shut),
-        AUXILIARY => LevelRead::Read(Level::Auxiliary),
-        MAIN => LevelRead::Read(Level::Main),
-        _ => LevelRead::Unreadable,
+        SHUT => Some(Level::Shut),
+        AUXILIARY => Some(Level::Auxiliary),
+        MAIN => Some(Level::Main),
+        _ => None,
     }
 }

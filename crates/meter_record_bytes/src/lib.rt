@@ -9,5 +9,5 @@ mod level;
 mod record;
 mod time;
 
-pub use record::{RECORD_BYTES, RecordRead, put_record, record_of};
-pub use time::{SeasonRead, season_of};
+pub use record::{RECORD_BYTES, put_record, record_of};
+pub use time::season_of;

@@ -4,13 +4,13 @@ ghost use Rattle.byte_numbers.specs.Place.{written};
 ghost use Rattle.wire_values.specs.Mask.{mask_bytes};
 ghost use Rattle.wire_values.specs.Telemetry.{telemetry_bytes};
 ghost use Rattle.meter_record_bytes.specs.Record.{access_bytes, setting_bytes, bench_bytes, record_bytes, passwords_in};
-ghost use Rattle.meter_record_bytes.specs.Record.{record_with, together, record_in, record_of};
+ghost use Rattle.meter_record_bytes.specs.Record.{record_with, record_in, record_of};
 
-use crate::level::{LevelRead, level_byte, level_of};
-use crate::time::{TimeRead, put_time, time_of};
+use crate::level::{level_byte, level_of};
+use crate::time::{put_time, time_of};
 use meter_clock::{Level, Protection, Time};
 use meter_record::{Password, Passwords, Ratios, Record};
-use wire_values::{DisplayMask, Phases, PhasesAnswer, Telemetry};
+use wire_values::{DisplayMask, Phases, Telemetry};
 
 pub const RECORD_BYTES: usize = 89;
 
@@ -43,12 +43,6 @@ const KI: usize = 81;
 
 const KU: usize = 85;
 
-#[derive(Clone, Copy)]
-pub enum RecordRead {
-    Read(Record),
-    Unreadable,
-}
-
 pub fn put_record(out: &mut [u8], r: Record)
     ensures { out.new ≡ written out.old 0 (record_bytes r) }
 {
@@ -61,42 +55,31 @@ pub fn put_record(out: &mut [u8], r: Record)
 fn put_access(out: &mut [u8], r: Record)
     ensures { out.new ≡ written out.old 0 (access_bytes r) }
 {
-    let protection = r.protection;
-    let level = protection.level;
-    let passwords = r.passwords;
-    let main = passwords.main;
-    let auxiliary = passwords.auxiliary;
-    let head = [r.address, level_byte(level), protection.left];
+    let head = [r.address, level_byte(r.protection.level), r.protection.left];
     byte_numbers::put_bytes(out, ADDRESS, &head);
-    byte_numbers::put_u64(out, MAIN_PASSWORD, main.0);
-    byte_numbers::put_u64(out, AUXILIARY_PASSWORD, auxiliary.0);
+    byte_numbers::put_u64(out, MAIN_PASSWORD, r.passwords.main.0);
+    byte_numbers::put_u64(out, AUXILIARY_PASSWORD, r.passwords.auxiliary.0);
 }
 
 // The clock and its seasons, the telemetry, the mask.
 fn put_settings(out: &mut [u8], r: Record)
     ensures { out.new ≡ written out.old 19 (setting_bytes r) }
 {
-    let time = r.time;
-    let telemetry = r.telemetry;
-    let mask = r.mask;
-    put_time(out, CLOCK, time);
-    put_telemetry(out, TELEMETRY, telemetry);
-    put_mask(out, MASK, mask);
+    put_time(out, CLOCK, r.time);
+    put_telemetry(out, TELEMETRY, r.telemetry);
+    put_mask(out, MASK, r.mask);
 }
 
 // The powers, the interval, the store's next place, the ratios.
 fn put_bench(out: &mut [u8], r: Record)
     ensures { out.new ≡ written out.old 54 (bench_bytes r) }
 {
-    let active = r.active;
-    let reactive = r.reactive;
-    let ratios = r.ratios;
-    wire_values::put_phases(out, ACTIVE, active);
-    wire_values::put_phases(out, REACTIVE, reactive);
+    wire_values::put_phases(out, ACTIVE, r.active);
+    wire_values::put_phases(out, REACTIVE, r.reactive);
     byte_numbers::put_byte(out, MINUTES, r.minutes);
     byte_numbers::put_u16(out, NEXT, r.next);
-    byte_numbers::put_u32(out, KI, ratios.ki);
-    byte_numbers::put_u32(out, KU, ratios.ku);
+    byte_numbers::put_u32(out, KI, r.ratios.ki);
+    byte_numbers::put_u32(out, KU, r.ratios.ku);
 }
 
 // A figure in the part that begins at a place.
@@ -116,60 +99,45 @@ fn put_mask(out: &mut [u8], at: usize, m: DisplayMask)
     }
 }
 
-pub fn record_of(bytes: &[u8]) -> RecordRead
+#[tactic(auto, unfolding(crate::specs::Record::record_of))]
+pub fn record_of(bytes: &[u8]) -> Option<Record>
     ensures { result ≡ record_of bytes.now }
 {
-    if bytes.len() != RECORD_BYTES {
-        return RecordRead::Unreadable;
+    if bytes.len() == RECORD_BYTES {
+        record_in(bytes)
+    } else {
+        None
     }
-    record_in(bytes)
 }
 
-fn record_in(bytes: &[u8]) -> RecordRead
+// The rest may be any bytes.
+#[tactic(auto, unfolding(crate::specs::Record::record_in, crate::specs::Record::together))]
+fn record_in(bytes: &[u8]) -> Option<Record>
     ensures { result ≡ record_in bytes.now }
 {
-    let level = level_of(byte_numbers::byte_at(bytes, LEVEL));
-    let time = time_of(byte_numbers::tail(bytes, CLOCK));
-    let active = wire_values::phases_of(byte_numbers::tail(bytes, ACTIVE));
-    let reactive = wire_values::phases_of(byte_numbers::tail(bytes, REACTIVE));
-    together(bytes, level, time, active, reactive)
+    let level = level_of(byte_numbers::byte_at(bytes, LEVEL))?;
+    let time = time_of(byte_numbers::tail(bytes, CLOCK))?;
+    let active = wire_values::phases_of(byte_numbers::tail(bytes, ACTIVE))?;
+    let reactive = wire_values::phases_of(byte_numbers::tail(bytes, REACTIVE))?;
+    Some(record_with(bytes, level, time, active, reactive))
 }
 
-// All that may be unreadable was read, or there is no record.
-fn together(bytes: &[u8], l: LevelRead, t: TimeRead, a: PhasesAnswer, p: PhasesAnswer) -> RecordRead
-    ensures { result ≡ together bytes.now l t a p }
-{
-    let LevelRead::Read(level) = l else {
-        return RecordRead::Unreadable;
-    };
-    let TimeRead::Read(time) = t else {
-        return RecordRead::Unreadable;
-    };
-    let PhasesAnswer::Finite(active) = a else {
-        return RecordRead::Unreadable;
-    };
-    let PhasesAnswer::Finite(reactive) = p else {
-        return RecordRead::Unreadable;
-    };
-    RecordRead::Read(record_with(bytes, level, time, active, reactive))
-}
-
-// The record of what was read so far and of the rest, which may be any bytes.
+#[tactic(auto, unfolding(crate::specs::Record::record_with))]
 fn record_with(bytes: &[u8], level: Level, time: Time, active: Phases, reactive: Phases) -> Record
     ensures { result ≡ record_with bytes.now level time active reactive }
 {
     Record {
         address: byte_numbers::byte_at(bytes, ADDRESS),
         protection: Protection {
-            level: level,
+            level,
             left: byte_numbers::byte_at(bytes, LEFT),
         },
         passwords: passwords_in(bytes),
-        time: time,
+        time,
         telemetry: wire_values::telemetry_of(byte_numbers::tail(bytes, TELEMETRY)),
         mask: wire_values::display_mask(byte_numbers::tail(bytes, MASK)),
-        active: active,
-        reactive: reactive,
+        active,
+        reactive,
         minutes: byte_numbers::byte_at(bytes, MINUTES),
         next: byte_numbers::u16_at(bytes, NEXT),
         ratios: Ratios {

@@ -2,28 +2,10 @@
 ghost use Rattle.std.specs.Prelude.{◌≡◌};
 ghost use Rattle.byte_numbers.specs.Place.{written};
 ghost use Rattle.wire_values.specs.Clock.{date_time_bytes};
-ghost use Rattle.meter_record_bytes.specs.Time.{season_byte, season_of, choice_byte, date_or_zeros, switch_bytes, switch_of, time_bytes, together, time_of};
+ghost use Rattle.meter_record_bytes.specs.Time.{season_byte, season_of, choice_byte, date_or_zeros, switch_bytes, switch_of, time_bytes, time_of};
 
 use calendar::{Date, DateTime};
 use meter_clock::{Season, SwitchDate, Time};
-
-#[derive(Clone, Copy)]
-pub enum SeasonRead {
-    Read(Season),
-    Unreadable,
-}
-
-#[derive(Clone, Copy)]
-pub enum SwitchRead {
-    Read(SwitchDate),
-    Unreadable,
-}
-
-#[derive(Clone, Copy)]
-pub enum TimeRead {
-    Read(Time),
-    Unreadable,
-}
 
 const WINTER: u8 = 0;
 
@@ -48,13 +30,14 @@ fn season_byte(s: Season) -> u8
     }
 }
 
-pub fn season_of(byte: u8) -> SeasonRead
+#[tactic(auto, unfolding(crate::specs::Time::season_of))]
+pub fn season_of(byte: u8) -> Option<Season>
     ensures { result ≡ season_of byte }
 {
     match byte {
-        WINTER => SeasonRead::Read(Season::Winter),
-        SUMMER => SeasonRead::Read(Season::Summer),
-        _ => SeasonRead::Unreadable,
+        WINTER => Some(Season::Winter),
+        SUMMER => Some(Season::Summer),
+        _ => None,
     }
 }
 
@@ -104,61 +87,38 @@ fn put_switch(out: &mut [u8], at: usize, choice: SwitchDate)
     }
 }
 
-fn switch_of(bytes: &[u8]) -> SwitchRead
+#[tactic(auto, unfolding(crate::specs::Time::switch_of))]
+fn switch_of(bytes: &[u8]) -> Option<SwitchDate>
     ensures { result ≡ switch_of bytes.now }
 {
-    let byte = byte_numbers::byte_at(bytes, 0);
-    match byte {
-        AUTOMATIC => SwitchRead::Read(SwitchDate::Automatic),
-        BY_HAND => SwitchRead::Read(SwitchDate::ByHand(wire_values::date_time_of(byte_numbers::tail(
+    match byte_numbers::byte_at(bytes, 0) {
+        AUTOMATIC => Some(SwitchDate::Automatic),
+        BY_HAND => Some(SwitchDate::ByHand(wire_values::date_time_of(byte_numbers::tail(
             bytes, 1,
         )))),
-        _ => SwitchRead::Unreadable,
+        _ => None,
     }
 }
 
 pub fn put_time(out: &mut [u8], at: usize, t: Time)
     ensures { out.new ≡ written out.old at (time_bytes t) }
 {
-    let clock = t.clock;
-    let season = t.season;
-    let summer = t.summer;
-    let winter = t.winter;
     if at < out.len() {
-        put_date_time(out, at, clock);
-        byte_numbers::put_byte(out, at + SEASON, season_byte(season));
-        put_switch(out, at + SUMMER_DATE, summer);
-        put_switch(out, at + WINTER_DATE, winter);
+        put_date_time(out, at, t.clock);
+        byte_numbers::put_byte(out, at + SEASON, season_byte(t.season));
+        put_switch(out, at + SUMMER_DATE, t.summer);
+        put_switch(out, at + WINTER_DATE, t.winter);
     }
 }
 
-pub fn time_of(bytes: &[u8]) -> TimeRead
+#[tactic(auto, unfolding(crate::specs::Time::time_of, crate::specs::Time::together))]
+pub fn time_of(bytes: &[u8]) -> Option<Time>
     ensures { result ≡ time_of bytes.now }
 {
-    let clock = wire_values::date_time_of(bytes);
-    let season = season_of(byte_numbers::byte_at(bytes, SEASON));
-    let summer = switch_of(byte_numbers::tail(bytes, SUMMER_DATE));
-    let winter = switch_of(byte_numbers::tail(bytes, WINTER_DATE));
-    together(clock, season, summer, winter)
-}
-
-// All that may be unreadable was read, or there is no time.
-fn together(clock: DateTime, s: SeasonRead, a: SwitchRead, b: SwitchRead) -> TimeRead
-    ensures { result ≡ together clock s a b }
-{
-    let SeasonRead::Read(season) = s else {
-        return TimeRead::Unreadable;
-    };
-    let SwitchRead::Read(summer) = a else {
-        return TimeRead::Unreadable;
-    };
-    let SwitchRead::Read(winter) = b else {
-        return TimeRead::Unreadable;
-    };
-    TimeRead::Read(Time {
-        clock: clock,
-        season: season,
-        summer: summer,
-        winter: winter,
+    Some(Time {
+        clock: wire_values::date_time_of(bytes),
+        season: season_of(byte_numbers::byte_at(bytes, SEASON))?,
+        summer: switch_of(byte_numbers::tail(bytes, SUMMER_DATE))?,
+        winter: switch_of(byte_numbers::tail(bytes, WINTER_DATE))?,
     })
 }

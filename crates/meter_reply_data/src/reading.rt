@@ -14,6 +14,7 @@ use parameters::table;
 use request::Request;
 use wire_values::{Energies, KilowattHours, Phases, Telemetry};
 
+#[tactic(auto, unfolding(crate::specs::Reading::phase))]
 fn phase(p: Phases, detail: u8) -> f32
     ensures { result ≡ phase p detail }
 {
@@ -25,6 +26,7 @@ fn phase(p: Phases, detail: u8) -> f32
 }
 
 // The total and the three phases, or one of them.
+#[tactic(auto, unfolding(crate::specs::Reading::power_data))]
 fn put_power(out: &mut [u8], p: Phases, detail: u8)
     ensures { out.new ≡ written out.old 0 (power_data p detail) }
 {
@@ -39,22 +41,16 @@ fn put_power(out: &mut [u8], p: Phases, detail: u8)
 fn summer_shown(t: Time) -> DateTime
     ensures { result ≡ summer_shown t }
 {
-    let summer = t.summer;
-    let clock = t.clock;
-    let date = clock.date;
-    meter_clock::summer_date(summer, date.year)
+    meter_clock::summer_date(t.summer, t.clock.date.year)
 }
 
 fn winter_shown(t: Time) -> DateTime
     ensures { result ≡ winter_shown t }
 {
-    let winter = t.winter;
-    let clock = t.clock;
-    let date = clock.date;
-    meter_clock::winter_date(winter, date.year)
+    meter_clock::winter_date(t.winter, t.clock.date.year)
 }
 
-// Six rows one behind the other.
+// Six rows one behind the other, written out: each begins where the one before it ends.
 fn put_six(out: &mut [u8], rows: [[u16; 4]; 6])
     ensures { out.new ≡ written out.old 0 (six_bytes rows) }
 {
@@ -67,60 +63,54 @@ fn put_six(out: &mut [u8], rows: [[u16; 4]; 6])
 }
 
 // The figures of a parameter that is read.
+#[tactic(auto, unfolding(byte_numbers::specs::Place::written))]
 fn put_figures(out: &mut [u8], p: Parameter, r: Record, store: &[u8], q: Request)
     ensures { out.new ≡ written out.old 0 (figures_of p r store.now q) }
 {
-    let active = r.active;
-    let reactive = r.reactive;
-    let telemetry = r.telemetry;
-    let mask = r.mask;
-    let time = r.time;
-    let clock = time.clock;
     match p {
-        Parameter::ActivePower => put_power(out, active, q.detail),
-        Parameter::ReactivePower => put_power(out, reactive, q.detail),
+        Parameter::ActivePower => put_power(out, r.active, q.detail),
+        Parameter::ReactivePower => put_power(out, r.reactive, q.detail),
         Parameter::Address => byte_numbers::put_byte(out, 0, r.address),
-        Parameter::Telemetry => wire_values::put_telemetry(out, telemetry),
-        Parameter::SummerDate => wire_values::put_date_time(out, summer_shown(time)),
-        Parameter::WinterDate => wire_values::put_date_time(out, winter_shown(time)),
-        Parameter::Clock => wire_values::put_date_time(out, clock),
-        Parameter::DisplayMask => wire_values::put_display_mask(out, mask),
+        Parameter::Telemetry => wire_values::put_telemetry(out, r.telemetry),
+        Parameter::SummerDate => wire_values::put_date_time(out, summer_shown(r.time)),
+        Parameter::WinterDate => wire_values::put_date_time(out, winter_shown(r.time)),
+        Parameter::Clock => wire_values::put_date_time(out, r.time.clock),
+        Parameter::DisplayMask => wire_values::put_display_mask(out, r.mask),
         Parameter::Slice => meter_store::put_row(
             out,
             0,
             meter_store::slice_of(store, request::key_of(q)),
         ),
         Parameter::SixSlices => put_six(out, meter_store::six_of(store, request::key_of(q))),
-        Parameter::Password => {}
-        Parameter::Unknown => {}
+        Parameter::Password | Parameter::Unknown => {}
     }
 }
 
 // The kilowatt-hours that the display shows for some counts: their energy at the meter, times both ratios. Ratios that no record has show
 // nothing.
+#[tactic(auto, unfolding(crate::specs::Reading::shown_of))]
 fn shown(telemetry: Telemetry, ratios: Ratios, counts: u16) -> KilowattHours
     ensures { result ≡ shown_of telemetry ratios counts }
 {
-    if meter_record::are_ratios(ratios) {
-        let energy = Counts(counts as u32).energy(telemetry.ke);
-        let product = (ratios.ki as u64) * (ratios.ku as u64);
-        let primary = energy.number() * product;
-        return KilowattHours(kilowatt_hours::kwh_bits(primary));
+    if !meter_record::are_ratios(ratios) {
+        return KilowattHours(0);
     }
-    KilowattHours(0)
+    let energy = Counts(counts as u32).energy(telemetry.ke);
+    let product = (ratios.ki as u64) * (ratios.ku as u64);
+    let primary = energy.number() * product;
+    KilowattHours(kilowatt_hours::kwh_bits(primary))
 }
 
 // A row of the store as the display shows it.
+#[tactic(auto, unfolding(crate::specs::Reading::displayed_of))]
 fn displayed(r: Record, row: [u16; 4]) -> Energies
     ensures { result ≡ displayed_of r row }
 {
-    let telemetry = r.telemetry;
-    let ratios = r.ratios;
     Energies {
-        e_plus: shown(telemetry, ratios, row[0]),
-        e_minus: shown(telemetry, ratios, row[1]),
-        r_plus: shown(telemetry, ratios, row[2]),
-        r_minus: shown(telemetry, ratios, row[3]),
+        e_plus: shown(r.telemetry, r.ratios, row[0]),
+        e_minus: shown(r.telemetry, r.ratios, row[1]),
+        r_plus: shown(r.telemetry, r.ratios, row[2]),
+        r_minus: shown(r.telemetry, r.ratios, row[3]),
     }
 }
 
@@ -128,8 +118,7 @@ fn displayed(r: Record, row: [u16; 4]) -> Energies
 fn put_as(out: &mut [u8], p: Parameter, r: Record, store: &[u8], q: Request)
     ensures { out.new ≡ written out.old 0 (figures_as q.reading p r store.now q) }
 {
-    let reading = q.reading;
-    match reading {
+    match q.reading {
         Reading::Stored => put_figures(out, p, r, store, q),
         Reading::Displayed => wire_values::put_energies(
             out,
@@ -142,37 +131,26 @@ fn put_as(out: &mut [u8], p: Parameter, r: Record, store: &[u8], q: Request)
 pub fn is_read(function: Function) -> bool
     ensures { result ≡ is_read function }
 {
-    match function {
-        Function::Read(_) => true,
-        Function::Change => false,
-        Function::Zero => false,
-        Function::Unlock => false,
-        Function::Lock => false,
-        Function::Unknown => false,
-    }
+    matches!(function, Function::Read(_))
 }
 
 // The data of the reply to a command that is done.
+#[tactic(auto, unfolding(crate::specs::Reading::data_of, byte_numbers::specs::Place::written))]
 pub fn put_data(out: &mut [u8], r: Record, store: &[u8], c: Command)
     ensures { out.new ≡ written out.old 0 (data_of r store.now c) }
 {
-    let function = c.function;
-    let p = c.parameter;
-    let q = c.request;
-    if is_read(function) {
-        put_as(out, p, r, store, q);
+    if is_read(c.function) {
+        put_as(out, c.parameter, r, store, c.request);
     }
 }
 
+#[tactic(auto, unfolding(crate::specs::Reading::data_size))]
 pub fn data_size(c: Command) -> usize
     ensures { result ≡ data_size c }
 {
-    let function = c.function;
-    let row = c.row;
-    let q = c.request;
-    let reading = q.reading;
-    if is_read(function) {
-        return table::bytes_in(reading, row, q.detail);
+    if is_read(c.function) {
+        table::bytes_in(c.request.reading, c.row, c.request.detail)
+    } else {
+        0
     }
-    0
 }

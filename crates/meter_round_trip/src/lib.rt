@@ -5,52 +5,68 @@ ghost use Rattle.std.specs.Prelude.{◌≡◌, true, ◌≤◌, length};
 ghost use Rattle.frame.specs.Layout.{longest};
 ghost use Rattle.request.specs.Request.{request_frame};
 ghost use Rattle.request.specs.Subject.{subject_of, most_slots, askable};
-ghost use Rattle.meter_round_trip.specs.Inquiry.{number_of, outcome, is_silent, asked, inquired};
+ghost use Rattle.meter_round_trip.specs.declared.InquiryError.TheVariants.{Undecoded};
+ghost use Rattle.meter_round_trip.specs.Inquiry.{error_number, outcome, is_silent, asked, inquired};
 
 use frame::layout::{LONGEST, READ_BYTES};
-use meter_command::Verdict;
+use meter_command::Refusal;
 use meter_record::Record;
-use reader::Decoded;
+use reader::{DecodeError, Decoded};
+use refusal::Numbered;
 use request::Request;
 
-#[derive(Clone, Copy)]
-pub enum Inquired {
+#[derive(Clone, Copy, PartialEq, Eq)]
+pub enum InquiryError {
     TooShort,
     Unsound,
     // The meter did not hear a request for another address.
     Silent,
     // What the reader says, of the reply or of a request that no meter would answer.
-    Told(Decoded),
+    Undecoded(DecodeError),
 }
 
-impl Inquired {
+impl From<DecodeError> for InquiryError {
+    ghost from_gives = { λ error e. e ≡ Undecoded error };
+
+    fn from(error: DecodeError) -> InquiryError {
+        InquiryError::Undecoded(error)
+    }
+}
+
+impl Numbered for InquiryError {
     // Document 01's number.
-    pub fn number(self) -> u8
-        ensures { result ≡ number_of self }
-    {
+    ghost number_of = { error_number };
+
+    fn number(&self) -> u8 {
         match self {
-            Inquired::TooShort => refusal::TOO_SHORT,
-            Inquired::Unsound => refusal::UNSOUND,
-            Inquired::Silent => refusal::SILENT,
-            Inquired::Told(decoded) => decoded.number(),
+            InquiryError::TooShort => refusal::TOO_SHORT,
+            InquiryError::Unsound => refusal::UNSOUND,
+            InquiryError::Silent => refusal::SILENT,
+            InquiryError::Undecoded(error) => error.number(),
         }
     }
 }
 
 // The reply stays in the output, from which `six_slices` takes the rows of parameter 40.
-pub fn inquire(r: Record, store: &mut [u8], q: Request, out: &mut [u8]) -> Inquired
+#[tactic(auto, unfolding(crate::specs::Inquiry::inquired))]
+pub fn inquire(
+    r: Record,
+    store: &mut [u8],
+    q: Request,
+    out: &mut [u8],
+) -> Result<Decoded, InquiryError>
     ensures { outcome result store.new out.new ≡ inquired r store.old q out.old }
 {
     if out.len() < LONGEST {
-        return Inquired::TooShort;
+        return Err(InquiryError::TooShort);
     }
-    if meter::is_sound(r, store) {
-        if request::is_askable(request::subject_of(q, request::MOST_SLOTS)) {
-            return ask(r, store, q, out);
-        }
-        return Inquired::Told(Decoded::OutOfRange);
+    if !meter::is_sound(r, store) {
+        return Err(InquiryError::Unsound);
     }
-    Inquired::Unsound
+    if !request::is_askable(request::subject_of(q, request::MOST_SLOTS)) {
+        return Err(InquiryError::Undecoded(DecodeError::OutOfRange));
+    }
+    ask(r, store, q, out)
 }
 
 // The frame of a request that a meter could answer.
@@ -59,38 +75,26 @@ fn frame_of(q: Request) -> [u8; READ_BYTES]
     ensures { result ≡ request_frame q }
 {
     let mut frame = [0u8; READ_BYTES];
-    request::put_request(q, &mut frame);
+    // Never refused: it is askable, and there is room.
+    let _ = request::put_request(q, &mut frame);
     frame
 }
 
-fn ask(r: Record, store: &mut [u8], q: Request, out: &mut [u8]) -> Inquired
+fn ask(r: Record, store: &mut [u8], q: Request, out: &mut [u8]) -> Result<Decoded, InquiryError>
     requires most_slots_value { askable (subject_of q most_slots) ≡ true }
     requires longest_in_bounds { longest ≤ length out.old }
     ensures { outcome result store.new out.new ≡ asked r store.old q out.old }
 {
     let frame = frame_of(q);
     let a = meter::answer(r, store, &frame, out);
-    let verdict = a.verdict;
-    if is_silent(verdict) {
-        return Inquired::Silent;
+    if is_silent(a.verdict) {
+        return Err(InquiryError::Silent);
     }
-    Inquired::Told(reader::decode(q, &out[..a.length]))
+    Ok(reader::decode(q, &out[..a.length])?)
 }
 
-fn is_silent(v: Verdict) -> bool
+fn is_silent(v: Result<(), Refusal>) -> bool
     ensures { result ≡ is_silent v }
 {
-    match v {
-        Verdict::Silent => true,
-        Verdict::Done => false,
-        Verdict::TooShort => false,
-        Verdict::Unsound => false,
-        Verdict::UnknownFunction => false,
-        Verdict::UnknownParameter => false,
-        Verdict::NotOpen => false,
-        Verdict::WrongLength => false,
-        Verdict::ByAddressZero => false,
-        Verdict::NoAccess => false,
-        Verdict::WrongArgument => false,
-    }
+    v == Err(Refusal::Silent)
 }

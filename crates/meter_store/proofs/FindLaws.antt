@@ -1,26 +1,16 @@
--- What follows from the definitions of a key and of its place: when two keys are the same, and what a walk over the places finds.
+-- What follows from the definitions of a key and of its place: that a key is its own, and what a walk over the places finds.
 use Prim.Native.Nat.{ℕ, zero, suc, ◌+◌, ◌≤◌, ◌<◌}
 use native.Mathlib.Nat.{add-zero}
 use native.Mathlib.Omega.{arith}
 use mathlib.Core.Path.{◌≡◌, refl, sym, ap₂, ◌∙◌}
-use mathlib.Core.Bool.{Bool, true, false, cond, and-true}
+use mathlib.Core.Bool.{Bool, true, false, cond}
 use mathlib.Core.List.{List}
 use lib.Dec.{eqb}
 use borrow.Author.Tests.{eqb-true, eqb-false, eq-eqb}
 use Rattle.slots.specs.declared.key.Key.{Key}
 use Rattle.meter_store.specs.Store.{key_at, same_key, first_from}
 
--- ---- where two parts of a key agree, the third decides
-
--- `holds` compares day and number first: then the month decides
-pub month-decides : (a b : Key) → a.day ≡ b.day → a.number ≡ b.number → eqb a.month b.month ≡ same_key a b
-unfolding same_key
-month-decides a b d n = simp (eq-eqb a.day b.day d, eq-eqb a.number b.number n, and-true)
-
--- and the other way round
-pub number-decides : (a b : Key) → a.month ≡ b.month → a.day ≡ b.day → eqb a.number b.number ≡ same_key a b
-unfolding same_key
-number-decides a b m d = simp (eq-eqb a.month b.month m, eq-eqb a.day b.day d)
+-- ---- keys
 
 -- a key that was put is found
 pub same_self : (k : Key) → same_key k k ≡ true

@@ -30,19 +30,19 @@ last-two true y z e = e
 last-two false y z e = refl
 
 -- a place whose day or number is another's is not the key's
-pub day-misses : (s : List ℕ) (i month day number : ℕ) → is_day s (11 * i) day number ≡ false
+pub day_misses : (s : List ℕ) (i month day number : ℕ) → is_day s (11 * i) day number ≡ false
     → same_key (key_at s i) (key_of month day number) ≡ false
 unfolding is_day same_key key_at
-day-misses s i month day number e =
+day_misses s i month day number e =
     last-two (eqb (byte_at s (11 * i)) month) (eqb (byte_at s (11 * i + 1)) day) (eqb (byte_at s (11 * i + 2)) number) e
 
 -- ---- four places, one behind the other
 
 -- four places passed over at once
-pub four-miss : (s : List ℕ) (k : Key) (i : ℕ) → same_key (key_at s i) k ≡ false → same_key (key_at s (suc i)) k ≡ false
+pub four_miss : (s : List ℕ) (k : Key) (i : ℕ) → same_key (key_at s i) k ≡ false → same_key (key_at s (suc i)) k ≡ false
     → same_key (key_at s (suc (suc i))) k ≡ false → same_key (key_at s (suc (suc (suc i)))) k ≡ false → first_from s k i 4 ≡ i + 4
 unfolding first_from
-four-miss s k i a b c d = simp (a, b, c, d) (omega arith)
+four_miss s k i a b c d = simp (a, b, c, d) (omega arith)
 
 -- ---- a walk in two parts
 

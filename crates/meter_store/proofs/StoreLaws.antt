@@ -2,15 +2,14 @@
 -- leaves.
 use Prim.Native.Nat.{ℕ, zero, suc, ◌+◌, ◌*◌, ◌/◌, ◌%◌, ◌≤◌, ◌<◌}
 use native.Mathlib.Nat.{add-zero, zero-add}
-use native.Mathlib.Numerals.{add-one}
 use native.Mathlib.Omega.{arith}
-use mathlib.Core.Path.{◌≡◌, refl, sym, ap, ap₂, ◌∙◌}
+use mathlib.Core.Path.{◌≡◌, refl, sym, ap, ◌∙◌}
 use mathlib.Core.Bool.{Bool, true, false, cond, false≢true}
-use mathlib.Core.List.{List, [], ◌∷◌, ◌++◌, append-nil}
+use mathlib.Core.List.{List, [], ◌∷◌}
 use mathlib.Core.Logic.{inl, inr}
 use lib.Dec.{eqb, ltb}
-use lib.ListN.{length, get_or, take, drop, set, replicate, length-replicate, replicate-append-replicate, drop_of_length-le}
-use lib.Seq.{drop-cons, drop-drop, take-take, set_at, append_snoc}
+use lib.ListN.{length, take, drop, replicate, length-replicate, drop_of_length-le}
+use lib.Seq.{drop-cons, drop-drop, take-take}
 use borrow.Author.Tests.{ltb-true, ltb-false, lt-ltb, le-ltb, eqb-true, eqb-false, ne_eqb}
 use Rattle.byte_numbers.specs.Number.{number, bytes_of}
 use Rattle.byte_numbers.specs.Place.{byte_at, number_at, written}
@@ -19,23 +18,6 @@ use Rattle.slots.specs.declared.key.Key.{Key}
 use Rattle.meter_store.specs.Store.{places, store_bytes, key_at, same_key, first_from, place_of, is_kept, row_at, zero_row, slice_of, count_at, row_bytes}
 use Rattle.meter_store.specs.Store.{place_bytes_of, put_place, put_store, put_next, cleared}
 use Rattle.meter_store.proofs.FindLaws.{same_self, first-has, first-before, first-is, first-none, first-same}
-
--- ---- a clear, byte by byte
-
--- a turn of `clear`
-pub clear-one : (s t : List ℕ) (i : ℕ) → i < length s → t ≡ replicate i 0 ++ drop i s → set t i 0 ≡ replicate (i + 1) 0 ++ drop (i + 1) s
-clear-one s t i h e =
-    ap (λ (l : List ℕ). set l i 0) (e ∙ ap (λ (l : List ℕ). replicate i 0 ++ l) (drop-cons s i 0 h))
-    ∙ set_at (replicate i 0) (get_or s i 0) (drop (suc i) s) 0 i (length-replicate i 0)
-    ∙ sym (append_snoc (replicate i 0) 0 (drop (suc i) s))
-    ∙ ap₂ (λ (x : List ℕ) (m : ℕ). x ++ drop m s) (replicate-append-replicate i 1 0) (sym (add-one i))
-
--- its end
-pub clear-all : (s t : List ℕ) (i : ℕ) → length s ≤ i → i ≤ length s → t ≡ replicate i 0 ++ drop i s → t ≡ cleared s
-unfolding cleared
-clear-all s t i h l e =
-    let q : i ≡ length s = omega arith in
-    e ∙ ap₂ (λ (x y : List ℕ). x ++ y) (ap (λ (n : ℕ). replicate n 0) q) (drop_of_length-le s h) ∙ append-nil (replicate (length s) 0)
 
 -- ---- what a put and a clear keep
 

@@ -11,18 +11,19 @@ pub const STORE_BYTES: usize = 32736;
 // How many places a walk over a whole store looks at in a turn.
 const TURN: u16 = 4;
 
+const TURNS: u16 = PLACES / TURN;
+
 // A number above a byte's is in no place.
 const BYTE_VALUES: u16 = 256;
 
 // The first place with a key, or PLACES where none has it. A number past 255, which the slices after a named one may reach, is in
-// no place.
+// no place; so the parts of a key come one by one, and not as a `Key`, whose number is a byte.
+#[tactic(auto, unfolding(crate::specs::Store::place_of))]
 pub fn place_of(store: &[u8], month: u8, day: u8, number: u16) -> u16
     ensures { result ≡ place_of store.now (key_of month day number) }
 {
-    if store.len() == STORE_BYTES {
-        if number < BYTE_VALUES {
-            return by_fours(store, month, day, number);
-        }
+    if store.len() == STORE_BYTES && number < BYTE_VALUES {
+        return by_fours(store, month, day, number);
     }
     one_by_one(store, 0, PLACES, month, day, number)
 }
@@ -32,15 +33,14 @@ fn by_fours(store: &[u8], month: u8, day: u8, number: u16) -> u16
     requires { (length store.now ≡ store_bytes) × (number < 256) }
     ensures { result ≡ place_of store.now (key_of month day number) }
 {
-    let mut i: u16 = 0;
-    while i < PLACES {
+    for turn in 0..TURNS {
+        let i = TURN * turn;
         let found = in_four(store, i, month, day, number);
         if found < i + TURN {
             return found;
         }
-        i += TURN;
     }
-    i
+    PLACES
 }
 
 // The first of four places that has a key, or the one behind them.
@@ -55,24 +55,20 @@ fn in_four(store: &[u8], i: u16, month: u8, day: u8, number: u16) -> u16
 }
 
 // Whether one of the four places from i on has a day and a number.
+#[tactic(auto, using(crate::proofs::FourLaws::day_misses, crate::proofs::FourLaws::four_miss))]
 fn any_of_four(store: &[u8], i: u16, day: u8, number: u16) -> bool
     requires { (length store.now ≡ store_bytes) × (i + 4 ≤ places) × (number < 256) }
     ensures { result ≡ false → NoneOfFour store.now i day number }
 {
     let at = PLACE_BYTES * (i as usize);
-    if is_day(store, at, day, number) {
-        return true;
-    }
-    if is_day(store, at + PLACE_BYTES, day, number) {
-        return true;
-    }
-    if is_day(store, at + 2 * PLACE_BYTES, day, number) {
-        return true;
-    }
-    is_day(store, at + 3 * PLACE_BYTES, day, number)
+    is_day(store, at, day, number)
+        || is_day(store, at + PLACE_BYTES, day, number)
+        || is_day(store, at + 2 * PLACE_BYTES, day, number)
+        || is_day(store, at + 3 * PLACE_BYTES, day, number)
 }
 
 // Whether the place whose bytes begin at a byte has a day and a number, by one comparison of the two.
+#[tactic(auto, using(crate::proofs::FourLaws::two_bytes), unfolding(crate::specs::Store::is_day))]
 fn is_day(store: &[u8], at: usize, day: u8, number: u16) -> bool
     requires { (at + 2 < length store.now) × (number < 256) }
     ensures { result ≡ is_day store.now at day number }
@@ -86,36 +82,25 @@ fn one_by_one(store: &[u8], from: u16, to: u16, month: u8, day: u8, number: u16)
     requires { from ≤ to }
     ensures { result ≡ first_from store.now (key_of month day number) from (to - from) }
 {
-    let mut i = from;
-    while i < to {
+    for i in from..to {
         if holds(store, i, month, day, number) {
             return i;
         }
-        i += 1;
     }
-    i
+    to
 }
 
 // Whether place i has a key.
+#[tactic(auto, unfolding(crate::specs::Store::same_key, crate::specs::Store::key_at))]
 fn holds(store: &[u8], i: u16, month: u8, day: u8, number: u16) -> bool
     ensures { result ≡ same_key (key_at store.now i) (key_of month day number) }
 {
     let at = PLACE_BYTES * (i as usize);
     // One test of the length for a whole key; the number differs most often, so it goes first.
     if at + 2 < store.len() {
-        if (store[at + 2] as u16) != number {
-            return false;
-        }
-        if store[at + 1] != day {
-            return false;
-        }
-        return store[at] == month;
+        return store[at + 2] as u16 == number && store[at + 1] == day && store[at] == month;
     }
-    if byte_numbers::byte_at(store, at) != month {
-        return false;
-    }
-    if byte_numbers::byte_at(store, at + 1) != day {
-        return false;
-    }
-    (byte_numbers::byte_at(store, at + 2) as u16) == number
+    byte_numbers::byte_at(store, at) == month
+        && byte_numbers::byte_at(store, at + 1) == day
+        && byte_numbers::byte_at(store, at + 2) as u16 == number
 }

@@ -8,6 +8,7 @@ use slots::Key;
 
 // To the place of its key, or else to the next place in turn. Returns which place is next then: the same as before where a slice was
 // replaced, and the first after the last.
+#[tactic(auto, unfolding(crate::specs::Store::is_kept, crate::specs::Store::put_place, crate::specs::Store::put_store, crate::specs::Store::put_next))]
 pub fn put_slice(store: &mut [u8], next: u16, k: Key, counts: [u16; 4]) -> u16
     ensures { (store.new ≡ put_store store.old next k counts) × (result ≡ put_next store.old next k) }
 {
@@ -17,10 +18,7 @@ pub fn put_slice(store: &mut [u8], next: u16, k: Key, counts: [u16; 4]) -> u16
         return next;
     }
     write_place(store, next, k, counts);
-    if next < PLACES - 1 {
-        return next + 1;
-    }
-    0
+    if next < PLACES - 1 { next + 1 } else { 0 }
 }
 
 // The eleven bytes of place i, as far as the store has it.
@@ -50,9 +48,5 @@ pub fn put_row(out: &mut [u8], at: usize, counts: [u16; 4])
 pub fn clear(store: &mut [u8])
     ensures { store.new ≡ cleared store.old }
 {
-    let mut i = 0;
-    while i < store.len() {
-        store[i] = 0;
-        i += 1;
-    }
+    store.fill(0);
 }

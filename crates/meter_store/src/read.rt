@@ -12,6 +12,7 @@ pub fn slice_of(store: &[u8], k: Key) -> [u16; 4]
 }
 
 // The named slice and the five after it.
+#[tactic(auto, unfolding(crate::specs::Store::six_of))]
 pub fn six_of(store: &[u8], k: Key) -> [[u16; 4]; 6]
     ensures { result ≡ six_of store.now k }
 {
@@ -26,6 +27,7 @@ pub fn six_of(store: &[u8], k: Key) -> [[u16; 4]; 6]
     ]
 }
 
+#[tactic(auto, unfolding(crate::specs::Store::slice_of, crate::specs::Store::is_kept))]
 fn named(store: &[u8], month: u8, day: u8, number: u16) -> [u16; 4]
     ensures { result ≡ slice_of store.now (key_of month day number) }
 {
@@ -37,6 +39,7 @@ fn named(store: &[u8], month: u8, day: u8, number: u16) -> [u16; 4]
 }
 
 // The counts at place i.
+#[tactic(auto, unfolding(crate::specs::Store::row_at))]
 fn row_at(store: &[u8], i: u16) -> [u16; 4]
     ensures { result ≡ row_at store.now i }
 {

@@ -1,4 +1,5 @@
 -- What follows from the definitions of specs/Bits.antt, for proofs alone: no contract cites it.
+use Rattle.std.specs.Prelude.{None, Option, Some}
 use mathlib.Core.Path.{◌≡◌, refl, sym, ◌∙◌}
 use mathlib.Core.Bool.{Bool, true, false}
 use Prim.Native.Nat.{ℕ}
@@ -9,8 +10,6 @@ use Rattle.meter_record.specs.Power.{in_bounds, are_powers}
 use Rattle.meter_record.proofs.PowerLaws.{bounds-finite, powers-bounds}
 use Rattle.meter_record.specs.Record.{set_powers}
 use Rattle.meter_record.specs.declared.record.Record.{Record}
-use Rattle.meter_record_bytes.specs.declared.record.RecordRead.{RecordRead}
-use Rattle.meter_record_bytes.specs.declared.record.RecordRead.TheVariants.{Read, Unreadable}
 use Rattle.metlazuel.specs.MeterCalls.{phases_from, powers_in}
 use Rattle.metlazuel.specs.Bits.{float_from}
 
@@ -62,7 +61,7 @@ set-alike r n a b c = go (are_powers (phases_from a b c)) refl
         )
 
 -- so the answer is that to the powers with these bits
-pub powers-from : (x : RecordRead) (n a b c : ℕ) → powers_in x n (phases_handed a b c) ≡ powers_in x n (phases_from a b c)
+pub powers-from : (x : Option Record) (n a b c : ℕ) → powers_in x n (phases_handed a b c) ≡ powers_in x n (phases_from a b c)
 unfolding powers_in
-powers-from (Read r) n a b c = set-alike r n a b c
-powers-from Unreadable n a b c = refl
+powers-from (Some r) n a b c = set-alike r n a b c
+powers-from None n a b c = refl

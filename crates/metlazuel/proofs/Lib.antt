@@ -1,4 +1,3 @@
 pub mod BitsLaws
 pub mod WireLaws
-pub mod LogLaws
 pub mod CellLaws

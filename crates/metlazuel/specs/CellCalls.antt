@@ -1,5 +1,6 @@
 -- What C is given of a log's single cells. Source: document 01, "The reader and the log" and "Refusal numbers"; document 02, CR 7.
-use Rattle.std.specs.Prelude.{List, [], ◌∷◌, ℕ, ltb}
+use Rattle.std.specs.Prelude.{List, [], ◌∷◌, ℕ, ltb, Option}
+use Rattle.std.specs.Option.{unwrap_or}
 use Rattle.refusal.specs.Outcome.{Outcome, outcome, check}
 use Rattle.log_header.specs.Header.{if_sound}
 use Rattle.log_header.specs.Interval.{interval_of, if_at}
@@ -8,8 +9,6 @@ use Rattle.energy_log.specs.View.{View}
 use Rattle.log_cell.specs.declared.cell.Cell.{Cell}
 use Rattle.log_cell.specs.declared.cell.Cell.TheVariants.{Gap, Empty, Measured}
 use Rattle.polling.specs.Next.{next_gap}
-use Rattle.polling.specs.declared.next.Next.{Next}
-use Rattle.polling.specs.declared.next.Next.TheVariants.{Slot, Nothing}
 
 -- "0 gap, 1 empty, 2 measured"
 unfoldable pub kind_of : Cell → ℕ
@@ -32,9 +31,8 @@ cell_for_c v day slot kind counts lapses =
     if_good (v.cell i) (outcome 28 (kind, counts, lapses)) (λ c. outcome 0 (kind_of c, counts_of c, v.lapses i))))
 
 -- the slot that was found; 255, which is no slot of a day, where there is none
-unfoldable pub slot_of : Next → ℕ
-slot_of (Slot k) = k
-slot_of Nothing = 255
+unfoldable pub slot_of : Option ℕ → ℕ
+slot_of k = unwrap_or k 255
 
 -- left: the lent slot. 28, 22 for a "day not in the log"; a refusal leaves it
 unfoldable pub next_gap_for_c : View → ℕ → ℕ → ℕ → Outcome ℕ ℕ

@@ -1,6 +1,7 @@
 -- What C is given of a decoded reply: the figures as a row of 32-bit numbers, how many they are, the meter's result where it is not
 -- 0, and the length where it is wrong.
-use Rattle.std.specs.Prelude.{cond, List, ℕ, eqb, ltb, length}
+use Rattle.reader.specs.declared.reply.DecodeError.{DecodeError}
+use Rattle.std.specs.Prelude.{cond, List, ℕ, eqb, ltb, length, Result}
 use Rattle.refusal.specs.Outcome.{Outcome, outcome}
 use Rattle.byte_numbers.specs.Place.{written}
 use Rattle.parameters.specs.declared.code.Reading.{Reading}
@@ -17,11 +18,11 @@ request_from reading address parameter offset tariff detail =
     record { reading = reading; address = address; parameter = parameter; offset = offset; tariff = tariff; detail = detail }
 
 -- the lent count: how many figures there are, and untouched by a refusal
-unfoldable pub count_after : Decoded → List ℕ → ℕ → ℕ
+unfoldable pub count_after : Result Decoded DecodeError → List ℕ → ℕ → ℕ
 count_after d y before = cond (eqb (number_of d) 0) (length (figure_row d y)) before
 
 -- left: the count, the meter's result, the length received, and the row, with the figures at its front; a refusal has none
-abbrev pub decoded_for_c : Decoded → List ℕ → List ℕ → ℕ → ℕ → ℕ → Outcome ℕ (ℕ × ℕ × ℕ × List ℕ)
+abbrev pub decoded_for_c : Result Decoded DecodeError → List ℕ → List ℕ → ℕ → ℕ → ℕ → Outcome ℕ (ℕ × ℕ × ℕ × List ℕ)
 decoded_for_c d y row count result size =
     let n = number_of d in
     outcome n (count_after d y count, result_after n y result, received_after n y size, written row 0 (figure_row d y))

@@ -8,22 +8,22 @@ ghost use Rattle.metlazuel.specs.MeterCalls.{bytes_left, sent_length, answer_for
 use crate::given;
 use frame::layout::LONGEST;
 use meter::Answered;
-use meter_record_bytes::RecordRead;
+use refusal::Numbered;
 
 // The record after a command that is done; a read leaves its bytes.
+#[tactic(auto, unfolding(crate::specs::MeterCalls::bytes_left))]
 fn put_after(meter: &mut [u8], frame: &[u8], answer: Answered)
     ensures { meter.new ≡ bytes_left answer frame.now meter.old }
 {
-    let verdict = answer.verdict;
-    if meter_command::is_done(verdict) {
-        if meter_reply_data::is_read(meter_command::function_in(frame)) {
-            return;
-        }
+    if meter_command::is_done(answer.verdict)
+        && !meter_reply_data::is_read(meter_command::function_in(frame))
+    {
         meter_record_bytes::put_record(meter, answer.after);
     }
 }
 
 // The reply's length where one is sent.
+#[tactic(auto, unfolding(crate::specs::MeterCalls::sent_length))]
 fn sent_length(sent: usize, before: usize) -> usize
     ensures { result ≡ sent_length sent before }
 {
@@ -34,6 +34,7 @@ fn sent_length(sent: usize, before: usize) -> usize
 //     size_t room, size_t *length)
 //
 // The reply goes to the front of `out`, and its length to `length`, which is left as it was where the meter is silent.
+#[tactic(auto, unfolding(crate::specs::MeterCalls::answer_for_c))]
 pub fn metlazuel_meter_answer(
     meter: &mut [u8],
     store: &mut [u8],
@@ -45,12 +46,11 @@ pub fn metlazuel_meter_answer(
         ≡ answer_for_c (record_of meter.old) length.old meter.old store.old frame.now
         out.old }
 {
-    let RecordRead::Read(r) = meter_record_bytes::record_of(meter) else {
+    let Some(r) = meter_record_bytes::record_of(meter) else {
         return given::unread_number(out.len(), LONGEST);
     };
     let answer = meter::answer(r, store, frame, out);
     put_after(meter, frame, answer);
     *length = sent_length(answer.length, *length);
-    let verdict = answer.verdict;
-    verdict.number()
+    answer.verdict.number()
 }

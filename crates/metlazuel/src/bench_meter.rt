@@ -9,8 +9,9 @@ ghost use Rattle.metlazuel.specs.MeterCalls.{telemetry_from, clock_from, phases_
 ghost use Rattle.metlazuel.specs.MeterCalls.{key, row, slice_in, bytes_after, bench_for_c, make_for_c, put_for_c};
 
 use calendar::{Date, DateTime};
-use meter_record::{Ratios, RecordAnswer};
-use meter_record_bytes::{RECORD_BYTES, RecordRead, SeasonRead};
+use meter_record::{Ratios, Record, RecordError};
+use meter_record_bytes::RECORD_BYTES;
+use refusal::Numbered;
 use slots::Key;
 use wire_values::{Phases, Telemetry};
 
@@ -20,35 +21,33 @@ const INFINITY: u32 = 0x7F80_0000;
 const SIGN: u32 = 0x8000_0000;
 
 // The bytes of the record that an answer left, if it left one.
-fn put_done(meter: &mut [u8], answer: RecordAnswer)
+#[tactic(auto, unfolding(crate::specs::MeterCalls::bytes_after))]
+fn put_done(meter: &mut [u8], answer: Result<Record, RecordError>)
     ensures { meter.new ≡ bytes_after answer meter.old }
 {
-    match answer {
-        RecordAnswer::Done(r) => meter_record_bytes::put_record(meter, r),
-        RecordAnswer::OutOfRange => {}
-        RecordAnswer::Unsound => {}
+    if let Ok(r) = answer {
+        meter_record_bytes::put_record(meter, r);
     }
 }
 
-fn keep(meter: &mut [u8], answer: RecordAnswer) -> u8
+fn keep(meter: &mut [u8], answer: Result<Record, RecordError>) -> u8
     ensures { outcome result meter.new ≡ bench_for_c answer meter.old }
 {
     put_done(meter, answer);
     answer.number()
 }
 
+#[tactic(auto, unfolding(crate::specs::MeterCalls::made_in))]
 fn made_in(
     address: u8,
     minutes: u8,
     telemetry: Telemetry,
     clock: DateTime,
     season: u8,
-) -> RecordAnswer
+) -> Result<Record, RecordError>
     ensures { result ≡ made_in address minutes telemetry clock season }
 {
-    let SeasonRead::Read(s) = meter_record_bytes::season_of(season) else {
-        return RecordAnswer::OutOfRange;
-    };
+    let s = meter_record_bytes::season_of(season).ok_or(RecordError::OutOfRange)?;
     meter_record::make(address, minutes, telemetry, clock, s)
 }
 
@@ -56,6 +55,7 @@ fn made_in(
 //     uint8_t year, uint8_t month, uint8_t day, uint8_t hour, uint8_t minute, uint8_t second, uint8_t season)
 //
 // A meter from the factory; `year` counts from 2000, `season` is 0 for winter and 1 for summer.
+#[tactic(auto, unfolding(crate::specs::MeterCalls::make_for_c))]
 pub fn metlazuel_meter_make(
     meter: &mut [u8],
     address: u8,
@@ -74,20 +74,12 @@ pub fn metlazuel_meter_make(
     ensures { outcome result meter.new
         ≡ make_for_c (made_in address minutes (telemetry_from k ke reserve) (clock_from year month day hour minute second) season) meter.old }
 {
-    let telemetry = Telemetry {
-        k: k,
-        ke: ke,
-        reserve: reserve,
-    };
+    let telemetry = Telemetry { k, ke, reserve };
     let clock = DateTime {
-        date: Date {
-            year: year,
-            month: month,
-            day: day,
-        },
-        hour: hour,
-        minute: minute,
-        second: second,
+        date: Date { year, month, day },
+        hour,
+        minute,
+        second,
     };
     if meter.len() < RECORD_BYTES {
         return refusal::TOO_SHORT;
@@ -95,13 +87,12 @@ pub fn metlazuel_meter_make(
     keep(meter, made_in(address, minutes, telemetry, clock, season))
 }
 
-fn second_in(read: RecordRead) -> RecordAnswer
+// This and the three like it hand on what each call has: a second, powers, ratios, a slice.
+#[tactic(auto, unfolding(crate::specs::MeterCalls::second_in))]
+fn second_in(read: Option<Record>) -> Result<Record, RecordError>
     ensures { result ≡ second_in read }
 {
-    match read {
-        RecordRead::Read(r) => meter_record::pass_second(r),
-        RecordRead::Unreadable => RecordAnswer::Unsound,
-    }
+    meter_record::pass_second(read.ok_or(RecordError::Unsound)?)
 }
 
 // uint8_t metlazuel_meter_second(uint8_t *meter, size_t n)
@@ -114,13 +105,11 @@ pub fn metlazuel_meter_second(meter: &mut [u8]) -> u8
     keep(meter, answer)
 }
 
-fn powers_in(read: RecordRead, parameter: u8, phases: Phases) -> RecordAnswer
+#[tactic(auto, unfolding(crate::specs::MeterCalls::powers_in))]
+fn powers_in(read: Option<Record>, parameter: u8, phases: Phases) -> Result<Record, RecordError>
     ensures { result ≡ powers_in read parameter phases }
 {
-    match read {
-        RecordRead::Read(r) => meter_record::set_powers(r, parameter, phases),
-        RecordRead::Unreadable => RecordAnswer::Unsound,
-    }
+    meter_record::set_powers(read.ok_or(RecordError::Unsound)?, parameter, phases)
 }
 
 // The float with these bits; the infinity for what is no number, which Rattle leaves open and which is out of bounds too.
@@ -149,13 +138,11 @@ pub fn metlazuel_meter_powers(meter: &mut [u8], parameter: u8, a: u32, b: u32, c
     keep(meter, answer)
 }
 
-fn ratios_in(read: RecordRead, ratios: Ratios) -> RecordAnswer
+#[tactic(auto, unfolding(crate::specs::MeterCalls::ratios_in))]
+fn ratios_in(read: Option<Record>, ratios: Ratios) -> Result<Record, RecordError>
     ensures { result ≡ ratios_in read ratios }
 {
-    match read {
-        RecordRead::Read(r) => meter_record::set_ratios(r, ratios),
-        RecordRead::Unreadable => RecordAnswer::Unsound,
-    }
+    meter_record::set_ratios(read.ok_or(RecordError::Unsound)?, ratios)
 }
 
 // uint8_t metlazuel_meter_ratios(uint8_t *meter, size_t n, uint32_t ki, uint32_t ku)
@@ -164,18 +151,21 @@ fn ratios_in(read: RecordRead, ratios: Ratios) -> RecordAnswer
 pub fn metlazuel_meter_ratios(meter: &mut [u8], ki: u32, ku: u32) -> u8
     ensures { outcome result meter.new ≡ bench_for_c (ratios_in (record_of meter.old) (ratios_from ki ku)) meter.old }
 {
-    let ratios = Ratios { ki: ki, ku: ku };
+    let ratios = Ratios { ki, ku };
     let answer = ratios_in(meter_record_bytes::record_of(meter), ratios);
     keep(meter, answer)
 }
 
-fn slice_in(read: RecordRead, store: &mut [u8], k: Key, counts: [u16; 4]) -> RecordAnswer
+#[tactic(auto, unfolding(crate::specs::MeterCalls::slice_in))]
+fn slice_in(
+    read: Option<Record>,
+    store: &mut [u8],
+    k: Key,
+    counts: [u16; 4],
+) -> Result<Record, RecordError>
     ensures { outcome result store.new ≡ slice_in read store.old k counts }
 {
-    match read {
-        RecordRead::Read(r) => meter::put_slice(r, store, k, counts),
-        RecordRead::Unreadable => RecordAnswer::Unsound,
-    }
+    meter::put_slice(read.ok_or(RecordError::Unsound)?, store, k, counts)
 }
 
 // uint8_t metlazuel_meter_slice(uint8_t *meter, size_t n, uint8_t *store, size_t size, uint8_t month, uint8_t day, uint8_t number,
@@ -196,11 +186,7 @@ pub fn metlazuel_meter_slice(
     ensures { outcome result (meter.new, store.new)
         ≡ put_for_c (slice_in (record_of meter.old) store.old (key month day number) (row eplus eminus rplus rminus)) meter.old }
 {
-    let key = Key {
-        month: month,
-        day: day,
-        number: number,
-    };
+    let key = Key { month, day, number };
     let read = meter_record_bytes::record_of(meter);
     let answer = slice_in(read, store, key, [eplus, eminus, rplus, rminus]);
     keep(meter, answer)

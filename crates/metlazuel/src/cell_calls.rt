@@ -2,11 +2,9 @@
 ghost use Rattle.std.specs.Prelude.{◌≡◌};
 ghost use Rattle.refusal.specs.Outcome.{outcome};
 ghost use Rattle.energy_log.specs.View.{view_of};
-ghost use Rattle.metlazuel.specs.CellCalls.{kind_of, counts_of, cell_for_c, slot_of, next_gap_for_c};
+ghost use Rattle.metlazuel.specs.CellCalls.{kind_of, counts_of, cell_for_c, next_gap_for_c};
 
-use log_cell::{Cell, CellAnswer};
-use log_header::{Interval, LogHeader};
-use polling::Next;
+use log_cell::Cell;
 
 // The kinds, as a cell's first byte has them.
 const GAP: u8 = 0;
@@ -22,6 +20,7 @@ const NO_GAP: u8 = 255;
 //
 // The cell of a slot of a day, both counted from 0: its kind goes to `kind`, E+, E-, R+ and R- to `counts`, and how many asks for it lapsed
 // to `lapses`.
+#[tactic(auto, unfolding(crate::specs::CellCalls::cell_for_c))]
 pub fn metlazuel_cell(
     log: &[u8],
     day: u8,
@@ -33,13 +32,13 @@ pub fn metlazuel_cell(
     ensures { outcome result (kind.new, counts.new, lapses.new)
         ≡ cell_for_c (view_of log.now) day slot kind.old counts.old lapses.old }
 {
-    let LogHeader::Sound(h) = log_header::sound(log) else {
+    let Some(h) = log_header::sound(log) else {
         return refusal::UNSOUND;
     };
-    let Interval::At(i) = log_header::interval_of(h, day, slot) else {
+    let Some(i) = log_header::interval_of(h, day, slot) else {
         return refusal::NOT_IN_LOG;
     };
-    let CellAnswer::Good(c) = energy_log::cell_at(log, i) else {
+    let Some(c) = energy_log::cell_at(log, i) else {
         return refusal::UNSOUND;
     };
     *kind = kind_of(c);
@@ -48,6 +47,7 @@ pub fn metlazuel_cell(
     refusal::DONE
 }
 
+#[tactic(auto, unfolding(crate::specs::CellCalls::kind_of))]
 fn kind_of(c: Cell) -> u8
     ensures { result ≡ kind_of c }
 {
@@ -58,12 +58,12 @@ fn kind_of(c: Cell) -> u8
     }
 }
 
+#[tactic(auto, unfolding(crate::specs::CellCalls::counts_of))]
 fn counts_of(c: Cell) -> [u16; 4]
     ensures { result ≡ counts_of c }
 {
     match c {
-        Cell::Gap => [0, 0, 0, 0],
-        Cell::Empty => [0, 0, 0, 0],
+        Cell::Gap | Cell::Empty => [0, 0, 0, 0],
         Cell::Measured(e_plus, e_minus, r_plus, r_minus) => [e_plus, e_minus, r_plus, r_minus],
     }
 }
@@ -71,24 +71,16 @@ fn counts_of(c: Cell) -> [u16; 4]
 // uint8_t metlazuel_next_gap(const uint8_t *log, size_t n, uint8_t day, uint8_t from, uint8_t *slot)
 //
 // The first slot of a day, from a slot on, whose cell is a gap goes to `slot`; 255 where none is one.
+#[tactic(auto, unfolding(crate::specs::CellCalls::next_gap_for_c, crate::specs::CellCalls::slot_of))]
 pub fn metlazuel_next_gap(log: &[u8], day: u8, from: u8, slot: &mut u8) -> u8
     ensures { outcome result slot.new ≡ next_gap_for_c (view_of log.now) day from slot.old }
 {
-    let LogHeader::Sound(h) = log_header::sound(log) else {
+    let Some(h) = log_header::sound(log) else {
         return refusal::UNSOUND;
     };
     if h.days <= day {
         return refusal::NOT_IN_LOG;
     }
-    *slot = slot_of(polling::next_gap(log, day, from));
+    *slot = polling::next_gap(log, day, from).unwrap_or(NO_GAP);
     refusal::DONE
-}
-
-fn slot_of(next: Next) -> u8
-    ensures { result ≡ slot_of next }
-{
-    match next {
-        Next::Slot(s) => s,
-        Next::Nothing => NO_GAP,
-    }
 }

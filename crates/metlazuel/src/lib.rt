@@ -13,6 +13,8 @@ ghost use Rattle.day_report.specs.Report.{report_of, report_number};
 ghost use Rattle.metlazuel.specs.Calls.{numbered, sized};
 ghost use Rattle.metlazuel.specs.LogCalls.{length_after};
 
+use refusal::Numbered;
+
 mod answer_call;
 mod bench_meter;
 mod cell_calls;
@@ -45,6 +47,7 @@ pub fn metlazuel_crc16(bytes: &[u8]) -> u16
 // uint8_t metlazuel_read_file(const uint8_t *file, size_t n, uint8_t *out, size_t room, uint32_t *figures, size_t numbers, size_t *length)
 //
 // The image's length goes to `length`, which a refusal leaves as it was, as it leaves `out` and `figures`.
+#[tactic(auto, unfolding(crate::specs::LogCalls::length_after))]
 pub fn metlazuel_read_file(
     file: &[u8],
     out: &mut [u8],
@@ -55,7 +58,7 @@ pub fn metlazuel_read_file(
         ≡ sized read_number length_after (read_file file.now out.old figures.old) length.old }
 {
     let answer = log_file::read_file(file, out, figures);
-    *length = answer.length_or(*length);
+    *length = answer.unwrap_or(*length);
     answer.number()
 }
 

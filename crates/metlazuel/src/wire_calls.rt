@@ -8,6 +8,7 @@ ghost use Rattle.metlazuel.specs.WireCalls.{request_from, decode_for_c};
 
 use crate::given;
 use parameters::code::Reading;
+use refusal::Numbered;
 use request::Request;
 
 // uint8_t metlazuel_request(uint8_t address, uint8_t parameter, uint8_t offset, uint8_t tariff, uint8_t detail, uint8_t *out, size_t room)
@@ -26,11 +27,11 @@ pub fn metlazuel_request(
 {
     let q = Request {
         reading: Reading::Stored,
-        address: address,
-        parameter: parameter,
-        offset: offset,
-        tariff: tariff,
-        detail: detail,
+        address,
+        parameter,
+        offset,
+        tariff,
+        detail,
     };
     request::put_request(q, out).number()
 }
@@ -51,11 +52,11 @@ pub fn metlazuel_request4(
 {
     let q = Request {
         reading: Reading::Displayed,
-        address: address,
-        parameter: parameter,
-        offset: offset,
-        tariff: tariff,
-        detail: detail,
+        address,
+        parameter,
+        offset,
+        tariff,
+        detail,
     };
     request::put_request(q, out).number()
 }
@@ -83,11 +84,11 @@ pub fn metlazuel_decode(
 {
     let q = Request {
         reading: Reading::Stored,
-        address: address,
-        parameter: parameter,
-        offset: offset,
-        tariff: tariff,
-        detail: detail,
+        address,
+        parameter,
+        offset,
+        tariff,
+        detail,
     };
     decode(q, reply, figures, count, res, length)
 }
@@ -114,15 +115,16 @@ pub fn metlazuel_decode4(
 {
     let q = Request {
         reading: Reading::Displayed,
-        address: address,
-        parameter: parameter,
-        offset: offset,
-        tariff: tariff,
-        detail: detail,
+        address,
+        parameter,
+        offset,
+        tariff,
+        detail,
     };
     decode(q, reply, figures, count, res, length)
 }
 
+#[tactic(auto, unfolding(crate::specs::WireCalls::decode_for_c))]
 fn decode(
     q: Request,
     reply: &[u8],

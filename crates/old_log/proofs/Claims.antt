@@ -2,6 +2,7 @@
 use mathlib.Core.Path.{◌≡◌, refl, ap}
 use mathlib.Core.List.{List, [], ◌∷◌}
 use Prim.Native.Nat.{ℕ}
+use Rattle.std.specs.Prelude.{None, Option, Some}
 use Rattle.energy_log.specs.Fresh.{fresh_image}
 use Rattle.energy_log.specs.View.{View}
 use Rattle.day_rows.specs.LogAndRows.{LogAndRows}
@@ -19,17 +20,11 @@ use Rattle.logger.specs.Run.{State, step}
 use Rattle.logger.specs.declared.held.OpenAsk.{OpenAsk}
 use Rattle.polling.specs.Fate.{heard, ask_settled}
 use Rattle.c_values.specs.Ask.{ask_of}
-use Rattle.c_values.specs.declared.ask.AskRead.{AskRead}
-use Rattle.c_values.specs.declared.ask.AskRead.TheVariants.{Read, Unreadable}
 use Rattle.metlazuel.specs.Calls.{numbered, sized}
 use Rattle.metlazuel.specs.LogCalls.{file_length, ask_for_c, lapse_for_c, take_for_c}
 use Rattle.metlazuel.specs.CellCalls.{cell_for_c, next_gap_for_c}
 use Rattle.c_claims.specs.Demand3.{Lent, step_for_c}
 use Rattle.console.specs.Form.{short_in, year_of}
-use Rattle.console.specs.declared.form.YearAnswer.{YearAnswer}
-use Rattle.console.specs.declared.form.YearAnswer.TheVariants.{Year, OutOfRange}
-use Rattle.console.specs.declared.value.BytesAnswer.{BytesAnswer}
-use Rattle.console.specs.declared.value.BytesAnswer.TheVariants as digits
 use Rattle.console_log.specs.Log as line
 use Rattle.console_log.specs.declared.logs.ConsoleLog.{ConsoleLog}
 use Rattle.polling.specs.Next.{next_wanted}
@@ -41,7 +36,7 @@ use Rattle.old_log.proofs.SameLaws as same
 use Rattle.old_log.proofs.ForCLaws as for-c
 use Rattle.old_log.proofs.LineLaws as lines
 
-today-settle : (b : LogAndRows) (held : OpenAsk) (y : List ℕ) → settled_in columns b held y ≡ ask_settled b held y
+today-settle : (b : LogAndRows) (held : Option OpenAsk) (y : List ℕ) → settled_in columns b held y ≡ ask_settled b held y
 unfolding settled_in ask_settled heard_in heard taken_in taken lapsed_in lapsed
 today-settle b held [] = refl
 today-settle b held (x ∷ y) = refl
@@ -82,15 +77,15 @@ same-answers = record {
 
 -- ---- C's calls
 
-today-lapse-c : (a : AskRead) (log bs : List ℕ) → lapse_for_c_in columns a log bs ≡ lapse_for_c a log bs
+today-lapse-c : (a : Option (Option OpenAsk)) (log bs : List ℕ) → lapse_for_c_in columns a log bs ≡ lapse_for_c a log bs
 unfolding lapse_for_c_in lapse_for_c lapsed_in lapsed
-today-lapse-c (Read held) log bs = refl
-today-lapse-c Unreadable log bs = refl
+today-lapse-c (Some held) log bs = refl
+today-lapse-c None log bs = refl
 
-today-take-c : (a : AskRead) (b : LogAndRows) (bs y : List ℕ) (result size : ℕ) → take_for_c_in columns a b bs y result size ≡ take_for_c a b bs y result size
+today-take-c : (a : Option (Option OpenAsk)) (b : LogAndRows) (bs y : List ℕ) (result size : ℕ) → take_for_c_in columns a b bs y result size ≡ take_for_c a b bs y result size
 unfolding take_for_c_in take_for_c taken_in taken
-today-take-c (Read held) b bs y result size = refl
-today-take-c Unreadable b bs y result size = refl
+today-take-c (Some held) b bs y result size = refl
+today-take-c None b bs y result size = refl
 
 today-step-c : (m : Lent) (c : Call) → step_for_c_in columns m c ≡ step_for_c m c
 unfolding step_for_c_in step_for_c
@@ -124,15 +119,15 @@ same-for-c = record {
 
 -- ---- the console's lines
 
-today-year : (y : YearAnswer) (text : List ℕ) (b : LogAndRows) (kept : ConsoleLog) → fresh_year columns y text b kept ≡ line.fresh_in y text b kept
+today-year : (y : Option ℕ) (text : List ℕ) (b : LogAndRows) (kept : ConsoleLog) → fresh_year columns y text b kept ≡ line.fresh_in y text b kept
 unfolding fresh_year line.fresh_in fresh_in fresh_with fresh_image
-today-year (Year year) text b kept = refl
-today-year OutOfRange text b kept = refl
+today-year (Some year) text b kept = refl
+today-year None text b kept = refl
 
-today-bytes : (x : BytesAnswer) (buffer : List ℕ) (b : LogAndRows) (kept : ConsoleLog) → reply_bytes columns x buffer b kept ≡ line.reply_in x buffer b kept
+today-bytes : (x : Option ℕ) (buffer : List ℕ) (b : LogAndRows) (kept : ConsoleLog) → reply_bytes columns x buffer b kept ≡ line.reply_in x buffer b kept
 unfolding reply_bytes line.reply_in line.reply_of taken_in taken
-today-bytes (digits.Bytes n) buffer b kept = refl
-today-bytes digits.Unread buffer b kept = refl
+today-bytes (Some n) buffer b kept = refl
+today-bytes None buffer b kept = refl
 
 pub today-lines : TodayLines
 unfolding fresh_line_in line.fresh_line read_in read_fields_in read_cells_in read_file read_fields read_cells ask_line_in line.ask_line line.asked_for lapse_line_in line.lapse_line line.lapse_of

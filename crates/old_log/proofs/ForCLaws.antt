@@ -4,21 +4,18 @@ use mathlib.Core.Path.{◌≡◌, refl, sym, ap, ap₂, subst, ◌∙◌}
 use mathlib.Core.List.{List, [], ◌∷◌}
 use Prim.Native.Nat.{ℕ}
 use lib.ListN.{take}
+use Rattle.std.specs.Prelude.{None, Ok, Option, Some}
 use Rattle.refusal.specs.Outcome.{Outcome}
 use Rattle.byte_numbers.specs.Number.{Bytes}
 use Rattle.energy_log.specs.Fresh.{fresh_number}
 use Rattle.log_header.specs.declared.header.Header.{Header}
-use Rattle.log_header.specs.declared.header.LogHeader.TheVariants.{Sound}
-use Rattle.energy_log.specs.declared.fresh.FreshAnswer.TheVariants as fresh
 use Rattle.day_rows.specs.LogAndRows.{LogAndRows, log_and_rows}
 use Rattle.log_file.specs.Read.{read_number}
-use Rattle.log_file.specs.declared.read.ReadAnswer.TheVariants as read
 use Rattle.logger.specs.Lapse as Lapse
 use Rattle.logger.specs.Take as Take
 use Rattle.logger.specs.Book.{Call, ask, lapse, reply, Answer, run_of, CallBytes, AllBytes}
+use Rattle.logger.specs.declared.held.OpenAsk.{OpenAsk}
 use Rattle.c_values.specs.Ask.{ask_of}
-use Rattle.c_values.specs.declared.ask.AskRead.{AskRead}
-use Rattle.c_values.specs.declared.ask.AskRead.TheVariants.{Read, Unreadable}
 use Rattle.metlazuel.specs.Calls.{sized}
 use Rattle.metlazuel.specs.LogCalls.{image_length, length_after, ask_left, ask_for_c}
 use Rattle.c_claims.specs.Demand3.{Lent, told}
@@ -32,22 +29,22 @@ use Rattle.old_log.proofs.SameLaws as same
 -- ---- calls that alter a log
 
 -- the field `lapse` of `SameForC`
-pub same-lapse : (s t : List ℕ) → Alike s t → (a : AskRead) (bs : List ℕ) → SameLapse (lapse_for_c_in rows a s bs) (lapse_for_c_in columns a t bs)
+pub same-lapse : (s t : List ℕ) → Alike s t → (a : Option (Option OpenAsk)) (bs : List ℕ) → SameLapse (lapse_for_c_in rows a s bs) (lapse_for_c_in columns a t bs)
 unfolding lapse_for_c_in
-same-lapse s t e (Read held) bs =
+same-lapse s t e (Some held) bs =
     let w = same.same-lapse s t held held e refl in
     record {
       answer = λ i. Lapse.number_of (w.answer i).answer;
       seen = w.seen;
       ask = λ i. ask_left held (w.answer i).held bs;
     }
-same-lapse s t e Unreadable bs = record { answer = refl; seen = e; ask = refl }
+same-lapse s t e None bs = record { answer = refl; seen = e; ask = refl }
 
 -- its field `take`
-pub same-take : (b c : LogAndRows) → Alike b.log c.log → b.figures ≡ c.figures → (a : AskRead) (bs y : List ℕ) (result size : ℕ) → Bytes y
+pub same-take : (b c : LogAndRows) → Alike b.log c.log → b.figures ≡ c.figures → (a : Option (Option OpenAsk)) (bs y : List ℕ) (result size : ℕ) → Bytes y
     → SameTake (take_for_c_in rows a b bs y result size) (take_for_c_in columns a c bs y result size)
 unfolding take_for_c_in
-same-take b c e q (Read held) bs y result size bytes =
+same-take b c e q (Some held) bs y result size bytes =
     let w = same.same-take b c held held y e q refl bytes in
     record {
       answer = λ i. Take.number_of (w.answer i).answer;
@@ -57,7 +54,7 @@ same-take b c e q (Read held) bs y result size bytes =
       figures = w.figures;
       ask = λ i. ask_left held (w.answer i).held bs;
     }
-same-take b c e q Unreadable bs y result size bytes = record { answer = refl; result = refl; size = refl; seen = e; figures = q; ask = refl }
+same-take b c e q None bs y result size bytes = record { answer = refl; result = refl; size = refl; seen = e; figures = q; ask = refl }
 
 -- ---- calls that make a log
 
@@ -77,7 +74,7 @@ module _ {A : Type 0} (number : A → ℕ) (done : ℕ → A) (size : A → ℕ 
           header = m.header;
           old_length = p;
           new_length = q;
-          sound = subst (λ (k : ℕ). (columns.view (take k n.left.log)).lent ≡ Sound m.header) (sym q) m.sound;
+          sound = subst (λ (k : ℕ). (columns.view (take k n.left.log)).lent ≡ Some m.header) (sym q) m.sound;
           seen = subst (λ (k : ℕ). Alike (take (size o.result word) o.left.log) (take k n.left.log)) (sym q)
               (subst (λ (k : ℕ). Alike (take k o.left.log) (take (columns.size m.header) n.left.log)) (sym p) m.seen);
         };
@@ -94,12 +91,12 @@ module _ {A : Type 0} (number : A → ℕ) (done : ℕ → A) (size : A → ℕ 
 -- its field `fresh`
 pub same-fresh : (h : Header) (a b figs : List ℕ) (word : ℕ) → Rooms h a b → SameMadeForC a b word (fresh_for_c_in rows h a figs word) (fresh_for_c_in columns h b figs word)
 unfolding image_length
-same-fresh h a b figs word room = made-for-c fresh_number fresh.Done image_length (λ n w. refl) image-kept a b word _ _ (same.same-fresh h a b figs room)
+same-fresh h a b figs word room = made-for-c fresh_number Ok image_length (λ n w. refl) image-kept a b word _ _ (same.same-fresh h a b figs room)
 
 -- its field `read`
 pub same_read : (f a b figs : List ℕ) (word : ℕ) → Bytes f → FileRooms f a b → SameMadeForC a b word (read_for_c_in rows f a figs word) (read_for_c_in columns f b figs word)
 unfolding length_after
-same_read f a b figs word bytes room = made-for-c read_number read.Done length_after (λ n w. refl) length-kept a b word _ _ (same.same_read f a b figs bytes room)
+same_read f a b figs word bytes room = made-for-c read_number Ok length_after (λ n w. refl) length-kept a b word _ _ (same.same_read f a b figs bytes room)
 
 -- ---- a list of calls
 

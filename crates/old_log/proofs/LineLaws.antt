@@ -8,6 +8,7 @@ use lib.Dec.{eqb, leb, ltb}
 use lib.ListN.{length, take, drop, get_or, replicate, length-append, length-take}
 use lib.Seq.{take_at, length-take-le}
 use borrow.Author.Tests.{le-ltb, le-leb, ltb-true, eqb-true, eqb-false}
+use Rattle.std.specs.Prelude.{Err, None, Ok, Option, Result, Some}
 use Rattle.refusal.specs.Outcome.{Outcome, outcome}
 use Rattle.byte_numbers.specs.Number.{Bytes}
 use Rattle.byte_numbers.specs.Place.{written}
@@ -15,34 +16,22 @@ use Rattle.test_laws.proofs.Test.{either}
 use Rattle.frame.specs.Layout.{read_size}
 use Rattle.energy_log.specs.Fresh.{fresh_number}
 use Rattle.energy_log.specs.View.{View}
-use Rattle.log_header.specs.declared.header.LogHeader.TheVariants.{Sound}
-use Rattle.energy_log.specs.declared.fresh.FreshAnswer.{FreshAnswer}
-use Rattle.energy_log.specs.declared.fresh.FreshAnswer.TheVariants as fresh
 use Rattle.log_header.proofs.HeaderLaws.{sound-log}
 use Rattle.energy_log.proofs.ImageLaws.{bytes-written}
 use Rattle.energy_log.proofs.ViewLaws as new
+use Rattle.energy_log.specs.declared.fresh.FreshError.{FreshError}
 use Rattle.day_rows.specs.LogAndRows.{LogAndRows, log_and_rows}
 use Rattle.log_file.specs.Read.{read_number}
-use Rattle.log_file.specs.declared.read.ReadAnswer.{ReadAnswer}
-use Rattle.log_file.specs.declared.read.ReadAnswer.TheVariants as read
+use Rattle.log_file.specs.declared.read.ReadError.{ReadError}
 use Rattle.logger.specs.Ask.{asked}
 use Rattle.logger.specs.Lapse.{lapsing}
 use Rattle.logger.specs.Take.{decided}
 use Rattle.logger.specs.declared.held.OpenAsk.{OpenAsk}
-use Rattle.logger.specs.declared.held.OpenAsk.TheVariants.{Closed}
 use Rattle.text.specs.Hex.{hex_value}
-use Rattle.text.specs.declared.hex.HexAnswer.{HexAnswer}
-use Rattle.text.specs.declared.hex.HexAnswer.TheVariants.{Value, NotHex}
 use Rattle.c_claims.proofs.Ends.{read-refused}
 use Rattle.console.specs.Line.{part_of, spaces_in, word_at}
 use Rattle.console.specs.Value.{pair_at, pair_of, low_of, on_pair, read_from, bytes_read}
 use Rattle.console.specs.Form.{is_form, byte_in, short_in, year_of}
-use Rattle.console.specs.declared.form.YearAnswer.{YearAnswer}
-use Rattle.console.specs.declared.form.YearAnswer.TheVariants.{Year, OutOfRange}
-use Rattle.console.specs.declared.value.ByteAnswer.{ByteAnswer}
-use Rattle.console.specs.declared.value.ByteAnswer.TheVariants.{Byte, Unread}
-use Rattle.console.specs.declared.value.BytesAnswer.{BytesAnswer}
-use Rattle.console.specs.declared.value.BytesAnswer.TheVariants as digits
 use Rattle.console_log.specs.Words.{reply_read}
 use Rattle.console_log.specs.Log.{with_ask, kept_after, kept_loaded}
 use Rattle.console_log.specs.declared.logs.ConsoleLog.{ConsoleLog}
@@ -62,7 +51,7 @@ room s a k e = rw (length-append s (drop k a)) (omega (arith, e))
 -- ---- lines that alter a log
 
 -- what two calls left of the logs, laid over the images
-laid : (a b s t : List ℕ) (k j : ConsoleLog) (g h : OpenAsk) → length s ≡ k.length → length t ≡ j.length → Alike s t → g ≡ h
+laid : (a b s t : List ℕ) (k j : ConsoleLog) (g h : Option OpenAsk) → length s ≡ k.length → length t ≡ j.length → Alike s t → g ≡ h
     → SameKept (s ++ drop k.length a) (with_ask k g) (t ++ drop j.length b) (with_ask j h)
 laid a b s t k j g h p q e same = record {
   old_room = room s a k.length p;
@@ -115,7 +104,7 @@ module _ (line a b : List ℕ) (k j : ConsoleLog) (w : SameKept a k b j) where
           (new.length-applied (lapsing (columns.view t) j.held).change t ∙ new-size) z.seen (λ i. (z.answer i).held))
 
   same_bytes : (figs y : List ℕ) → Bytes y → (n : ℕ) (buffer : List ℕ) → part_of n buffer ≡ y
-      → SameLine (reply_bytes rows (digits.Bytes n) buffer (log_and_rows a figs) k) (reply_bytes columns (digits.Bytes n) buffer (log_and_rows b figs) j)
+      → SameLine (reply_bytes rows (Some n) buffer (log_and_rows a figs) k) (reply_bytes columns (Some n) buffer (log_and_rows b figs) j)
   unfolding reply_bytes taken_in
   same_bytes figs y bytes n buffer e =
       let z = same.same-take (log_and_rows s figs) (log_and_rows t figs) k.held j.held y w.seen refl w.held bytes in
@@ -139,37 +128,37 @@ zeros zero j = omega arith
 zeros (suc n) zero = omega arith
 zeros (suc n) (suc j) = zeros n j
 
-abbrev Small : ByteAnswer → Type 0
-Small (Byte b) = b < 256
-Small Unread = Unit
+abbrev Small : Option ℕ → Type 0
+Small (Some b) = b < 256
+Small None = Unit
 
-low_small : (h : ℕ) (low : HexAnswer) → Small (low_of h low)
+low_small : (h : ℕ) (low : Option ℕ) → Small (low_of h low)
 unfolding low_of
-low_small h (Value l) = go (ltb h 16) (ltb l 16) refl refl
+low_small h (Some l) = go (ltb h 16) (ltb l 16) refl refl
   where
-    go : (p q : Bool) → ltb h 16 ≡ p → ltb l 16 ≡ q → Small (cond p (cond q (Byte (h * 16 + l)) Unread) Unread)
+    go : (p q : Bool) → ltb h 16 ≡ p → ltb l 16 ≡ q → Small (cond p (cond q (Some (h * 16 + l)) None) None)
     go true true e f = omega (arith, ltb-true h 16 e, ltb-true l 16 f)
     go true false e f = tt
     go false q e f = tt
-low_small h NotHex = tt
+low_small h None = tt
 
-pair_small : (high low : HexAnswer) → Small (pair_of high low)
+pair_small : (high low : Option ℕ) → Small (pair_of high low)
 unfolding pair_of
-pair_small (Value h) low = low_small h low
-pair_small NotHex low = tt
+pair_small (Some h) low = low_small h low
+pair_small None low = tt
 
 one_byte : (b : ℕ) → b < 256 → Bytes (b ∷ [])
 one_byte b l zero = l
 one_byte b l (suc j) = omega arith
 
-abbrev OfBytes : Outcome BytesAnswer (List ℕ) → Type 0
+abbrev OfBytes : Outcome (Option ℕ) (List ℕ) → Type 0
 OfBytes o = Bytes o.left
 
-on-bytes : (x : ByteAnswer) (go : ℕ → Outcome BytesAnswer (List ℕ)) (stop : Outcome BytesAnswer (List ℕ)) → Small x
+on-bytes : (x : Option ℕ) (go : ℕ → Outcome (Option ℕ) (List ℕ)) (stop : Outcome (Option ℕ) (List ℕ)) → Small x
     → ((b : ℕ) → b < 256 → OfBytes (go b)) → OfBytes stop → OfBytes (on_pair x go stop)
 unfolding on_pair
-on-bytes (Byte b) go stop l on off = on b l
-on-bytes Unread go stop l on off = off
+on-bytes (Some b) go stop l on off = on b l
+on-bytes None go stop l on off = off
 
 read-bytes : (text : List ℕ) (pairs i n : ℕ) (out : List ℕ) → Bytes out → OfBytes (read_from text pairs i n out)
 unfolding read_from pair_at
@@ -192,7 +181,7 @@ unfolding part_of
 part_bytes n s k = either (λ (x : List ℕ). Bytes x) (leb n (length s)) (bytes-part n s k) (λ j. omega arith)
 
 -- what a line has of a reply
-abbrev typed : List ℕ → Outcome BytesAnswer (List ℕ)
+abbrev typed : List ℕ → Outcome (Option ℕ) (List ℕ)
 typed line = reply_read line 1 (replicate 2048 0)
 
 -- its field `reply`
@@ -201,13 +190,13 @@ pub same-reply : (line a b figs : List ℕ) (k j : ConsoleLog) → SameKept a k 
 unfolding reply_line_in reply_bytes
 same-reply line a b figs k j w = go (typed line).result
   where
-    go : (x : BytesAnswer)
+    go : (x : Option ℕ)
         → SameLine (reply_bytes rows x (typed line).left (log_and_rows a figs) k) (reply_bytes columns x (typed line).left (log_and_rows b figs) j)
-    go (digits.Bytes n) =
+    go (Some n) =
         let buffer = (typed line).left in
         let bytes = part_bytes n buffer (reply-bytes line 1 (replicate 2048 0) (zeros 2048)) in
         same_bytes line a b k j w figs (part_of n buffer) bytes n buffer refl
-    go digits.Unread = record { kept = w; figures = refl }
+    go None = record { kept = w; figures = refl }
 
 -- ---- lines that make a log
 
@@ -216,12 +205,12 @@ within : (n : ℕ) (s : List ℕ) → length (take n s) ≡ n → n ≤ length s
 within n s e = let l = length-take n s in omega (arith, e, l)
 
 module _ {A : Type 0} (number : A → ℕ) (done : ℕ → A) (keep : A → ConsoleLog → ConsoleLog)
-    (told : (n : ℕ) (k : ConsoleLog) → keep (done n) k ≡ record { length = n; held = Closed })
+    (told : (n : ℕ) (k : ConsoleLog) → keep (done n) k ≡ record { length = n; held = None })
     (left : (x : A) (k : ConsoleLog) → (number x ≡ 0 → ⊥) → keep x k ≡ k) where
   made_kept : (k j : ConsoleLog) (o n : Outcome A LogAndRows) → Made done o n → SameKept o.left.log (keep o.result k) n.left.log (keep n.result j)
   made_kept k j o n m =
       let h = m.header in
-      let old-sound : (rows.view (take (rows.size h) o.left.log)).lent ≡ Sound h = ap (λ (v : View). v.lent) m.seen ∙ m.sound in
+      let old-sound : (rows.view (take (rows.size h) o.left.log)).lent ≡ Some h = ap (λ (v : View). v.lent) m.seen ∙ m.sound in
       rw (m.old_told, m.new_told, told (rows.size h) k, told (columns.size h) j) (record {
         old_room = within (rows.size h) o.left.log (laws.sound-size (take (rows.size h) o.left.log) h old-sound);
         new_room = within (columns.size h) n.left.log (sound-log (take (columns.size h) n.left.log) h m.sound).size;
@@ -244,13 +233,12 @@ module _ {A : Type 0} (number : A → ℕ) (done : ℕ → A) (keep : A → Cons
             figures = m.figures;
           }
 
-fresh-left : (x : FreshAnswer) (k : ConsoleLog) → (fresh_number x ≡ 0 → ⊥) → kept_after x k ≡ k
+fresh-left : (x : Result ℕ FreshError) (k : ConsoleLog) → (fresh_number x ≡ 0 → ⊥) → kept_after x k ≡ k
 unfolding kept_after
-fresh-left (fresh.Done n) k r = absurd (r refl)
-fresh-left fresh.OutOfRange k r = refl
-fresh-left fresh.TooShort k r = refl
+fresh-left (Ok n) k r = absurd (r refl)
+fresh-left (Err refusal) k r = refl
 
-read_left : (x : ReadAnswer) (k : ConsoleLog) → (read_number x ≡ 0 → ⊥) → kept_loaded x k ≡ k
+read_left : (x : Result ℕ ReadError) (k : ConsoleLog) → (read_number x ≡ 0 → ⊥) → kept_loaded x k ≡ k
 unfolding kept_loaded
 read_left x k r = read-refused x k _ r
 
@@ -260,11 +248,11 @@ pub same-fresh : (line a b figs : List ℕ) (k j : ConsoleLog) → SameKept a k 
 unfolding fresh_line_in fresh_year kept_after
 same-fresh line a b figs k j w room = go (is_form line (65535 ∷ 255 ∷ 255 ∷ 255 ∷ 255 ∷ 65535 ∷ 255 ∷ [])) (year_of (short_in line 1)) refl
   where
-    go : (c : Bool) (y : YearAnswer) → year_of (short_in line 1) ≡ y
+    go : (c : Bool) (y : Option ℕ) → year_of (short_in line 1) ≡ y
         → SameLine (cond c (fresh_year rows y line (log_and_rows a figs) k) (outcome k (log_and_rows a figs))) (cond c (fresh_year columns y line (log_and_rows b figs) j) (outcome j (log_and_rows b figs)))
-    go true (Year year) e =
-        new-kept fresh_number fresh.Done kept_after (λ n x. refl) fresh-left a b k j _ _ w (same.same-fresh _ a b figs (room year e))
-    go true OutOfRange e = record { kept = w; figures = refl }
+    go true (Some year) e =
+        new-kept fresh_number Ok kept_after (λ n x. refl) fresh-left a b k j _ _ w (same.same-fresh _ a b figs (room year e))
+    go true None e = record { kept = w; figures = refl }
     go false y e = record { kept = w; figures = refl }
 
 -- its field `load`
@@ -272,4 +260,4 @@ pub same_load : (f a b figs : List ℕ) (k j : ConsoleLog) → SameKept a k b j 
     → SameLine (loaded_in rows f (log_and_rows a figs) k) (loaded_in columns f (log_and_rows b figs) j)
 unfolding kept_loaded
 same_load f a b figs k j w bytes room =
-    new-kept read_number read.Done kept_loaded (λ n x. refl) read_left a b k j _ _ w (same.same_read f a b figs bytes room)
+    new-kept read_number Ok kept_loaded (λ n x. refl) read_left a b k j _ _ w (same.same_read f a b figs bytes room)

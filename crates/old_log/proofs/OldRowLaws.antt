@@ -10,6 +10,7 @@ use lib.Dec.{ltb, eqb}
 use lib.ListN.{length, get_or, take, drop, length-append, length-take, length-drop, get_or-eq_default}
 use lib.Seq.{take_at, drop-nil, drop-cons, drop-append-add, get_or-drop, get_or-append_seam}
 use borrow.Author.Tests.{ltb-true, ltb-false, eqb-true, eqb-false, eq-eqb, ne_eqb}
+use Rattle.std.specs.Prelude.{None, Some}
 use Rattle.test_laws.proofs.Test.{chosen}
 use Rattle.byte_numbers.specs.Place.{byte_at, number_at, written}
 use Rattle.byte_numbers.proofs.PlaceLaws.{length-written, part-kept, part-written, byte_at-kept, byte_at-written, number_at-kept}
@@ -22,32 +23,29 @@ use Rattle.energy_log.specs.View.{View}
 use Rattle.energy_log.proofs.ViewLaws.{changed, Holds, cell_in, cell_in_lem, none_in, view_by, same_view, within}
 use Rattle.old_log.specs.OldRows.{length_of, fitted_to, sound_of, cell_start, lapses_place, cell_at, lapses_at, view_of, put_cell, put_lapses, applied, cells_bytes, image_of}
 use Rattle.log_header.specs.declared.header.Header.{Header}
-use Rattle.log_header.specs.declared.header.HeaderAnswer.TheVariants.{Right, Wrong}
-use Rattle.log_header.specs.declared.header.LogHeader.TheVariants.{Sound, Unsound}
 use Rattle.log_cell.specs.declared.cell.Cell.{Cell}
 use Rattle.log_cell.specs.declared.cell.Cell.TheVariants.{Gap}
-use Rattle.log_cell.specs.declared.cell.CellAnswer.TheVariants.{Good, Bad}
 use Rattle.energy_log.specs.declared.image.Change.{Change}
 use Rattle.energy_log.specs.declared.image.Change.TheVariants.{None, Put, Lapses}
 
 -- ---- an old log is as long as its header says
 
-unsound≢sound : (h : Header) → Unsound ≡ Sound h → ⊥
+unsound≢sound : (h : Header) → None ≡ Some h → ⊥
 unsound≢sound h p = let z : ◌≡◌ {A = ℕ} 0 1 = cc in omega arith
 
-fitted-right : (f : Bool) (n : ℕ) (x h : Header) → fitted_to n (cond f (Right x) Wrong) ≡ Sound h
-    → cond (eqb n (length_of x)) (Sound x) Unsound ≡ Sound h
+fitted-right : (f : Bool) (n : ℕ) (x h : Header) → fitted_to n (cond f (Some x) None) ≡ Some h
+    → cond (eqb n (length_of x)) (Some x) None ≡ Some h
 unfolding fitted_to
 fitted-right true n x h p = p
 fitted-right false n x h p = absurd (unsound≢sound h p)
 
 -- a log is as long as its header says
-pub sound-size : (s : List ℕ) (h : Header) → sound_of s ≡ Sound h → length s ≡ length_of h
+pub sound-size : (s : List ℕ) (h : Header) → sound_of s ≡ Some h → length s ≡ length_of h
 unfolding sound_of header_of
 sound-size s h p =
-    let a = chosen (mark_right s && version_right s) (fitted_to (length s) (header_of s)) Unsound p (unsound≢sound h) in
+    let a = chosen (mark_right s && version_right s) (fitted_to (length s) (header_of s)) None p (unsound≢sound h) in
     let b = fitted-right (fields_right s) (length s) (header_at s) h a.1 in
-    let c = chosen (eqb (length s) (length_of (header_at s))) (Sound (header_at s)) Unsound b (unsound≢sound h) in
+    let c = chosen (eqb (length s) (length_of (header_at s))) (Some (header_at s)) None b (unsound≢sound h) in
     let e : header_at s ≡ h = cc c.1 in
     eqb-true _ _ c.0 ∙ ap length_of e
 
@@ -83,7 +81,7 @@ sound_of-put_lapses s i n = sound_of-kept s (lapses_place i) (n ∷ []) (omega a
 -- ---- what is read
 
 -- cell i lies in a log that has so many
-cell-within : (s : List ℕ) (h : Header) (i : ℕ) → sound_of s ≡ Sound h → i < cells_of h → cell_start i + cell_size ≤ length s
+cell-within : (s : List ℕ) (h : Header) (i : ℕ) → sound_of s ≡ Some h → i < cells_of h → cell_start i + cell_size ≤ length s
 unfolding length_of
 cell-within s h i p l = omega (arith, sound-size s h p)
 
@@ -93,14 +91,14 @@ short s i h =
     let e : length (take counts_size (drop (cell_start i) s)) < counts_size = simp (length-take, length-drop) (omega arith) in
     ne_eqb (length (take counts_size (drop (cell_start i) s))) counts_size (λ q. omega arith)
 
-cell_at-past : (s : List ℕ) (i : ℕ) → length s < cell_start i + counts_size → cell_at s i ≡ Bad
+cell_at-past : (s : List ℕ) (i : ℕ) → length s < cell_start i + counts_size → cell_at s i ≡ None
 unfolding cell_at cell_of
 cell_at-past s i h = simp (short s i h)
 
 lapses_at-past : (s : List ℕ) (i : ℕ) → length s ≤ lapses_place i → lapses_at s i ≡ 0
 lapses_at-past s i h = get_or-eq_default s 0 {n = lapses_place i} h
 
-cell_at-put : (s : List ℕ) (i : ℕ) (c : Cell) → IsCell c → cell_start i + cell_size ≤ length s → cell_at (put_cell s i c) i ≡ Good c
+cell_at-put : (s : List ℕ) (i : ℕ) (c : Cell) → IsCell c → cell_start i + cell_size ≤ length s → cell_at (put_cell s i c) i ≡ Some c
 unfolding cell_at put_cell
 cell_at-put s i c k h =
     ap (λ (n : ℕ). cell_of (take n (drop (cell_start i) (written s (cell_start i) (counts_bytes c))))) (sym (length-counts_bytes c))
@@ -168,7 +166,7 @@ module _ (lapses : ℕ → ℕ) where
   length-image_of h cs = length-append (header_bytes h) (cells_bytes 0 cs lapses) ∙ omega (arith, length-header_bytes version h, length-cells_bytes 0 cs)
 
   -- it is a log
-  sound-image : (h : Header) (cs : List Cell) → is_header h ≡ true → length cs ≡ cells_of h → sound_of (image_of h cs lapses) ≡ Sound h
+  sound-image : (h : Header) (cs : List Cell) → is_header h ≡ true → length cs ≡ cells_of h → sound_of (image_of h cs lapses) ≡ Some h
   unfolding image_of sound_of fitted_to length_of
   sound-image h cs e l =
       let rest = cells_bytes 0 cs lapses in
@@ -212,7 +210,7 @@ module _ (lapses : ℕ → ℕ) where
       ∙ append_assoc (counts_bytes (get_or cs i Gap)) (lapses i ∷ []) (cells_bytes (suc i) (drop (suc i) cs) lapses)
 
   -- its i-th cell is the i-th cell, with its lapses
-  cell_at-image : (h : Header) (cs : List Cell) (i : ℕ) → i < length cs → IsCell (get_or cs i Gap) → cell_at (image_of h cs lapses) i ≡ Good (get_or cs i Gap)
+  cell_at-image : (h : Header) (cs : List Cell) (i : ℕ) → i < length cs → IsCell (get_or cs i Gap) → cell_at (image_of h cs lapses) i ≡ Some (get_or cs i Gap)
   unfolding cell_at
   cell_at-image h cs i l k =
       let c = get_or cs i Gap in
@@ -233,13 +231,13 @@ module _ (lapses : ℕ → ℕ) where
 
 -- what is seen of a log with this header
 abbrev seen_of : Header → List ℕ → View
-seen_of h s = record { lent = Sound h; cell = cell_at s; lapses = lapses_at s }
+seen_of h s = record { lent = Some h; cell = cell_at s; lapses = lapses_at s }
 
-seen_of_lem : (s : List ℕ) (h : Header) → sound_of s ≡ Sound h → view_of s ≡ seen_of h s
+seen_of_lem : (s : List ℕ) (h : Header) → sound_of s ≡ Some h → view_of s ≡ seen_of h s
 seen_of_lem s h p = rw p
 
-module _ (s : List ℕ) (h : Header) (i : ℕ) (p : sound_of s ≡ Sound h) (l : i < cells_of h) where
-  cell-put : (c : Cell) → IsCell c → (j : ℕ) (b : Bool) → eqb j i ≡ b → cell_at (put_cell s i c) j ≡ cond b (Good c) (cell_at s j)
+module _ (s : List ℕ) (h : Header) (i : ℕ) (p : sound_of s ≡ Some h) (l : i < cells_of h) where
+  cell-put : (c : Cell) → IsCell c → (j : ℕ) (b : Bool) → eqb j i ≡ b → cell_at (put_cell s i c) j ≡ cond b (Some c) (cell_at s j)
   cell-put c k j true e = ap (cell_at (put_cell s i c)) (eqb-true j i e) ∙ cell_at-put s i c k (cell-within s h i p l)
   cell-put c k j false e = cell_at-put-other s i j c (eqb-false j i e)
 

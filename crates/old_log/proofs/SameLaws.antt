@@ -8,6 +8,7 @@ use lib.Dec.{leb, eqb}
 use lib.ListN.{length, take, drop, get_or}
 use lib.Seq.{take_at}
 use borrow.Author.Tests.{le-leb}
+use Rattle.std.specs.Prelude.{Err, None, Ok, Option, Some}
 use Rattle.refusal.specs.Outcome.{Outcome, outcome, check}
 use Rattle.byte_numbers.specs.Number.{Bytes}
 use Rattle.byte_numbers.specs.Place.{written}
@@ -22,20 +23,18 @@ use Rattle.energy_log.proofs.ImageLaws.{sound-image}
 use Rattle.energy_log.proofs.ViewLaws as new
 use Rattle.energy_log.proofs.ViewLaws.{changed, Holds}
 use Rattle.log_header.specs.declared.header.Header.{Header}
-use Rattle.log_header.specs.declared.header.HeaderAnswer.{HeaderAnswer}
-use Rattle.log_header.specs.declared.header.HeaderAnswer.TheVariants.{Right, Wrong}
 use Rattle.log_cell.specs.declared.cell.Cell.{Cell}
 use Rattle.log_cell.specs.declared.cell.Cell.TheVariants.{Gap}
 use Rattle.energy_log.specs.declared.image.Change.{Change}
-use Rattle.energy_log.specs.declared.fresh.FreshAnswer.TheVariants as fresh
+use Rattle.energy_log.specs.declared.fresh.FreshError.TheVariants as fresh
 use Rattle.day_rows.specs.LogAndRows.{LogAndRows, log_and_rows, enough}
 use Rattle.log_file.specs.Row.{row_at, lapses_in}
 use Rattle.log_file.specs.File.{is_version, file_header, file_length_as, cells_in, cells_right}
 use Rattle.log_file.specs.Read.{mark_size, read_number}
-use Rattle.log_file.specs.declared.read.ReadAnswer.TheVariants.{Done, WrongMark, WrongVersion, WrongHeader, WrongLength, WrongCrc, WrongCell, TooShort}
 use Rattle.log_file.proofs.RowLaws.{read-is-cell}
 use Rattle.log_file.proofs.WalkLaws.{passed, right-good}
 use Rattle.log_file.proofs.FileLaws.{file-header-right, written-front, length-image}
+use Rattle.log_file.specs.declared.read.ReadError.TheVariants.{WrongMark, WrongVersion, WrongHeader, WrongLength, WrongCrc, WrongCell, TooShort}
 use Rattle.logger.specs.Ask as Ask
 use Rattle.logger.specs.Lapse as Lapse
 use Rattle.logger.specs.Take as Take
@@ -61,24 +60,24 @@ same_after s t c d e same holds =
     ∙ sym (new.view-applied t d holds)
 
 -- where the held ask is the same too
-pub same-lapse : (s t : List ℕ) (h k : OpenAsk) → Alike s t → h ≡ k → SameLog (lapsed_in rows s h) (lapsed_in columns t k)
+pub same-lapse : (s t : List ℕ) (h k : Option OpenAsk) → Alike s t → h ≡ k → SameLog (lapsed_in rows s h) (lapsed_in columns t k)
 unfolding lapsed_in
 same-lapse s t h k e p = record {
-  answer = λ i. (Lapse.lapsing (e i) (p i)).lapsed;
+  answer = λ i. (Lapse.lapsing (e i) (p i)).answered;
   seen = same_after s t _ _ e (λ i. (Lapse.lapsing (e i) (p i)).change) (lapsing-holds (view_of t) k);
 }
 
 -- the field `take` of `SameAnswers`, and a reply's part in other calls
-pub same-take : (b c : LogAndRows) (h k : OpenAsk) (y : List ℕ) → Alike b.log c.log → b.figures ≡ c.figures → h ≡ k → Bytes y
+pub same-take : (b c : LogAndRows) (h k : Option OpenAsk) (y : List ℕ) → Alike b.log c.log → b.figures ≡ c.figures → h ≡ k → Bytes y
     → SameBoth (taken_in rows b h y) (taken_in columns c k y)
 unfolding taken_in
 same-take b c h k y e q p bytes = record {
-  answer = λ i. (Take.decided (e i) (q i) (p i) y).result.taken;
+  answer = λ i. (Take.decided (e i) (q i) (p i) y).result.answered;
   seen = same_after b.log c.log _ _ e (λ i. (Take.decided (e i) (q i) (p i) y).result.change) (decided-holds (view_of c.log) c.figures k y bytes);
   figures = λ i. (Take.decided (e i) (q i) (p i) y).left;
 }
 
-same-heard : (s t figs : List ℕ) (h : OpenAsk) (y : List ℕ) → Alike s t → Bytes y → SameBoth (heard_in rows (log_and_rows s figs) h y) (heard_in columns (log_and_rows t figs) h y)
+same-heard : (s t figs : List ℕ) (h : Option OpenAsk) (y : List ℕ) → Alike s t → Bytes y → SameBoth (heard_in rows (log_and_rows s figs) h y) (heard_in columns (log_and_rows t figs) h y)
 unfolding heard_in
 same-heard s t figs h [] e bytes = record { answer = refl; seen = e; figures = refl }
 same-heard s t figs h (x ∷ y) e bytes =
@@ -90,7 +89,7 @@ same-heard s t figs h (x ∷ y) e bytes =
     }
 
 -- its field `settle`
-pub same-settle : (s t figs : List ℕ) (h : OpenAsk) (y : List ℕ) → Alike s t → Bytes y → SameBoth (settled_in rows (log_and_rows s figs) h y) (settled_in columns (log_and_rows t figs) h y)
+pub same-settle : (s t figs : List ℕ) (h : Option OpenAsk) (y : List ℕ) → Alike s t → Bytes y → SameBoth (settled_in rows (log_and_rows s figs) h y) (settled_in columns (log_and_rows t figs) h y)
 unfolding settled_in
 same-settle s t figs h y e bytes =
     let w = same-heard s t figs h y e bytes in
@@ -150,61 +149,61 @@ gaps-cells : (n : ℕ) → AllCells (gaps n)
 gaps-cells n i l = rw (gap_at n i (rw length-gaps at l)) gap-is-cell
 
 -- its field `fresh`
-pub same-fresh : (h : Header) (a b figs : List ℕ) → Rooms h a b → SameMade fresh_number fresh.Done a b (fresh_in rows h a figs) (fresh_in columns h b figs)
+pub same-fresh : (h : Header) (a b figs : List ℕ) → Rooms h a b → SameMade fresh_number Ok a b (fresh_in rows h a figs) (fresh_in columns h b figs)
 unfolding fresh_in
 same-fresh h a b figs room =
-    same_check fresh_number fresh.Done a b figs (is_header h) fresh.OutOfRange _ _ (omega arith) (λ right.
-    same_check fresh_number fresh.Done a b figs (enough h figs) fresh.TooShort _ _ (omega arith) (λ many.
-    room-check fresh_number fresh.Done a b h _ _ _ _ room (record {
+    same_check fresh_number Ok a b figs (is_header h) (Err fresh.OutOfRange) _ _ (omega arith) (λ right.
+    same_check fresh_number Ok a b figs (enough h figs) (Err fresh.TooShort) _ _ (omega arith) (λ many.
+    room-check fresh_number Ok a b h _ _ _ _ room (record {
       answer = refl;
       figures = refl;
-      made = λ e. images-made fresh.Done h (gaps (cells_of h)) no_lapses a b _ right (length-gaps (cells_of h)) (gaps-cells (cells_of h)) room;
+      made = λ e. images-made Ok h (gaps (cells_of h)) no_lapses a b _ right (length-gaps (cells_of h)) (gaps-cells (cells_of h)) room;
       refused = λ n. absurd (n refl);
     })))
 
 module _ (f a b figs : List ℕ) (bytes : Bytes f) where
-  same-cells : (h : Header) → is_header h ≡ true → Rooms h a b → SameMade read_number Done a b (read_cells_in rows f h a figs) (read_cells_in columns f h b figs)
+  same-cells : (h : Header) → is_header h ≡ true → Rooms h a b → SameMade read_number Ok a b (read_cells_in rows f h a figs) (read_cells_in columns f h b figs)
   unfolding read_cells_in
   same-cells h right room =
       let cell = row_at (version_at f) f in
       let lapses = lapses_in (version_at f) f in
       let cs = cells_in f (cells_of h) in
-      same_check read_number Done a b figs (cells_right h cell lapses) WrongCell _ _ (omega arith) (λ good.
-      room-check read_number Done a b h _ _ _ _ room (
-      same_check read_number Done a b figs (enough h figs) TooShort _ _ (omega arith) (λ many.
+      same_check read_number Ok a b figs (cells_right h cell lapses) (Err WrongCell) _ _ (omega arith) (λ good.
+      room-check read_number Ok a b h _ _ _ _ room (
+      same_check read_number Ok a b figs (enough h figs) (Err TooShort) _ _ (omega arith) (λ many.
       let seen = passed cell (cells_of h) 0 (right-good h cell lapses good) in
       record {
         answer = refl;
         figures = refl;
         made = λ e.
-            images-made Done h cs lapses a b _ right seen.count
+            images-made Ok h cs lapses a b _ right seen.count
             (λ j l. read-is-cell (version_at f) f bytes (0 + j) (get_or cs j Gap) (seen.each j (rw seen.count at l))) room;
         refused = λ n. absurd (n refl);
       })))
 
-  same-fields : FileRooms f a b → SameMade read_number Done a b (read_fields_in rows f a figs) (read_fields_in columns f b figs)
+  same-fields : FileRooms f a b → SameMade read_number Ok a b (read_fields_in rows f a figs) (read_fields_in columns f b figs)
   unfolding read_fields_in
-  same-fields room = same_check read_number Done a b figs (leb header_size (length f)) WrongHeader _ _ (omega arith) (λ enough. go (file_header f) refl)
+  same-fields room = same_check read_number Ok a b figs (leb header_size (length f)) (Err WrongHeader) _ _ (omega arith) (λ enough. go (file_header f) refl)
     where
-      go : (r : HeaderAnswer) → file_header f ≡ r
-          → SameMade read_number Done a b
-          (if_right r (outcome WrongHeader (log_and_rows a figs)) (λ h.
-          check (eqb (length f) (file_length_as (version_at f) h)) (outcome WrongLength (log_and_rows a figs)) (
-          check (crc_fits f) (outcome WrongCrc (log_and_rows a figs)) (read_cells_in rows f h a figs))))
-          (if_right r (outcome WrongHeader (log_and_rows b figs)) (λ h.
-          check (eqb (length f) (file_length_as (version_at f) h)) (outcome WrongLength (log_and_rows b figs)) (
-          check (crc_fits f) (outcome WrongCrc (log_and_rows b figs)) (read_cells_in columns f h b figs))))
-      go Wrong p = same-refusal read_number Done a b figs WrongHeader (omega arith)
-      go (Right h) p =
-          same_check read_number Done a b figs (eqb (length f) (file_length_as (version_at f) h)) WrongLength _ _ (omega arith) (λ size.
-          same_check read_number Done a b figs (crc_fits f) WrongCrc _ _ (omega arith) (λ crc. same-cells h (file-header-right f h p) (room h p)))
+      go : (r : Option Header) → file_header f ≡ r
+          → SameMade read_number Ok a b
+          (if_right r (outcome (Err WrongHeader) (log_and_rows a figs)) (λ h.
+          check (eqb (length f) (file_length_as (version_at f) h)) (outcome (Err WrongLength) (log_and_rows a figs)) (
+          check (crc_fits f) (outcome (Err WrongCrc) (log_and_rows a figs)) (read_cells_in rows f h a figs))))
+          (if_right r (outcome (Err WrongHeader) (log_and_rows b figs)) (λ h.
+          check (eqb (length f) (file_length_as (version_at f) h)) (outcome (Err WrongLength) (log_and_rows b figs)) (
+          check (crc_fits f) (outcome (Err WrongCrc) (log_and_rows b figs)) (read_cells_in columns f h b figs))))
+      go None p = same-refusal read_number Ok a b figs (Err WrongHeader) (omega arith)
+      go (Some h) p =
+          same_check read_number Ok a b figs (eqb (length f) (file_length_as (version_at f) h)) (Err WrongLength) _ _ (omega arith) (λ size.
+          same_check read_number Ok a b figs (crc_fits f) (Err WrongCrc) _ _ (omega arith) (λ crc. same-cells h (file-header-right f h p) (room h p)))
 
   -- its field `read`
-  pub same_read : FileRooms f a b → SameMade read_number Done a b (read_in rows f a figs) (read_in columns f b figs)
+  pub same_read : FileRooms f a b → SameMade read_number Ok a b (read_in rows f a figs) (read_in columns f b figs)
   unfolding read_in
   same_read room =
-      same_check read_number Done a b figs (leb mark_size (length f) && mark_right f) WrongMark _ _ (omega arith) (λ mark.
-      same_check read_number Done a b figs (is_version (version_at f)) WrongVersion _ _ (omega arith) (λ known. same-fields room))
+      same_check read_number Ok a b figs (leb mark_size (length f) && mark_right f) (Err WrongMark) _ _ (omega arith) (λ mark.
+      same_check read_number Ok a b figs (is_version (version_at f)) (Err WrongVersion) _ _ (omega arith) (λ known. same-fields room))
 
 -- ---- a list of calls
 

@@ -1,21 +1,19 @@
 -- An old and a new log that C lends. Source: document 02, CR 9: "get the same answers from every call with the same other arguments, and hold the same cells and
 -- figures after it". C's other arguments are the ask's four bytes and the words behind `result`, `length`, `kind`, `lapses` and `slot`, which are the same too
 -- after it. Proofs: `today-for-c` and `same-for-c`, proofs/Claims.antt.
-use Rattle.std.specs.Prelude.{◌≡◌, List, ℕ, take}
+use Rattle.std.specs.Prelude.{◌≡◌, List, ℕ, take, None, Option, Some}
 use Rattle.refusal.specs.Outcome.{Outcome, outcome}
 use Rattle.byte_numbers.specs.Number.{Bytes}
 use Rattle.energy_log.specs.Fresh.{fresh_number}
 use Rattle.log_header.specs.declared.header.Header.{Header}
-use Rattle.log_header.specs.declared.header.LogHeader.TheVariants.{Sound}
 use Rattle.day_rows.specs.LogAndRows.{LogAndRows, log_and_rows}
 use Rattle.day_rows.specs.Fresh.{fresh_with}
 use Rattle.day_report.specs.Report.{report_of, report_number}
 use Rattle.log_file.specs.Read.{read_file, read_number}
 use Rattle.log_file.specs.Write.{written_file, write_number}
 use Rattle.logger.specs.Book.{Call, ask, lapse, reply, Answer, run_of, AllBytes}
+use Rattle.logger.specs.declared.held.OpenAsk.{OpenAsk}
 use Rattle.c_values.specs.Ask.{ask_of}
-use Rattle.c_values.specs.declared.ask.AskRead.{AskRead}
-use Rattle.c_values.specs.declared.ask.AskRead.TheVariants.{Read, Unreadable}
 use Rattle.metlazuel.specs.Calls.{numbered, sized}
 use Rattle.metlazuel.specs.LogCalls.{image_length, file_length, length_after, ask_for_c, lapsed_for_c, lapse_for_c, taken_for_c, take_for_c}
 use Rattle.metlazuel.specs.CellCalls.{cell_for_c, next_gap_for_c}
@@ -26,13 +24,13 @@ use Rattle.old_log.specs.Same.{Alike, Rooms, FileRooms}
 -- ---- the functions that alter a log, or make one, in a layout, each as the definition that its contract cites
 
 -- `lapse_for_c` and `take_for_c` of metlazuel/specs/LogCalls.antt
-unfoldable pub lapse_for_c_in : Layout → AskRead → List ℕ → List ℕ → Outcome ℕ (List ℕ × List ℕ)
-lapse_for_c_in l (Read held) log bs = lapsed_for_c held (lapsed_in l log held) bs
-lapse_for_c_in l Unreadable log bs = outcome 28 (log, bs)
+unfoldable pub lapse_for_c_in : Layout → Option (Option OpenAsk) → List ℕ → List ℕ → Outcome ℕ (List ℕ × List ℕ)
+lapse_for_c_in l (Some held) log bs = lapsed_for_c held (lapsed_in l log held) bs
+lapse_for_c_in l None log bs = outcome 28 (log, bs)
 
-unfoldable pub take_for_c_in : Layout → AskRead → LogAndRows → List ℕ → List ℕ → ℕ → ℕ → Outcome ℕ (ℕ × ℕ × LogAndRows × List ℕ)
-take_for_c_in l (Read held) b bs y result size = taken_for_c held (taken_in l b held y) result size bs
-take_for_c_in l Unreadable b bs y result size = outcome 28 (result, size, b, bs)
+unfoldable pub take_for_c_in : Layout → Option (Option OpenAsk) → LogAndRows → List ℕ → List ℕ → ℕ → ℕ → Outcome ℕ (ℕ × ℕ × LogAndRows × List ℕ)
+take_for_c_in l (Some held) b bs y result size = taken_for_c held (taken_in l b held y) result size bs
+take_for_c_in l None b bs y result size = outcome 28 (result, size, b, bs)
 
 -- what `metlazuel_log_fresh` and `metlazuel_read_file` promise
 abbrev pub fresh_for_c_in : Layout → Header → List ℕ → List ℕ → ℕ → Outcome ℕ (ℕ × LogAndRows)
@@ -59,8 +57,8 @@ run_for_c_in l m calls = run_of (step_for_c_in l) m calls
 
 -- over columns they are today's
 pub record TodayForC : Type 0 where
-  pub lapse : (a : AskRead) (log bs : List ℕ) → lapse_for_c_in columns a log bs ≡ lapse_for_c a log bs
-  pub take : (a : AskRead) (b : LogAndRows) (bs y : List ℕ) (result size : ℕ) → take_for_c_in columns a b bs y result size ≡ take_for_c a b bs y result size
+  pub lapse : (a : Option (Option OpenAsk)) (log bs : List ℕ) → lapse_for_c_in columns a log bs ≡ lapse_for_c a log bs
+  pub take : (a : Option (Option OpenAsk)) (b : LogAndRows) (bs y : List ℕ) (result size : ℕ) → take_for_c_in columns a b bs y result size ≡ take_for_c a b bs y result size
   pub fresh : (h : Header) (out figs : List ℕ) (word : ℕ) → fresh_for_c_in columns h out figs word ≡ sized fresh_number image_length (fresh_with h out figs) word
   pub read : (f out figs : List ℕ) (word : ℕ) → read_for_c_in columns f out figs word ≡ sized read_number length_after (read_file f out figs) word
   pub step : (m : Lent) (c : Call) → step_for_c_in columns m c ≡ step_for_c m c
@@ -87,7 +85,7 @@ pub record MadeForC (o n : Outcome ℕ (ℕ × LogAndRows)) : Type 0 where
   pub header : Header
   pub old_length : o.left.0 ≡ rows.size header
   pub new_length : n.left.0 ≡ columns.size header
-  pub sound : (columns.view (take n.left.0 n.left.1.log)).lent ≡ Sound header
+  pub sound : (columns.view (take n.left.0 n.left.1.log)).lent ≡ Some header
   pub seen : Alike (take o.left.0 o.left.1.log) (take n.left.0 n.left.1.log)
 
 -- a refusal leaves both outputs, and the word behind `length`

@@ -1,7 +1,7 @@
 -- The console's lines over an old and a new log. Source: document 02, CR 9: "get the same answers from every call with the same other arguments, and hold the
 -- same cells and figures after it". The console keeps an image with the log at its front, the log's length, its figures and the open ask, and a line is what a
 -- person types. Proofs: `today-lines` and `same_lines`, proofs/Claims.antt.
-use Rattle.std.specs.Prelude.{◌≡◌, cond, List, [], ◌∷◌, ℕ, ◌≤◌, eqb, ltb, length, take, replicate}
+use Rattle.std.specs.Prelude.{◌≡◌, cond, List, [], ◌∷◌, ℕ, ◌≤◌, eqb, ltb, length, take, replicate, None, Option, Some}
 use Rattle.refusal.specs.Outcome.{Outcome, outcome}
 use Rattle.byte_numbers.specs.Number.{Bytes}
 use Rattle.frame.specs.Layout.{read_size}
@@ -10,10 +10,6 @@ use Rattle.log_file.specs.Read.{read_file}
 use Rattle.logger.specs.Ask.{asked}
 use Rattle.console.specs.Line.{part_of, spaces_in}
 use Rattle.console.specs.Form.{is_form, byte_in, short_in, year_of}
-use Rattle.console.specs.declared.form.YearAnswer.{YearAnswer}
-use Rattle.console.specs.declared.form.YearAnswer.TheVariants.{Year, OutOfRange}
-use Rattle.console.specs.declared.value.BytesAnswer.{BytesAnswer}
-use Rattle.console.specs.declared.value.BytesAnswer.TheVariants as digits
 use Rattle.console_log.specs.Words.{reply_read}
 use Rattle.console_log.specs.Log.{with_ask, new_log, loaded_log, header_in, fresh_line, ask_line, ask_lapsed, lapse_line, reply_taken, reply_line}
 use Rattle.console_log.specs.declared.logs.ConsoleLog.{ConsoleLog}
@@ -22,9 +18,9 @@ use Rattle.old_log.specs.Same.{Alike, Rooms, FileRooms}
 
 -- ---- the lines in a layout, each as its definition in console_log/specs/Log.antt has it
 
-unfoldable pub fresh_year : Layout → YearAnswer → List ℕ → LogAndRows → ConsoleLog → Outcome ConsoleLog LogAndRows
-fresh_year l (Year year) line b kept = new_log kept (fresh_in l (header_in line year) b.log b.figures)
-fresh_year l OutOfRange line b kept = outcome kept b
+unfoldable pub fresh_year : Layout → Option ℕ → List ℕ → LogAndRows → ConsoleLog → Outcome ConsoleLog LogAndRows
+fresh_year l (Some year) line b kept = new_log kept (fresh_in l (header_in line year) b.log b.figures)
+fresh_year l None line b kept = outcome kept b
 
 unfoldable pub fresh_line_in : Layout → List ℕ → LogAndRows → ConsoleLog → Outcome ConsoleLog LogAndRows
 fresh_line_in l line b kept =
@@ -46,11 +42,11 @@ lapse_line_in l line image kept =
     (cond (ltb (length image) kept.length) (outcome kept image) (ask_lapsed image kept (lapsed_in l (take kept.length image) kept.held)))
     (outcome kept image)
 
-unfoldable pub reply_bytes : Layout → BytesAnswer → List ℕ → LogAndRows → ConsoleLog → Outcome ConsoleLog LogAndRows
-reply_bytes l (digits.Bytes n) buffer b kept =
+unfoldable pub reply_bytes : Layout → Option ℕ → List ℕ → LogAndRows → ConsoleLog → Outcome ConsoleLog LogAndRows
+reply_bytes l (Some n) buffer b kept =
     cond (ltb (length b.log) kept.length) (outcome kept b)
     (reply_taken b kept (taken_in l (log_and_rows (take kept.length b.log) b.figures) kept.held (part_of n buffer)))
-reply_bytes l digits.Unread buffer b kept = outcome kept b
+reply_bytes l None buffer b kept = outcome kept b
 
 unfoldable pub reply_line_in : Layout → List ℕ → LogAndRows → ConsoleLog → Outcome ConsoleLog LogAndRows
 reply_line_in l line b kept =
@@ -81,7 +77,7 @@ pub record SameLine (o n : Outcome ConsoleLog LogAndRows) : Type 0 where
 
 -- "each with the room its layout needs": for the log of a line's numbers
 abbrev pub LineRooms : List ℕ → List ℕ → List ℕ → Type 0
-LineRooms line a b = (year : ℕ) → year_of (short_in line 1) ≡ Year year → Rooms (header_in line year) a b
+LineRooms line a b = (year : ℕ) → year_of (short_in line 1) ≡ Some year → Rooms (header_in line year) a b
 
 -- every line that alters the log or the ask, one that cannot be read too
 pub record SameLines : Type 0 where

@@ -1,21 +1,17 @@
 -- An old and a new log. Source: document 02, CR 9: "Show that an old and a new lent log with the same header, cells and day figures, each with the room its
 -- layout needs, get the same answers from every call with the same other arguments, and hold the same cells and figures after it." Proofs: `today` and
 -- `same-answers`, proofs/Claims.antt.
-use Rattle.std.specs.Prelude.{◌≡◌, List, ℕ, ◌≤◌, length, take}
+use Rattle.std.specs.Prelude.{◌≡◌, List, ℕ, ◌≤◌, length, take, Ok, Some, Option}
 use Rattle.refusal.specs.Outcome.{Outcome}
 use Rattle.byte_numbers.specs.Number.{Bytes}
 use Rattle.energy_log.specs.Fresh.{fresh_number}
 use Rattle.energy_log.specs.View.{View}
 use Rattle.log_header.specs.declared.header.Header.{Header}
-use Rattle.log_header.specs.declared.header.HeaderAnswer.TheVariants.{Right}
-use Rattle.log_header.specs.declared.header.LogHeader.TheVariants.{Sound}
-use Rattle.energy_log.specs.declared.fresh.FreshAnswer.TheVariants as fresh
 use Rattle.day_rows.specs.LogAndRows.{LogAndRows, log_and_rows}
 use Rattle.day_rows.specs.Fresh.{fresh_with}
 use Rattle.log_file.specs.File.{file_header}
 use Rattle.log_file.specs.Read.{read_number, read_file}
 use Rattle.log_file.specs.Write.{written_file}
-use Rattle.log_file.specs.declared.read.ReadAnswer.TheVariants as read
 use Rattle.day_report.specs.Report.{report_of}
 use Rattle.day_report.specs.Day.{day_text}
 use Rattle.day_report.specs.Strip.{strip_text}
@@ -54,7 +50,7 @@ pub record Made {A : Type 0} (done : ℕ → A) (o n : Outcome A LogAndRows) : T
   pub header : Header
   pub old_told : o.result ≡ done (rows.size header)
   pub new_told : n.result ≡ done (columns.size header)
-  pub sound : (columns.view (take (columns.size header) n.left.log)).lent ≡ Sound header
+  pub sound : (columns.view (take (columns.size header) n.left.log)).lent ≡ Some header
   pub seen : Alike (take (rows.size header) o.left.log) (take (columns.size header) n.left.log)
 
 -- of one that makes a log, by the number of its answer: 0 comes with each layout's own length. A refusal leaves both outputs
@@ -80,25 +76,25 @@ pub record Rooms (h : Header) (a b : List ℕ) : Type 0 where
   pub of_columns : columns.size h ≤ length b
 
 abbrev pub FileRooms : List ℕ → List ℕ → List ℕ → Type 0
-FileRooms f a b = (h : Header) → file_header f ≡ Right h → Rooms h a b
+FileRooms f a b = (h : Header) → file_header f ≡ Some h → Rooms h a b
 
 -- the calls over columns are today's, those that the contracts cite
 pub record Today : Type 0 where
-  pub lapse : (s : List ℕ) (held : OpenAsk) → lapsed_in columns s held ≡ lapsed s held
-  pub take : (b : LogAndRows) (held : OpenAsk) (y : List ℕ) → taken_in columns b held y ≡ taken b held y
-  pub settle : (b : LogAndRows) (held : OpenAsk) (y : List ℕ) → settled_in columns b held y ≡ ask_settled b held y
+  pub lapse : (s : List ℕ) (held : Option OpenAsk) → lapsed_in columns s held ≡ lapsed s held
+  pub take : (b : LogAndRows) (held : Option OpenAsk) (y : List ℕ) → taken_in columns b held y ≡ taken b held y
+  pub settle : (b : LogAndRows) (held : Option OpenAsk) (y : List ℕ) → settled_in columns b held y ≡ ask_settled b held y
   pub fresh : (h : Header) (out figs : List ℕ) → fresh_in columns h out figs ≡ fresh_with h out figs
   pub read : (f out figs : List ℕ) → read_in columns f out figs ≡ read_file f out figs
   pub step : (s : State) (c : Call) → step_in columns s c ≡ step s c
 
 -- "from every call with the same other arguments", refused ones included
 pub record SameAnswers : Type 1 where
-  pub ask : (s t : List ℕ) → Alike s t → (held : OpenAsk) (address day slot : ℕ) (out : List ℕ)
+  pub ask : (s t : List ℕ) → Alike s t → (held : Option OpenAsk) (address day slot : ℕ) (out : List ℕ)
       → asked (rows.view s) held address day slot out ≡ asked (columns.view t) held address day slot out
-  pub lapse : (s t : List ℕ) → Alike s t → (held : OpenAsk) → SameLog (lapsed_in rows s held) (lapsed_in columns t held)
-  pub take : (s t : List ℕ) → Alike s t → (figs : List ℕ) (held : OpenAsk) (y : List ℕ) → Bytes y
+  pub lapse : (s t : List ℕ) → Alike s t → (held : Option OpenAsk) → SameLog (lapsed_in rows s held) (lapsed_in columns t held)
+  pub take : (s t : List ℕ) → Alike s t → (figs : List ℕ) (held : Option OpenAsk) (y : List ℕ) → Bytes y
       → SameBoth (taken_in rows (log_and_rows s figs) held y) (taken_in columns (log_and_rows t figs) held y)
-  pub settle : (s t : List ℕ) → Alike s t → (figs : List ℕ) (held : OpenAsk) (y : List ℕ) → Bytes y
+  pub settle : (s t : List ℕ) → Alike s t → (figs : List ℕ) (held : Option OpenAsk) (y : List ℕ) → Bytes y
       → SameBoth (settled_in rows (log_and_rows s figs) held y) (settled_in columns (log_and_rows t figs) held y)
   pub report : (s t : List ℕ) → Alike s t → (figs : List ℕ) (day : ℕ) (row : List ℕ)
       → report_of (rows.view s).lent figs day row ≡ report_of (columns.view t).lent figs day row
@@ -110,7 +106,7 @@ pub record SameAnswers : Type 1 where
   pub write : (s t : List ℕ) → Alike s t → (out : List ℕ) → written_file (rows.view s) out ≡ written_file (columns.view t) out
   -- any other look at a log goes by its view too: the functions for C that tell a cell and the next gap (`cell_for_c`, `next_gap_for_c`), the console's `cell`
   pub look : (s t : List ℕ) → Alike s t → {A : Type 0} (f : View → A) → f (rows.view s) ≡ f (columns.view t)
-  pub fresh : (h : Header) (a b figs : List ℕ) → Rooms h a b → SameMade fresh_number fresh.Done a b (fresh_in rows h a figs) (fresh_in columns h b figs)
-  pub read : (f a b figs : List ℕ) → Bytes f → FileRooms f a b → SameMade read_number read.Done a b (read_in rows f a figs) (read_in columns f b figs)
+  pub fresh : (h : Header) (a b figs : List ℕ) → Rooms h a b → SameMade fresh_number Ok a b (fresh_in rows h a figs) (fresh_in columns h b figs)
+  pub read : (f a b figs : List ℕ) → Bytes f → FileRooms f a b → SameMade read_number Ok a b (read_in rows f a figs) (read_in columns f b figs)
   -- and so from every list of asks, lapses and replies, each of which gets what the one before left
   pub run : (s t : State) → SameState s t → (calls : List Call) → AllBytes calls → SameRun (run_in rows s calls) (run_in columns t calls)

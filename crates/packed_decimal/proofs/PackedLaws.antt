@@ -1,4 +1,5 @@
 -- What follows from the definitions of specs/Packed.antt, for proofs alone: no contract cites it.
+use Rattle.std.specs.Prelude.{None, Some}
 use mathlib.Core.Path.{◌≡◌, refl, sym, ap, ap₂, ◌∙◌}
 use mathlib.Core.Bool.{Bool, true, false, cond, ◌&&◌}
 use mathlib.Core.List.{List, [], ◌∷◌, ◌++◌, append_assoc, append-nil}
@@ -16,7 +17,6 @@ use Rattle.byte_numbers.specs.Number.{Bytes}
 use Rattle.byte_numbers.specs.Place.{written}
 use Rattle.byte_numbers.proofs.PlaceLaws.{written-append}
 use Rattle.packed_decimal.specs.Packed.{pair_of, packed_of, is_pair, is_packed, value_from, value_of, decimal_of, decimal_at}
-use Rattle.packed_decimal.specs.declared.Decimal.TheVariants.{Number, NotDecimal}
 
 -- ---- two digits in a byte
 
@@ -137,14 +137,14 @@ value-small bs p = rw zero-add at (value-small-from 0 0 bs (pow-100-pos 0) p)
 -- ---- what is read: digits are, and nothing else is
 
 -- the arm of `number_of` for digits alone
-pub decimal-packed : (bs : List ℕ) → length bs ≤ 4 → is_packed bs ≡ true → decimal_of bs ≡ Number (value_of bs)
+pub decimal-packed : (bs : List ℕ) → length bs ≤ 4 → is_packed bs ≡ true → decimal_of bs ≡ Some (value_of bs)
 unfolding decimal_of
 decimal-packed bs l p = rw (le-leb (length bs) 4 l, p)
 
 -- what was put is answered as the number that it was
-pub decimal-put : (k n : ℕ) → k ≤ 4 → n < 100 ^ k → decimal_of (packed_of k n) ≡ Number n
+pub decimal-put : (k n : ℕ) → k ≤ 4 → n < 100 ^ k → decimal_of (packed_of k n) ≡ Some n
 decimal-put k n l h =
-    decimal-packed (packed_of k n) (rw length-packed_of l) (packed-packed_of k n) ∙ ap Number (value-packed_of-fits k n h)
+    decimal-packed (packed_of k n) (rw length-packed_of l) (packed-packed_of k n) ∙ ap Some (value-packed_of-fits k n h)
 
 -- what is known of a number that was read
 pub record Read (bs : List ℕ) (n : ℕ) : Type 0 where
@@ -153,11 +153,11 @@ pub record Read (bs : List ℕ) (n : ℕ) : Type 0 where
   pub small : n < 100 ^ length bs
 
 -- it is known of every number that is answered
-pub decimal-read : (bs : List ℕ) (n : ℕ) → decimal_of bs ≡ Number n → Read bs n
+pub decimal-read : (bs : List ℕ) (n : ℕ) → decimal_of bs ≡ Some n → Read bs n
 unfolding decimal_of
 decimal-read bs n e = go (leb (length bs) 4) (is_packed bs) refl e
   where
-    go : (a b : Bool) → is_packed bs ≡ b → cond (a && b) (Number (value_of bs)) NotDecimal ≡ Number n → Read bs n
+    go : (a b : Bool) → is_packed bs ≡ b → cond (a && b) (Some (value_of bs)) None ≡ Some n → Read bs n
     go true true p h =
         let same : value_of bs ≡ n = cc in
         record { digits = p; put = ap (packed_of (length bs)) (sym same) ∙ packed_of-value bs p; small = rw same at (value-small bs p) }
@@ -165,12 +165,12 @@ decimal-read bs n e = go (leb (length bs) 4) (is_packed bs) refl e
     go false b p h = let z : ◌≡◌ {A = ℕ} 0 1 = cc in absurd (omega arith)
 
 -- the arm of `number_of` for more than four bytes
-pub decimal-long : (bs : List ℕ) → 4 < length bs → decimal_of bs ≡ NotDecimal
+pub decimal-long : (bs : List ℕ) → 4 < length bs → decimal_of bs ≡ None
 unfolding decimal_of
 decimal-long bs h = rw (lt-leb (length bs) 4 h)
 
 -- its arm for a half-byte above 9
-pub decimal-not : (bs : List ℕ) → length bs ≤ 4 → is_packed bs ≡ false → decimal_of bs ≡ NotDecimal
+pub decimal-not : (bs : List ℕ) → length bs ≤ 4 → is_packed bs ≡ false → decimal_of bs ≡ None
 unfolding decimal_of
 decimal-not bs l p = rw (le-leb (length bs) 4 l, p)
 
@@ -213,13 +213,13 @@ written_last s at k n =
 -- ---- at a place
 
 -- k bytes have 2k digits at most
-pub decimal-at-small : (s : List ℕ) (i k n : ℕ) → decimal_at s i k ≡ Number n → n < 100 ^ k
+pub decimal-at-small : (s : List ℕ) (i k n : ℕ) → decimal_at s i k ≡ Some n → n < 100 ^ k
 decimal-at-small s i k n e =
     let l : length (take k (drop i s)) ≤ k = rw length-take (omega arith) in
     omega (arith, (decimal-read (take k (drop i s)) n e).small, pow-le-pow_right {n = 100} (zero-lt-suc 99) l)
 
 -- what was put is read, and what is read was put
-pub decimal-front : (k n : ℕ) (rest : List ℕ) → k ≤ 4 → n < 100 ^ k → decimal_at (packed_of k n ++ rest) 0 k ≡ Number n
+pub decimal-front : (k n : ℕ) (rest : List ℕ) → k ≤ 4 → n < 100 ^ k → decimal_at (packed_of k n ++ rest) 0 k ≡ Some n
 decimal-front k n rest l h = ap decimal_of (take_at (packed_of k n) rest k (length-packed_of k n)) ∙ decimal-put k n l h
 
 -- a figure behind another one, to step over a reply's figures
@@ -229,7 +229,7 @@ decimal-behind j m rest i k =
     ∙ ap (λ (s : List ℕ). decimal_of (take k s)) (drop-append-add (packed_of j m) rest i)
 
 -- a figure that was read at a place, put again, is what stood there
-pub decimal-at-put : (s : List ℕ) (i k n : ℕ) → i + k ≤ length s → decimal_at s i k ≡ Number n → packed_of k n ≡ take k (drop i s)
+pub decimal-at-put : (s : List ℕ) (i k n : ℕ) → i + k ≤ length s → decimal_at s i k ≡ Some n → packed_of k n ≡ take k (drop i s)
 decimal-at-put s i k n h e =
     let l : length (take k (drop i s)) ≡ k = length-take-le k (drop i s) (simp length-drop (omega (arith, h))) in
     ap (λ (x : ℕ). packed_of x n) (sym l) ∙ (decimal-read (take k (drop i s)) n e).put
@@ -258,7 +258,7 @@ bytes-packed_of (suc k) n =
 
 -- a number, exactly where every half-byte is a digit
 pub decimal-kind : (s : List ℕ) (i k : ℕ) → k ≤ 4
-    → decimal_at s i k ≡ cond (is_packed (take k (drop i s))) (Number (value_of (take k (drop i s)))) NotDecimal
+    → decimal_at s i k ≡ cond (is_packed (take k (drop i s))) (Some (value_of (take k (drop i s)))) None
 unfolding decimal_of
 decimal-kind s i k h =
     let l : length (take k (drop i s)) ≤ 4 = rw length-take (omega arith) in

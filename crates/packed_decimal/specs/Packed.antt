@@ -1,8 +1,6 @@
 -- Packed decimal. Source: document 02, CR 1: "four bytes each of packed decimal", "41 a half-byte above 9"; 000, its command 27 hex: the bytes
 -- 00 02 27 50 are 22,750 tens of watt-hours (227.5 kWh).
-use Rattle.std.specs.Prelude.{Bool, true, cond, ◌&&◌, List, [], ◌∷◌, ◌++◌, ℕ, zero, suc, ◌+◌, ◌*◌, ◌/◌, ◌%◌, leb, length, take, drop}
-use Rattle.packed_decimal.specs.declared.Decimal.{Decimal}
-use Rattle.packed_decimal.specs.declared.Decimal.TheVariants.{Number, NotDecimal}
+use Rattle.std.specs.Prelude.{Bool, true, cond, ◌&&◌, List, [], ◌∷◌, ◌++◌, ℕ, zero, suc, ◌+◌, ◌*◌, ◌/◌, ◌%◌, leb, length, take, drop, None, Option, Some}
 
 -- ---- written
 
@@ -35,9 +33,9 @@ abbrev pub value_of : List ℕ → ℕ
 value_of bs = value_from 0 bs
 
 -- what the bytes are; four bytes have eight digits, the most that a number of 32 bits is sure to hold
-unfoldable pub decimal_of : List ℕ → Decimal
-decimal_of bs = cond (leb (length bs) 4 && is_packed bs) (Number (value_of bs)) NotDecimal
+unfoldable pub decimal_of : List ℕ → Option ℕ
+decimal_of bs = cond (leb (length bs) 4 && is_packed bs) (Some (value_of bs)) None
 
 -- the same of k bytes from place i on
-abbrev pub decimal_at : List ℕ → ℕ → ℕ → Decimal
+abbrev pub decimal_at : List ℕ → ℕ → ℕ → Option ℕ
 decimal_at s i k = decimal_of (take k (drop i s))

@@ -8,21 +8,13 @@ ghost use Rattle.std.specs.Prelude.{◌≡◌, take, ◌+◌, [], ◌∷◌};
 ghost use Rattle.byte_numbers.specs.Place.{written};
 ghost use Rattle.packed_decimal.specs.Packed.{pair_of, packed_of, decimal_of, decimal_at};
 
-// What bytes are as packed decimal.
-#[derive(Clone, Copy)]
-pub enum Decimal {
-    Number(u32),
-    // A half-byte is no digit, or there are more digits than a number of 32 bits is sure to hold.
-    NotDecimal,
-}
-
 // The most bytes whose digits a number of 32 bits is sure to hold.
 const MOST_BYTES: usize = 4;
 
 const LARGEST_DIGIT: u8 = 9;
 
 // The number of `width` bytes from a place on.
-pub fn number_at(s: &[u8], at: usize, width: usize) -> Decimal
+pub fn number_at(s: &[u8], at: usize, width: usize) -> Option<u32>
     ensures { result ≡ decimal_at s.now at width }
 {
     number_of(front(byte_numbers::tail(s, at), width))
@@ -32,32 +24,23 @@ pub fn number_at(s: &[u8], at: usize, width: usize) -> Decimal
 fn front(s: &[u8], n: usize) -> &[u8]
     ensures { result.now ≡ take n s.now }
 {
-    if n < s.len() {
-        return &s[..n];
-    }
-    s
+    if n < s.len() { &s[..n] } else { s }
 }
 
-fn number_of(bytes: &[u8]) -> Decimal
+fn number_of(bytes: &[u8]) -> Option<u32>
     ensures { result ≡ decimal_of bytes.now }
 {
     if MOST_BYTES < bytes.len() {
-        return Decimal::NotDecimal;
+        return None;
     }
     let mut number: u32 = 0;
-    let mut i = 0;
-    while i < bytes.len() {
-        let byte = bytes[i];
-        if LARGEST_DIGIT < byte / 16 {
-            return Decimal::NotDecimal;
-        }
-        if LARGEST_DIGIT < byte % 16 {
-            return Decimal::NotDecimal;
+    for &byte in bytes {
+        if LARGEST_DIGIT < byte / 16 || LARGEST_DIGIT < byte % 16 {
+            return None;
         }
         number = number * 100 + ((byte / 16 * 10 + byte % 16) as u32);
-        i += 1;
     }
-    Decimal::Number(number)
+    Some(number)
 }
 
 // Puts the lowest digits of a number into `width` bytes from a place on.
@@ -65,23 +48,20 @@ pub fn put_number(out: &mut [u8], at: usize, width: usize, number: u32)
     ensures { out.new ≡ written out.old at (packed_of width number) }
 {
     let mut rest = number;
-    let mut i = width;
     // From the last byte to the first, as the digits come off the number.
-    while 0 < i {
-        i -= 1;
+    for i in (0..width).rev() {
         put_at(out, at, i, pair(rest % 100));
         rest /= 100;
     }
 }
 
 // A byte i places behind a place.
+#[tactic(auto, unfolding(byte_numbers::specs::Place::written))]
 fn put_at(out: &mut [u8], at: usize, i: usize, byte: u8)
     ensures { out.new ≡ written out.old (at + i) (byte ∷ []) }
 {
-    if at < out.len() {
-        if i < out.len() - at {
-            out[at + i] = byte;
-        }
+    if at < out.len() && i < out.len() - at {
+        out[at + i] = byte;
     }
 }
 

@@ -6,6 +6,7 @@ use Rattle.std.specs.Prelude.{Bool, true, false, cond, not, List, [], ◌∷◌,
 use Rattle.parameters.specs.declared.code.Parameter.{Parameter}
 use Rattle.parameters.specs.declared.code.Reading.{Reading}
 use Rattle.parameters.specs.declared.code.Reading.TheVariants.{Stored, Displayed}
+use Rattle.parameters.specs.declared.table.Access.{Access}
 use Rattle.parameters.specs.declared.table.Access.TheVariants.{Auxiliary, Main}
 use Rattle.parameters.specs.declared.table.Changes.{Changes}
 use Rattle.parameters.specs.declared.table.Fields.{Fields}
@@ -34,11 +35,14 @@ unread = record { may = false; displayed = false; fields = Unused; bytes = 0; fi
 
 -- one that can be changed: how many bytes the change's data have, and the details that it may have, from and to. "Main opens all changes;
 -- auxiliary opens only network address, port settings and display mask."
+abbrev pub by : Access → ℕ → ℕ → ℕ → Changes
+by access bytes from to = record { may = true; access = access; bytes = bytes; from = from; to = to }
+
 abbrev pub by_main : ℕ → ℕ → ℕ → Changes
-by_main bytes from to = record { may = true; access = Main; bytes = bytes; from = from; to = to }
+by_main bytes from to = by Main bytes from to
 
 abbrev pub by_auxiliary : ℕ → ℕ → ℕ → Changes
-by_auxiliary bytes from to = record { may = true; access = Auxiliary; bytes = bytes; from = from; to = to }
+by_auxiliary bytes from to = by Auxiliary bytes from to
 
 abbrev pub fixed : Changes
 fixed = record { may = false; access = Main; bytes = 0; from = 0; to = 0 }

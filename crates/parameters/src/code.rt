@@ -54,7 +54,7 @@ pub const WRONG_ARGUMENT: u8 = 3;
 pub const NO_ACCESS: u8 = 4;
 
 // What a read is answered with.
-#[derive(Clone, Copy)]
+#[derive(Clone, Copy, PartialEq, Eq)]
 pub enum Reading {
     // Figures as the meter keeps them.
     Stored,
@@ -62,7 +62,7 @@ pub enum Reading {
     Displayed,
 }
 
-#[derive(Clone, Copy)]
+#[derive(Clone, Copy, PartialEq, Eq)]
 pub enum Function {
     Read(Reading),
     Change,
@@ -72,7 +72,7 @@ pub enum Function {
     Unknown,
 }
 
-#[derive(Clone, Copy)]
+#[derive(Clone, Copy, PartialEq, Eq)]
 pub enum Parameter {
     ActivePower,
     ReactivePower,
@@ -88,26 +88,31 @@ pub enum Parameter {
     Unknown,
 }
 
-pub fn function_of(code: u8) -> Function
-    ensures { result ≡ function_of code }
-{
-    match code {
-        READ => Function::Read(Reading::Stored),
-        READ_DISPLAYED => Function::Read(Reading::Displayed),
-        CHANGE => Function::Change,
-        ZERO => Function::Zero,
-        UNLOCK => Function::Unlock,
-        LOCK => Function::Lock,
-        _ => Function::Unknown,
+impl From<u8> for Function {
+    ghost from_gives = { λ code gives. gives ≡ function_of code };
+
+    #[tactic(auto, unfolding(crate::specs::Code::function_of))]
+    fn from(code: u8) -> Function {
+        match code {
+            READ => Function::Read(Reading::Stored),
+            READ_DISPLAYED => Function::Read(Reading::Displayed),
+            CHANGE => Function::Change,
+            ZERO => Function::Zero,
+            UNLOCK => Function::Unlock,
+            LOCK => Function::Lock,
+            _ => Function::Unknown,
+        }
     }
 }
 
 // The function of a read request.
-pub fn reading_code(reading: Reading) -> u8
-    ensures { result ≡ reading_code reading }
-{
-    match reading {
-        Reading::Stored => READ,
-        Reading::Displayed => READ_DISPLAYED,
+impl From<Reading> for u8 {
+    ghost from_gives = { λ reading gives. gives ≡ reading_code reading };
+
+    fn from(reading: Reading) -> u8 {
+        match reading {
+            Reading::Stored => READ,
+            Reading::Displayed => READ_DISPLAYED,
+        }
     }
 }

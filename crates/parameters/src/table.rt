@@ -3,7 +3,7 @@
 // What a command may do to a parameter and how many bytes it takes is read from here and stands nowhere else. What a parameter's figures
 // are, and what a change of it does, stand with the record that they belong to.
 ghost use Rattle.std.specs.Prelude.{◌≡◌};
-ghost use Rattle.parameters.specs.Table.{line, read, read_both, plain, unread, by_main, by_auxiliary, fixed, parameter_row};
+ghost use Rattle.parameters.specs.Table.{line, read, read_both, plain, by, parameter_row};
 ghost use Rattle.parameters.specs.Table.{opens_to, parameter_of, by_phase, bytes_in, reply_bytes, figure_count};
 
 use crate::code::{
@@ -12,7 +12,7 @@ use crate::code::{
 };
 
 // What offset, tariff and detail of a read are.
-#[derive(Clone, Copy)]
+#[derive(Clone, Copy, PartialEq, Eq)]
 pub enum Fields {
     // All three are 0.
     Unused,
@@ -25,13 +25,13 @@ pub enum Fields {
 }
 
 // The access that a change needs.
-#[derive(Clone, Copy)]
+#[derive(Clone, Copy, PartialEq, Eq)]
 pub enum Access {
     Auxiliary,
     Main,
 }
 
-#[derive(Clone, Copy)]
+#[derive(Clone, Copy, PartialEq, Eq)]
 pub struct Row {
     pub code: u8,
     pub readable: bool,
@@ -79,49 +79,64 @@ const DISPLAYED_BYTES: usize = 16;
 
 const DISPLAYED_FIGURES: usize = 4;
 
+// The columns of a parameter that cannot be read, and of one that cannot be changed.
+const UNREAD: Reads = Reads {
+    may: false,
+    displayed: false,
+    fields: Fields::Unused,
+    bytes: 0,
+    figures: 0,
+};
+
+const FIXED: Changes = Changes {
+    may: false,
+    access: Access::Main,
+    bytes: 0,
+    from: 0,
+    to: 0,
+};
+
 pub fn parameter_row(p: Parameter) -> Row
     ensures { result ≡ parameter_row p }
 {
     // code, fields of a read with bytes and figures of its reply, bytes and details of a change, whether it can be zeroed
     match p {
-        Parameter::ActivePower => line(ACTIVE_POWER, read(Fields::Phase, 16, 4), fixed(), false),
-        Parameter::ReactivePower => line(
-            REACTIVE_POWER,
-            read(Fields::Phase, 16, 4),
-            fixed(),
+        Parameter::ActivePower => line(ACTIVE_POWER, read(Fields::Phase, 16, 4), FIXED, false),
+        Parameter::ReactivePower => line(REACTIVE_POWER, read(Fields::Phase, 16, 4), FIXED, false),
+        Parameter::Address => line(ADDRESS, plain(1, 1), by(Access::Auxiliary, 1, 0, 0), false),
+        Parameter::Telemetry => line(TELEMETRY, plain(8, 3), by(Access::Main, 8, 0, 0), false),
+        Parameter::SummerDate => line(SUMMER_DATE, plain(6, 6), by(Access::Main, 6, 0, 0), true),
+        Parameter::WinterDate => line(WINTER_DATE, plain(6, 6), by(Access::Main, 6, 0, 0), true),
+        Parameter::Clock => line(CLOCK, plain(6, 6), by(Access::Main, 6, 2, 2), false),
+        Parameter::DisplayMask => line(
+            DISPLAY_MASK,
+            plain(6, 3),
+            by(Access::Auxiliary, 6, 0, 0),
             false,
         ),
-        Parameter::Address => line(ADDRESS, plain(1, 1), by_auxiliary(1, 0, 0), false),
-        Parameter::Telemetry => line(TELEMETRY, plain(8, 3), by_main(8, 0, 0), false),
-        Parameter::SummerDate => line(SUMMER_DATE, plain(6, 6), by_main(6, 0, 0), true),
-        Parameter::WinterDate => line(WINTER_DATE, plain(6, 6), by_main(6, 0, 0), true),
-        Parameter::Clock => line(CLOCK, plain(6, 6), by_main(6, 2, 2), false),
-        Parameter::DisplayMask => line(DISPLAY_MASK, plain(6, 3), by_auxiliary(6, 0, 0), false),
-        Parameter::Slice => line(SLICE, read_both(Fields::Slot, 8, 4), fixed(), true),
-        Parameter::Password => line(PASSWORD, unread(), by_main(8, 0, 1), false),
-        Parameter::SixSlices => line(SIX_SLICES, read(Fields::SixSlots, 48, 24), fixed(), false),
-        Parameter::Unknown => line(UNKNOWN, unread(), fixed(), false),
+        Parameter::Slice => line(SLICE, read_both(Fields::Slot, 8, 4), FIXED, true),
+        Parameter::Password => line(PASSWORD, UNREAD, by(Access::Main, 8, 0, 1), false),
+        Parameter::SixSlices => line(SIX_SLICES, read(Fields::SixSlots, 48, 24), FIXED, false),
+        Parameter::Unknown => line(UNKNOWN, UNREAD, FIXED, false),
     }
 }
 
 fn line(code: u8, reads: Reads, changes: Changes, zeroable: bool) -> Row
     ensures { result ≡ line code reads changes zeroable }
 {
-    let fields = reads.fields;
-    let access = changes.access;
     Row {
-        code: code,
+        code,
         readable: reads.may,
         displayable: reads.displayed,
-        fields: fields,
+        fields: reads.fields,
         reply_bytes: reads.bytes,
         figures: reads.figures,
         changeable: changes.may,
-        access: access,
+        access: changes.access,
         change_bytes: changes.bytes,
         detail_from: changes.from,
         detail_to: changes.to,
-        zeroable: zeroable,
+        zeroable,
     }
 }
 
@@ -131,9 +146,9 @@ fn read(fields: Fields, bytes: usize, figures: usize) -> Reads
     Reads {
         may: true,
         displayed: false,
-        fields: fields,
-        bytes: bytes,
-        figures: figures,
+        fields,
+        bytes,
+        figures,
     }
 }
 
@@ -141,11 +156,8 @@ fn read_both(fields: Fields, bytes: usize, figures: usize) -> Reads
     ensures { result ≡ read_both fields bytes figures }
 {
     Reads {
-        may: true,
         displayed: true,
-        fields: fields,
-        bytes: bytes,
-        figures: figures,
+        ..read(fields, bytes, figures)
     }
 }
 
@@ -155,51 +167,15 @@ fn plain(bytes: usize, figures: usize) -> Reads
     read(Fields::Unused, bytes, figures)
 }
 
-fn unread() -> Reads
-    ensures { result ≡ unread }
-{
-    Reads {
-        may: false,
-        displayed: false,
-        fields: Fields::Unused,
-        bytes: 0,
-        figures: 0,
-    }
-}
-
-fn by_main(bytes: usize, from: u8, to: u8) -> Changes
-    ensures { result ≡ by_main bytes from to }
+fn by(access: Access, bytes: usize, from: u8, to: u8) -> Changes
+    ensures { result ≡ by access bytes from to }
 {
     Changes {
         may: true,
-        access: Access::Main,
-        bytes: bytes,
-        from: from,
-        to: to,
-    }
-}
-
-fn by_auxiliary(bytes: usize, from: u8, to: u8) -> Changes
-    ensures { result ≡ by_auxiliary bytes from to }
-{
-    Changes {
-        may: true,
-        access: Access::Auxiliary,
-        bytes: bytes,
-        from: from,
-        to: to,
-    }
-}
-
-fn fixed() -> Changes
-    ensures { result ≡ fixed }
-{
-    Changes {
-        may: false,
-        access: Access::Main,
-        bytes: 0,
-        from: 0,
-        to: 0,
+        access,
+        bytes,
+        from,
+        to,
     }
 }
 
@@ -214,26 +190,30 @@ pub fn opens_to(reading: Reading, row: Row) -> bool
 }
 
 // The parameter that has a code in the table.
-pub fn parameter_of(code: u8) -> Parameter
-    ensures { result ≡ parameter_of code }
-{
-    match code {
-        ACTIVE_POWER => Parameter::ActivePower,
-        REACTIVE_POWER => Parameter::ReactivePower,
-        ADDRESS => Parameter::Address,
-        TELEMETRY => Parameter::Telemetry,
-        SUMMER_DATE => Parameter::SummerDate,
-        WINTER_DATE => Parameter::WinterDate,
-        CLOCK => Parameter::Clock,
-        DISPLAY_MASK => Parameter::DisplayMask,
-        SLICE => Parameter::Slice,
-        PASSWORD => Parameter::Password,
-        SIX_SLICES => Parameter::SixSlices,
-        _ => Parameter::Unknown,
+impl From<u8> for Parameter {
+    ghost from_gives = { λ code gives. gives ≡ parameter_of code };
+
+    #[tactic(auto, unfolding(crate::specs::Table::first_of, crate::specs::Table::parameter_of))]
+    fn from(code: u8) -> Parameter {
+        match code {
+            ACTIVE_POWER => Parameter::ActivePower,
+            REACTIVE_POWER => Parameter::ReactivePower,
+            ADDRESS => Parameter::Address,
+            TELEMETRY => Parameter::Telemetry,
+            SUMMER_DATE => Parameter::SummerDate,
+            WINTER_DATE => Parameter::WinterDate,
+            CLOCK => Parameter::Clock,
+            DISPLAY_MASK => Parameter::DisplayMask,
+            SLICE => Parameter::Slice,
+            PASSWORD => Parameter::Password,
+            SIX_SLICES => Parameter::SixSlices,
+            _ => Parameter::Unknown,
+        }
     }
 }
 
 // How many bytes the data of a reply have, and how many figures: those of the row, save that one phase of a power is a part of it.
+#[tactic(auto, unfolding(crate::specs::Table::reply_bytes))]
 pub fn reply_bytes(reading: Reading, p: Parameter, detail: u8) -> usize
     ensures { result ≡ reply_bytes reading p detail }
 {
@@ -244,20 +224,19 @@ pub fn reply_bytes(reading: Reading, p: Parameter, detail: u8) -> usize
 pub fn bytes_in(reading: Reading, row: Row, detail: u8) -> usize
     ensures { result ≡ bytes_in reading row detail }
 {
-    let fields = row.fields;
     match reading {
-        Reading::Stored => by_phase(fields, detail, row.reply_bytes, PHASE_BYTES),
+        Reading::Stored => by_phase(row.fields, detail, row.reply_bytes, PHASE_BYTES),
         Reading::Displayed => DISPLAYED_BYTES,
     }
 }
 
+#[tactic(auto, unfolding(crate::specs::Table::figure_count))]
 pub fn figure_count(reading: Reading, p: Parameter, detail: u8) -> usize
     ensures { result ≡ figure_count reading p detail }
 {
     let row = parameter_row(p);
-    let fields = row.fields;
     match reading {
-        Reading::Stored => by_phase(fields, detail, row.figures, PHASE_FIGURES),
+        Reading::Stored => by_phase(row.fields, detail, row.figures, PHASE_FIGURES),
         Reading::Displayed => DISPLAYED_FIGURES,
     }
 }
@@ -266,9 +245,7 @@ fn by_phase(fields: Fields, detail: u8, whole: usize, phase: usize) -> usize
     ensures { result ≡ by_phase fields detail whole phase }
 {
     match fields {
-        Fields::Phase => { if detail == 0 { whole } else { phase } }
-        Fields::Unused => whole,
-        Fields::Slot => whole,
-        Fields::SixSlots => whole,
+        Fields::Phase if detail != 0 => phase,
+        Fields::Phase | Fields::Unused | Fields::Slot | Fields::SixSlots => whole,
     }
 }

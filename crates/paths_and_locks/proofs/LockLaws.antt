@@ -1,25 +1,26 @@
 -- What follows from the definitions of specs/Lock.antt: what was put is read back. No contract cites it.
+use Rattle.std.specs.Prelude.{None, Some}
+use Rattle.std.specs.List.{position_or_len}
+use Rattle.std.proofs.Common.{cond, not}
+use lib.Dec.{eqb}
 use Prim.Native.Nat.{ℕ, zero, suc, ◌+◌, ◌-◌, ◌^◌, ◌≤◌, ◌<◌}
 use mathlib.Core.Bool.{Bool, true, false, ◌&&◌, false≢true}
 use mathlib.Core.Path.{◌≡◌, refl, sym, ap, ◌∙◌}
 use mathlib.Core.List.{List, [], ◌∷◌, ◌++◌, append-nil}
 use native.Mathlib.Nat.{add-zero}
-use native.Mathlib.Numerals.{add-one}
 use native.Mathlib.Omega.{arith}
-use borrow.Author.Tests.{eq-eqb, ne_eqb, le-leb, leb-true}
-use lib.Dec.{leb}
-use lib.ListN.{length, take, drop, get_or, length-append, length-drop}
-use lib.Seq.{drop-cons, take_at, take-length}
+use borrow.Author.Tests.{ne_eqb, le-leb, leb-true, ltb-false}
+use lib.Dec.{leb, ltb}
+use lib.ListN.{length, take, drop, length-append, length-drop, drop_of_length-le}
+use lib.Seq.{take_all, take_at, take-length}
 use Rattle.byte_numbers.specs.Place.{written}
 use Rattle.byte_numbers.proofs.PlaceLaws.{onward}
 use Rattle.text.specs.Decimal.{decimal, is_digit, are_digits}
 use Rattle.text.specs.Reading.{number_of_text}
 use Rattle.text.specs.Search.{index_of}
-use Rattle.text.specs.declared.reading.NumberAnswer.{NumberAnswer}
 use Rattle.text.proofs.DecimalLaws.{are_digits-decimal, decimal-least, decimal-most-u32}
 use Rattle.text.proofs.ReadingLaws.{read-decimal}
 use Rattle.paths_and_locks.specs.Lock.{pad_of, holder_text, after_spaces, up_to, process_of, holder_in, holder_of}
-use Rattle.paths_and_locks.specs.declared.holder.Holder.TheVariants.{Process}
 
 abbrev spaces : ℕ → List ℕ
 spaces zero = []
@@ -47,22 +48,44 @@ put s t u v p k pad e q a b c =
 
 -- ---- laws for the walks
 
--- a space is passed
-pub space-at : (s : List ℕ) (i : ℕ) → i < length s → get_or s i 0 ≡ 32 → after_spaces (drop i s) ≡ after_spaces (drop (i + 1) s)
-unfolding after_spaces
-space-at s i h e = rw (add-one, drop-cons s i 0 h, eq-eqb (get_or s i 0) 32 e)
+-- the place of the first byte that is no space
+abbrev pub first_other : List ℕ → ℕ
+first_other s = position_or_len (λ b. not (eqb b 32)) s
 
--- any other sign ends the walk over the spaces
-pub other_at : (s : List ℕ) (i : ℕ) → i < length s → (get_or s i 0 ≡ 32 → ⊥) → after_spaces (drop i s) ≡ drop i s
-unfolding after_spaces
-other_at s i h e = rw (drop-cons s i 0 h, ne_eqb (get_or s i 0) 32 e)
+step : (b : ℕ) (s : List ℕ) → first_other (b ∷ s) ≡ cond (eqb b 32) (suc (first_other s)) 0
+step b s = go (eqb b 32)
+  where
+    go : (x : Bool) → cond (not (not x)) (1 + first_other s) 0 ≡ cond x (suc (first_other s)) 0
+    go true = omega arith
+    go false = refl
 
--- what a text's first word says of its holder
-pub told : (s a l w : List ℕ) (x y : NumberAnswer) → a ≡ after_spaces s → l ≡ up_to 10 a → w ≡ up_to 32 l → x ≡ number_of_text w → x ≡ y → holder_in y ≡ holder_of s
-unfolding holder_of
-told s a l w x y p q r t g =
-    let e : x ≡ number_of_text (up_to 32 (up_to 10 (after_spaces s))) = t ∙ ap number_of_text (r ∙ ap (up_to 32) (q ∙ ap (up_to 10) p)) in
-    ap holder_in (sym g ∙ e)
+-- is where what follows the spaces begins
+passed_spaces : (s : List ℕ) → drop (first_other s) s ≡ after_spaces s
+unfolding after_spaces
+passed_spaces [] = refl
+passed_spaces (b ∷ s) = ap (λ (k : ℕ). drop k (b ∷ s)) (step b s) ∙ go (eqb b 32) (passed_spaces s)
+  where
+    go : (x : Bool) → drop (first_other s) s ≡ after_spaces s → drop (cond x (suc (first_other s)) 0) (b ∷ s) ≡ cond x (after_spaces s) (b ∷ s)
+    go true e = e
+    go false e = refl
+
+-- which is told by a search
+pub from_first : (s : List ℕ) (n : ℕ) → cond (ltb (first_other s) (length s)) (Some (first_other s)) None ≡ Some n → take (length s - n) (drop n s) ≡ after_spaces s
+from_first s n e = go (ltb (first_other s) (length s)) e
+  where
+    go : (x : Bool) → cond x (Some (first_other s)) None ≡ Some n → take (length s - n) (drop n s) ≡ after_spaces s
+    go true e =
+        let same : first_other s ≡ n = cc in
+        take_all (length s - n) (drop n s) (omega (arith, length-drop n s)) ∙ (rw same at (passed_spaces s))
+    go false e = cc
+
+-- where there is none, nothing follows
+pub all_spaces : (s : List ℕ) → cond (ltb (first_other s) (length s)) (Some (first_other s)) None ≡ None → [] ≡ after_spaces s
+all_spaces s e = go (ltb (first_other s) (length s)) refl e
+  where
+    go : (x : Bool) → ltb (first_other s) (length s) ≡ x → cond x (Some (first_other s)) None ≡ None → [] ≡ after_spaces s
+    go true h e = cc
+    go false h e = sym (drop_of_length-le s (ltb-false _ _ h)) ∙ passed_spaces s
 
 -- ---- there and back
 
@@ -107,7 +130,7 @@ word xs e =
     ap (λ (k : ℕ). take k xs) n ∙ take-length xs
 
 -- a process that was put is read back
-pub read_back : (p : ℕ) → 1 ≤ p → p ≤ 2147483647 → holder_of (holder_text p) ≡ Process p
+pub read_back : (p : ℕ) → 1 ≤ p → p ≤ 2147483647 → holder_of (holder_text p) ≡ Some p
 unfolding holder_of holder_text pad_of holder_in process_of
 read_back p least most =
     let d = are_digits-decimal p in

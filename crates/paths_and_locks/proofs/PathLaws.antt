@@ -1,14 +1,11 @@
 -- What follows from the definitions of specs/Path.antt, for proofs alone: no contract cites it.
-use Prim.Native.Nat.{ℕ, zero, suc, ◌+◌, ◌-◌, ◌≤◌, ◌<◌}
+use Prim.Native.Nat.{ℕ, zero, suc, ◌-◌, ◌<◌}
 use mathlib.Core.Path.{◌≡◌, sym, ap, ◌∙◌}
-use mathlib.Core.List.{List, ◌++◌}
+use mathlib.Core.List.{List}
 use native.Mathlib.Omega.{arith}
-use borrow.Author.Tests.{eq-eqb, ne_eqb, le-leb, lt-leb}
-use lib.ListN.{length, get_or}
-use Rattle.byte_numbers.specs.Place.{written}
-use Rattle.refusal.specs.Outcome.{outcome}
-use Rattle.paths_and_locks.specs.Path.{folder_length, joined}
-use Rattle.paths_and_locks.specs.declared.path.PathAnswer.TheVariants.{Length, Failed}
+use borrow.Author.Tests.{eq-eqb, ne_eqb}
+use lib.ListN.{get_or}
+use Rattle.paths_and_locks.specs.Path.{folder_length}
 
 -- ---- the search for the last slash, from the end
 
@@ -27,16 +24,3 @@ no_slash s zero h e = absurd (omega arith)
 no_slash s (suc k) h e =
     let m : suc k - 1 ≡ k = omega arith in
     rw (m, ne_eqb (get_or s k 0) 47 (λ f. e (ap (λ (j : ℕ). get_or s j 0) m ∙ f)))
-
--- ---- two texts in a buffer
-
-module _ (s xs ys : List ℕ) where
-  -- where the two do not fit, nothing is written
-  pub no_room : length s < length xs + length ys → joined s xs ys ≡ outcome Failed s
-  unfolding joined
-  no_room h = rw (lt-leb (length xs + length ys) (length s) h)
-
-  -- where they fit, they stand at the front, one behind the other
-  pub has_room : length xs + length ys ≤ length s → joined s xs ys ≡ outcome (Length (length xs + length ys)) (written s 0 (xs ++ ys))
-  unfolding joined
-  has_room h = rw (le-leb (length xs + length ys) (length s) h)

@@ -1,13 +1,9 @@
 -- What a lock file holds. Source: Filesystem Hierarchy Standard 3.0, "/var/lock": "to store the process identifier (PID) as a ten byte ASCII
 -- decimal number, with a trailing newline"; the example there has spaces before the digits.
-use Rattle.std.specs.Prelude.{ℕ, ◌&&◌, cond, List, [], ◌∷◌, ◌++◌, eqb, leb, length, take, drop}
+use Rattle.std.specs.Prelude.{ℕ, ◌&&◌, cond, List, [], ◌∷◌, ◌++◌, eqb, leb, length, take, drop, None, Option, Some}
 use Rattle.text.specs.Decimal.{decimal}
 use Rattle.text.specs.Reading.{number_of_text}
 use Rattle.text.specs.Search.{index_of}
-use Rattle.text.specs.declared.reading.NumberAnswer.{NumberAnswer}
-use Rattle.text.specs.declared.reading.NumberAnswer.TheVariants.{Number, NotANumber}
-use Rattle.paths_and_locks.specs.declared.holder.Holder.{Holder}
-use Rattle.paths_and_locks.specs.declared.holder.Holder.TheVariants.{Process, NoNumber}
 
 -- the spaces before a number's digits, ten bytes with them
 unfoldable pub pad_of : ℕ → List ℕ
@@ -27,13 +23,13 @@ unfoldable pub up_to : ℕ → List ℕ → List ℕ
 up_to b s = take (index_of b s) s
 
 -- a number as a process: 1 to 2,147,483,647 (a `pid_t` has 32 bits and a sign)
-unfoldable pub process_of : ℕ → Holder
-process_of n = cond (leb 1 n && leb n 2147483647) (Process n) NoNumber
+unfoldable pub process_of : ℕ → Option ℕ
+process_of n = cond (leb 1 n && leb n 2147483647) (Some n) None
 
-unfoldable pub holder_in : NumberAnswer → Holder
-holder_in (Number n) = process_of n
-holder_in NotANumber = NoNumber
+unfoldable pub holder_in : Option ℕ → Option ℕ
+holder_in (Some n) = process_of n
+holder_in None = None
 
 -- the process that a lock's bytes name: their first word, before a space or the line's end
-unfoldable pub holder_of : List ℕ → Holder
+unfoldable pub holder_of : List ℕ → Option ℕ
 holder_of s = holder_in (number_of_text (up_to 32 (up_to 10 (after_spaces s))))

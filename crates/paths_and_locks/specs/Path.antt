@@ -1,10 +1,8 @@
 -- Paths as bytes. Source: no paper has them; POSIX.1-2024, "Pathname Resolution": slashes stand between the names, a path that begins with
 -- one starts at the root, and what a symbolic link holds, where it does not begin with one, starts at the link's own folder.
-use Rattle.std.specs.Prelude.{ℕ, zero, suc, ◌+◌, cond, List, [], ◌++◌, eqb, leb, length, take, drop, get_or}
+use Rattle.std.specs.Prelude.{ℕ, zero, suc, ◌+◌, cond, List, [], ◌++◌, eqb, leb, length, take, drop, get_or, None, Option, Some}
 use Rattle.byte_numbers.specs.Place.{written}
 use Rattle.refusal.specs.Outcome.{Outcome, outcome}
-use Rattle.paths_and_locks.specs.declared.path.PathAnswer.{PathAnswer}
-use Rattle.paths_and_locks.specs.declared.path.PathAnswer.TheVariants.{Length, Failed}
 
 -- how many of the first k bytes stand up to their last slash, that slash among them
 unfoldable pub folder_length : ℕ → List ℕ → ℕ
@@ -24,5 +22,5 @@ unfoldable pub start_of : List ℕ → List ℕ → List ℕ
 start_of link text = cond (eqb (get_or text 0 0) 47) [] (folder_of link)
 
 -- two texts, one behind the other, at the front of a buffer, where it has room for both
-unfoldable pub joined : List ℕ → List ℕ → List ℕ → Outcome PathAnswer (List ℕ)
-joined s xs ys = cond (leb (length xs + length ys) (length s)) (outcome (Length (length xs + length ys)) (written s 0 (xs ++ ys))) (outcome Failed s)
+unfoldable pub joined : List ℕ → List ℕ → List ℕ → Outcome (Option ℕ) (List ℕ)
+joined s xs ys = cond (leb (length xs + length ys) (length s)) (outcome (Some (length xs + length ys)) (written s 0 (xs ++ ys))) (outcome None s)

@@ -3,17 +3,9 @@ ghost use Rattle.std.specs.Prelude.{◌≡◌};
 ghost use Rattle.byte_numbers.specs.Place.{written};
 ghost use Rattle.paths_and_locks.specs.Lock.{holder_text, after_spaces, up_to, process_of, holder_of};
 
-use text::NumberAnswer;
+const NEWLINE: u8 = b'\n';
 
-#[derive(Clone, Copy)]
-pub enum Holder {
-    Process(u32),
-    NoNumber,
-}
-
-const NEWLINE: u8 = 10;
-
-const SPACE: u8 = 32;
+const SPACE: u8 = b' ';
 
 // The largest process number, in the system's 32 bits with a sign.
 const LARGEST: u64 = 2147483647;
@@ -34,44 +26,37 @@ pub fn put_holder(out: &mut [u8], pid: u32)
 fn after_spaces(s: &[u8]) -> &[u8]
     ensures { result.now ≡ after_spaces s.now }
 {
-    let mut i = 0;
-    while i < s.len() {
-        if s[i] != SPACE {
-            return byte_numbers::tail(s, i);
-        }
-        i += 1;
+    match s.iter().position(|b| *b != SPACE) {
+        Some(n) => &s[n..],
+        None => &[],
     }
-    &s[..0]
 }
 
 // What stands before a byte.
+#[tactic(auto, unfolding(crate::specs::Lock::up_to))]
 fn up_to(s: &[u8], byte: u8) -> &[u8]
     ensures { result.now ≡ up_to byte s.now }
 {
-    crate::path::front(s, text::index_of(s, byte))
+    &s[..text::index_of(s, byte)]
 }
 
-fn process_of(n: u64) -> Holder
+#[tactic(auto, unfolding(crate::specs::Lock::process_of))]
+fn process_of(n: u64) -> Option<u32>
     ensures { result ≡ process_of n }
 {
-    if n < 1 {
-        return Holder::NoNumber;
+    if (1..=LARGEST).contains(&n) {
+        Some(n as u32)
+    } else {
+        None
     }
-    if LARGEST < n {
-        return Holder::NoNumber;
-    }
-    Holder::Process(n as u32)
 }
 
 // The process that a lock's text names. Programs differ in what they put before and behind the number: spaces before it are passed
 // over, and so is what follows a space or the line's end.
-pub fn holder_of(bytes: &[u8]) -> Holder
+#[tactic(auto, unfolding(crate::specs::Lock::holder_of, crate::specs::Lock::holder_in))]
+pub fn holder_of(bytes: &[u8]) -> Option<u32>
     ensures { result ≡ holder_of bytes.now }
 {
     let line = up_to(after_spaces(bytes), NEWLINE);
-    let answer = text::number_of(up_to(line, SPACE));
-    match answer {
-        NumberAnswer::Number(n) => process_of(n),
-        NumberAnswer::NotANumber => Holder::NoNumber,
-    }
+    process_of(text::number_of(up_to(line, SPACE))?)
 }

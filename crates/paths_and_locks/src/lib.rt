@@ -4,5 +4,5 @@
 mod holder;
 mod path;
 
-pub use holder::{Holder, holder_of, put_holder};
-pub use path::{PathAnswer, base_of, folder_of, front, joined, start_of};
+pub use holder::{holder_of, put_holder};
+pub use path::{base_of, folder_of, front, joined, start_of};

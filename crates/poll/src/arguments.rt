@@ -3,7 +3,6 @@ use calendar::Date;
 use file_io::PATH_ROOM;
 use log_header::Header;
 use polling::{Order, Wanted};
-use text::NumberAnswer;
 
 // The days that are polled.
 #[derive(Clone, Copy)]
@@ -25,37 +24,6 @@ pub struct Options {
     pub anyway: bool,
 }
 
-#[derive(Clone, Copy)]
-pub enum ByteArgument {
-    Byte(u8),
-    // No number, or a larger one.
-    Unread,
-}
-
-#[derive(Clone, Copy)]
-pub enum ShortArgument {
-    Short(u16),
-    Unread,
-}
-
-#[derive(Clone, Copy)]
-pub enum LongArgument {
-    Long(u32),
-    Unread,
-}
-
-#[derive(Clone, Copy)]
-pub enum Start {
-    Of(Header),
-    OutOfRange,
-}
-
-const MOST_BYTE: u64 = 255;
-
-const MOST_SHORT: u64 = 65535;
-
-const MOST_LONG: u64 = 4294967295;
-
 // Where the words of `poll DEVICE ADDRESS LOGFILE ..` and of `poll new LOGFILE YEAR MONTH DAY DAYS MINUTES KE SEASONS` stand.
 pub const DEVICE: usize = 1;
 
@@ -66,11 +34,7 @@ pub const POLLED_LOG: usize = 3;
 // The words behind the log's file, in any order.
 const FIRST_OPTION: usize = 4;
 
-const SECOND_OPTION: usize = 5;
-
-const THIRD_OPTION: usize = 6;
-
-const FOURTH_OPTION: usize = 7;
+const LAST_OPTION: usize = 7;
 
 // The first word, among `new mercury`.
 const NEW: usize = 0;
@@ -104,10 +68,8 @@ const KE: usize = 8;
 
 const SEASONS: usize = 9;
 
+// A date counts its years from here, in one byte; which dates there are, the log says.
 const FIRST_YEAR: u16 = 2000;
-
-// The last that one byte holds; which dates there are, the log says.
-const LAST_YEAR: u16 = 2255;
 
 // Whether the first word is `new`.
 pub fn is_new(rt: HostRuntime) -> bool {
@@ -125,16 +87,16 @@ fn first_place(rt: HostRuntime) -> usize {
 }
 
 pub fn said_options(rt: HostRuntime) -> Options {
-    let none = Options {
+    let mut options = Options {
         chosen: Chosen::All,
         wanted: Wanted::Gaps,
         order: Order::OldestFirst,
         anyway: false,
     };
-    let one = with_word(rt, none, FIRST_OPTION);
-    let two = with_word(rt, one, SECOND_OPTION);
-    let three = with_word(rt, two, THIRD_OPTION);
-    with_word(rt, three, FOURTH_OPTION)
+    for i in FIRST_OPTION..=LAST_OPTION {
+        options = with_word(rt, options, i);
+    }
+    options
 }
 
 fn with_word(rt: HostRuntime, o: Options, i: usize) -> Options {
@@ -143,132 +105,53 @@ fn with_word(rt: HostRuntime, o: Options, i: usize) -> Options {
     }
     let mut room = [0u8; PATH_ROOM];
     let word = file_io::word(rt, i, &mut room);
-    let chosen = o.chosen;
-    let wanted = o.wanted;
-    let order = o.order;
     match console::place_of(word, b"again anyway newest") {
         AGAIN => Options {
-            chosen: chosen,
             wanted: Wanted::GapsAndEmpties,
-            order: order,
-            anyway: o.anyway,
+            ..o
         },
-        ANYWAY => Options {
-            chosen: chosen,
-            wanted: wanted,
-            order: order,
-            anyway: true,
-        },
+        ANYWAY => Options { anyway: true, ..o },
         NEWEST => Options {
-            chosen: chosen,
-            wanted: wanted,
             order: Order::NewestFirst,
-            anyway: o.anyway,
+            ..o
         },
         _ => Options {
-            chosen: one_day(rt, i),
-            wanted: wanted,
-            order: order,
-            anyway: o.anyway,
+            chosen: byte_argument(rt, i).map_or(Chosen::Unread, Chosen::One),
+            ..o
         },
-    }
-}
-
-fn one_day(rt: HostRuntime, i: usize) -> Chosen {
-    match byte_argument(rt, i) {
-        ByteArgument::Byte(day) => Chosen::One(day),
-        ByteArgument::Unread => Chosen::Unread,
     }
 }
 
 // YEAR MONTH DAY DAYS MINUTES KE SEASONS: a word that is no number is no header's either.
-pub fn start_words(rt: HostRuntime) -> Start {
-    let ShortArgument::Short(year) = short_argument(rt, YEAR) else {
-        return Start::OutOfRange;
-    };
-    let ByteArgument::Byte(month) = byte_argument(rt, MONTH) else {
-        return Start::OutOfRange;
-    };
-    let ByteArgument::Byte(day) = byte_argument(rt, DAY) else {
-        return Start::OutOfRange;
-    };
-    let ByteArgument::Byte(days) = byte_argument(rt, DAYS) else {
-        return Start::OutOfRange;
-    };
-    let ByteArgument::Byte(minutes) = byte_argument(rt, MINUTES) else {
-        return Start::OutOfRange;
-    };
-    let ShortArgument::Short(ke) = short_argument(rt, KE) else {
-        return Start::OutOfRange;
-    };
-    let ByteArgument::Byte(seasons) = byte_argument(rt, SEASONS) else {
-        return Start::OutOfRange;
-    };
-    start_of(year, month, day, days, minutes, ke, seasons)
-}
-
-fn start_of(year: u16, month: u8, day: u8, days: u8, minutes: u8, ke: u16, seasons: u8) -> Start {
-    if year < FIRST_YEAR {
-        return Start::OutOfRange;
-    }
-    if LAST_YEAR < year {
-        return Start::OutOfRange;
-    }
-    let first = Date {
-        year: (year - FIRST_YEAR) as u8,
-        month: month,
-        day: day,
-    };
-    Start::Of(Header {
-        start: first,
-        days: days,
-        minutes: minutes,
-        ke: ke,
-        seasons: seasons,
+pub fn start_words(rt: HostRuntime) -> Option<Header> {
+    let year = short_argument(rt, YEAR)?.checked_sub(FIRST_YEAR)?;
+    Some(Header {
+        start: Date {
+            year: u8::try_from(year).ok()?,
+            month: byte_argument(rt, MONTH)?,
+            day: byte_argument(rt, DAY)?,
+        },
+        days: byte_argument(rt, DAYS)?,
+        minutes: byte_argument(rt, MINUTES)?,
+        ke: short_argument(rt, KE)?,
+        seasons: byte_argument(rt, SEASONS)?,
     })
 }
 
-pub fn byte_argument(rt: HostRuntime, i: usize) -> ByteArgument {
-    match number_argument(rt, i) {
-        NumberAnswer::Number(n) => {
-            if n <= MOST_BYTE {
-                ByteArgument::Byte(n as u8)
-            } else {
-                ByteArgument::Unread
-            }
-        }
-        NumberAnswer::NotANumber => ByteArgument::Unread,
-    }
+pub fn byte_argument(rt: HostRuntime, i: usize) -> Option<u8> {
+    u8::try_from(number_argument(rt, i)?).ok()
 }
 
-fn short_argument(rt: HostRuntime, i: usize) -> ShortArgument {
-    match number_argument(rt, i) {
-        NumberAnswer::Number(n) => {
-            if n <= MOST_SHORT {
-                ShortArgument::Short(n as u16)
-            } else {
-                ShortArgument::Unread
-            }
-        }
-        NumberAnswer::NotANumber => ShortArgument::Unread,
-    }
+fn short_argument(rt: HostRuntime, i: usize) -> Option<u16> {
+    u16::try_from(number_argument(rt, i)?).ok()
 }
 
-pub fn long_argument(rt: HostRuntime, i: usize) -> LongArgument {
-    match number_argument(rt, i) {
-        NumberAnswer::Number(n) => {
-            if n <= MOST_LONG {
-                LongArgument::Long(n as u32)
-            } else {
-                LongArgument::Unread
-            }
-        }
-        NumberAnswer::NotANumber => LongArgument::Unread,
-    }
+pub fn long_argument(rt: HostRuntime, i: usize) -> Option<u32> {
+    u32::try_from(number_argument(rt, i)?).ok()
 }
 
 // A word that is missing or too long reads as an empty one, which is no number.
-fn number_argument(rt: HostRuntime, i: usize) -> NumberAnswer {
+fn number_argument(rt: HostRuntime, i: usize) -> Option<u64> {
     let mut room = [0u8; PATH_ROOM];
     text::number_of(file_io::word(rt, i, &mut room))
 }

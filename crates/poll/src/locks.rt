@@ -11,28 +11,12 @@ pub enum Kind {
     Line,
 }
 
-#[derive(Clone, Copy)]
-pub enum Taken {
-    // The lock's path, by its length.
-    Path(usize),
-    // That is said.
-    Not,
-}
-
 // Takes the lock that keeps a file or a line for this poll.
-pub fn take(rt: HostRuntime, kind: Kind, what: &[u8], path: &mut [u8]) -> Taken {
-    match name_of(rt, kind, what, path) {
-        Ok(n) => {
-            if is_taken(rt, what, front(path, n)) {
-                return Taken::Path(n);
-            }
-            Taken::Not
-        }
-        Err(why) => {
-            say::failed(rt, what, why);
-            Taken::Not
-        }
-    }
+pub fn take(rt: HostRuntime, kind: Kind, what: &[u8], path: &mut [u8]) -> Option<usize> {
+    let n = name_of(rt, kind, what, path)
+        .map_err(|why| say::failed(rt, what, why))
+        .ok()?;
+    is_taken(rt, what, front(path, n)).then_some(n)
 }
 
 fn name_of(rt: HostRuntime, kind: Kind, what: &[u8], path: &mut [u8]) -> io::Result<usize> {

@@ -25,33 +25,15 @@ const MOST_WORDS: usize = 8;
 
 fn main(rt: HostRuntime) {
     let count = file_io::word_count(rt);
-    if arguments::is_new(rt) {
-        if count == NEW_WORDS {
-            say::end(rt, fresh::make(rt));
-            return;
-        }
+    let is_new = arguments::is_new(rt);
+    let is_mercury = arguments::is_mercury(rt);
+    if is_new && count == NEW_WORDS {
+        say::end(rt, fresh::make(rt));
+    } else if is_mercury && count == MERCURY_WORDS {
+        say::end(rt, mercury_meter::read(rt));
+    } else if !is_new && !is_mercury && (LEAST_WORDS..=MOST_WORDS).contains(&count) {
+        say::end(rt, session::poll(rt));
+    } else {
         help::show(rt);
-        return;
     }
-    if arguments::is_mercury(rt) {
-        if count == MERCURY_WORDS {
-            say::end(rt, mercury_meter::read(rt));
-            return;
-        }
-        help::show(rt);
-        return;
-    }
-    polled(rt, count);
-}
-
-fn polled(rt: HostRuntime, count: usize) {
-    if count < LEAST_WORDS {
-        help::show(rt);
-        return;
-    }
-    if MOST_WORDS < count {
-        help::show(rt);
-        return;
-    }
-    say::end(rt, session::poll(rt));
 }

@@ -1,6 +1,6 @@
 // A Mercury 206's reading, on standard output.
 use mercury::units::TensOfWattHours;
-use mercury::{Decoded, Frequency, Load, Tariffs};
+use mercury::{DecodeError, Decoded, Frequency, Load, Tariffs};
 use poll_words::say;
 
 const TENTH: u64 = 10;
@@ -8,13 +8,13 @@ const TENTH: u64 = 10;
 const HUNDREDTH: u64 = 100;
 
 // Whether there was one; where not, what was met is said.
-pub fn show(rt: HostRuntime, device: &[u8], d: Decoded) -> bool {
+pub fn show(rt: HostRuntime, device: &[u8], d: Result<Decoded, DecodeError>) -> bool {
     match d {
-        Decoded::Tariffs(t) => tariffs(rt, t),
-        Decoded::Load(l) => load(rt, l),
-        Decoded::Frequency(f) => frequency(rt, f),
-        Decoded::Malformed(fault) => say::malformed(rt, device, fault),
-        Decoded::NotDecimal => say::refused(rt, device, refusal::MERCURY_DIGIT),
+        Ok(Decoded::Tariffs(t)) => tariffs(rt, t),
+        Ok(Decoded::Load(l)) => load(rt, l),
+        Ok(Decoded::Frequency(f)) => frequency(rt, f),
+        Err(DecodeError::Malformed(fault)) => say::malformed(rt, device, fault),
+        Err(DecodeError::NotDecimal) => say::refused(rt, device, refusal::MERCURY_DIGIT),
     }
 }
 
@@ -29,26 +29,22 @@ fn tariffs(rt: HostRuntime, t: Tariffs) -> bool {
 // Ten watt-hours are a hundredth of a kilowatt-hour.
 fn tariff(rt: HostRuntime, name: &[u8], energy: TensOfWattHours) {
     put(rt, name);
-    hundredths(rt, energy.0 as u64);
+    hundredths(rt, u64::from(energy.0));
     put(rt, b" kWh\n");
 }
 
 fn load(rt: HostRuntime, l: Load) -> bool {
-    let voltage = l.voltage;
-    let current = l.current;
-    let power = l.power;
-    tenths(rt, voltage.0 as u64);
+    tenths(rt, u64::from(l.voltage.0));
     put(rt, b" V\n");
-    hundredths(rt, current.0 as u64);
+    hundredths(rt, u64::from(l.current.0));
     put(rt, b" A\n");
-    decimal(rt, power.0 as u64);
+    decimal(rt, u64::from(l.power.0));
     put(rt, b" W\n");
     true
 }
 
 fn frequency(rt: HostRuntime, f: Frequency) -> bool {
-    let frequency = f.frequency;
-    hundredths(rt, frequency.0 as u64);
+    hundredths(rt, u64::from(f.frequency.0));
     put(rt, b" Hz\n");
     true
 }

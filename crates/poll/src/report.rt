@@ -1,43 +1,37 @@
 // The day report, on standard output.
-use day_report::{LINE_MOST, STRIP_MOST, TextAnswer};
+use day_report::{LINE_MOST, ReportError, STRIP_MOST};
 use paths_and_locks::front;
+use poll_days::Span;
 use poll_words::say;
+use refusal::Numbered;
 
-// A heading, and a line for each day from one on and before another. Where a person looks, the days' strips follow on standard error.
+// A heading, and a line for each day of the span. Where a person looks, the days' strips follow on standard error.
 pub fn show(
     rt: HostRuntime,
     terminal: bool,
     path: &[u8],
     image: &[u8],
     figures: &[u32],
-    from: u8,
-    end: u8,
+    span: Span,
 ) {
     let mut text = [0u8; LINE_MOST];
     let answer = day_report::put_heading(&mut text);
     tell(rt, path, answer, &text);
-    for day in from..end {
+    for day in span.from..span.end {
         one_day(rt, path, image, figures, day);
     }
     if terminal {
-        strips(rt, image, from, end);
-    }
-}
-
-fn strips(rt: HostRuntime, image: &[u8], from: u8, end: u8) {
-    for day in from..end {
-        strip(rt, image, day);
+        for day in span.from..span.end {
+            strip(rt, image, day);
+        }
     }
 }
 
 fn strip(rt: HostRuntime, image: &[u8], day: u8) {
     let mut text = [0u8; STRIP_MOST];
-    match day_report::put_strip(image, day, &mut text) {
-        TextAnswer::Done(n) => {
-            let _ = rt.stderr().write_all(front(&text, n));
-        }
-        // The report has said why.
-        _ => {}
+    // Where there is none, the report has said why.
+    if let Ok(n) = day_report::put_strip(image, day, &mut text) {
+        let _ = rt.stderr().write_all(front(&text, n));
     }
 }
 
@@ -47,13 +41,13 @@ fn one_day(rt: HostRuntime, path: &[u8], image: &[u8], figures: &[u32], day: u8)
     tell(rt, path, answer, &text);
 }
 
-fn tell(rt: HostRuntime, path: &[u8], answer: TextAnswer, text: &[u8]) {
+fn tell(rt: HostRuntime, path: &[u8], answer: Result<usize, ReportError>, text: &[u8]) {
     match answer {
-        TextAnswer::Done(n) => {
+        Ok(n) => {
             let _ = rt.stdout().write_all(front(text, n));
         }
-        _ => {
-            say::refused(rt, path, answer.number());
+        Err(error) => {
+            say::refused(rt, path, error.number());
         }
     }
 }

@@ -1,32 +1,36 @@
 // A poll from the log's file to its report.
-use crate::arguments::{ByteArgument, Chosen, Options};
-use crate::locks::{Kind, Taken};
-use crate::meter::Known;
+use crate::arguments::{Chosen, Options};
+use crate::locks::Kind;
 use crate::{arguments, locks, meter, report};
 use day_rows::FIGURES_MOST;
 use file_io::PATH_ROOM;
-use log_file::ReadAnswer;
-use log_header::{Header, LogHeader};
+use log_header::Header;
 use paths_and_locks::front;
-use poll_days::{End, Plan};
+use poll_days::{End, Job, Plan, Span};
 use poll_line::Wire;
 use poll_words::say;
+use refusal::Numbered;
 use std::io::IsTerminal;
 
 // One byte more than the longest file has, so that a longer one shows.
 const FILE_ROOM: usize = log_file::FILE_MOST + 1;
 
-// The days from one on and before another.
-#[derive(Clone, Copy)]
-pub struct Span {
-    pub from: u8,
-    pub end: u8,
+// What the command names: the line, the meter's address on it, and the log's file.
+#[derive(Clone, Copy, Drop)]
+struct Command<'a> {
+    // Of this machine.
+    rt: HostRuntime,
+    device: &'a [u8],
+    address: u8,
+    path: &'a [u8],
 }
 
+// What of the log is asked for, and how.
 #[derive(Clone, Copy)]
-pub enum SpanAnswer {
-    Of(Span),
-    NotInLog,
+struct Scope {
+    header: Header,
+    span: Span,
+    options: Options,
 }
 
 // Whether all went well; where not, what did not is said.
@@ -35,216 +39,133 @@ pub fn poll(rt: HostRuntime) -> bool {
     let device = file_io::word(rt, arguments::DEVICE, &mut device_room);
     let mut path_room = [0u8; PATH_ROOM];
     let path = file_io::word(rt, arguments::POLLED_LOG, &mut path_room);
-    match arguments::byte_argument(rt, arguments::ADDRESS) {
-        ByteArgument::Byte(address) => on_file(rt, device, address, path),
-        ByteArgument::Unread => say::wrong_address(rt),
-    }
+    let Some(address) = arguments::byte_argument(rt, arguments::ADDRESS) else {
+        return say::wrong_address(rt);
+    };
+    let command = Command {
+        rt,
+        device,
+        address,
+        path,
+    };
+    command.on_file()
 }
 
-// The log is read once its file is locked: what another poll saved before is not lost.
-fn on_file(rt: HostRuntime, device: &[u8], address: u8, path: &[u8]) -> bool {
-    let mut lock = [0u8; PATH_ROOM];
-    match locks::take(rt, Kind::LogFile, path, &mut lock) {
-        Taken::Path(n) => {
-            let well = loaded(rt, device, address, path);
-            locks::left(rt, front(&lock, n));
-            well
+impl Command<'_> {
+    // The log is read once its file is locked: what another poll saved before is not lost.
+    fn on_file(&self) -> bool {
+        let mut lock = [0u8; PATH_ROOM];
+        let Some(n) = locks::take(self.rt, Kind::LogFile, self.path, &mut lock) else {
+            return false;
+        };
+        let well = self.loaded();
+        locks::left(self.rt, front(&lock, n));
+        well
+    }
+
+    fn loaded(&self) -> bool {
+        let mut file = [0u8; FILE_ROOM];
+        match file_io::contents(self.rt, self.path, &mut file) {
+            Ok(n) => self.read(front(&file, n)),
+            Err(why) => say::failed(self.rt, self.path, why),
         }
-        Taken::Not => false,
     }
-}
 
-fn loaded(rt: HostRuntime, device: &[u8], address: u8, path: &[u8]) -> bool {
-    let mut file = [0u8; FILE_ROOM];
-    match file_io::contents(rt, path, &mut file) {
-        Ok(n) => read(rt, device, address, path, front(&file, n)),
-        Err(why) => say::failed(rt, path, why),
+    fn read(&self, file: &[u8]) -> bool {
+        let mut image = [0u8; FILE_ROOM];
+        let mut figures = [0u32; FIGURES_MOST];
+        match log_file::read_file(file, &mut image, &mut figures) {
+            Ok(length) if length <= FILE_ROOM => self.on_log(&mut image[..length], &mut figures),
+            Ok(_) => false,
+            Err(error) => say::refused(self.rt, self.path, error.number()),
+        }
     }
-}
 
-fn read(rt: HostRuntime, device: &[u8], address: u8, path: &[u8], file: &[u8]) -> bool {
-    let mut image = [0u8; FILE_ROOM];
-    let mut figures = [0u32; FIGURES_MOST];
-    let answer = log_file::read_file(file, &mut image, &mut figures);
-    match answer {
-        ReadAnswer::Done(length) => {
-            if length <= FILE_ROOM {
-                return on_log(
+    fn on_log(&self, image: &mut [u8], figures: &mut [u32]) -> bool {
+        let options = arguments::said_options(self.rt);
+        let Some(header) = log_header::sound(image) else {
+            return say::refused(self.rt, self.path, refusal::UNSOUND);
+        };
+        let Some(span) = span_of(options.chosen, header.days) else {
+            return say::refused(self.rt, self.path, refusal::NOT_IN_LOG);
+        };
+        let scope = Scope {
+            header,
+            span,
+            options,
+        };
+        self.on_line(image, figures, scope)
+    }
+
+    fn on_line(&self, image: &mut [u8], figures: &mut [u32], scope: Scope) -> bool {
+        let mut lock = [0u8; PATH_ROOM];
+        let Some(n) = locks::take(self.rt, Kind::Line, self.device, &mut lock) else {
+            return false;
+        };
+        let well = self.on_device(image, figures, scope);
+        locks::left(self.rt, front(&lock, n));
+        well
+    }
+
+    // Nothing is written to what is no terminal line.
+    fn on_device(&self, image: &mut [u8], figures: &mut [u32], scope: Scope) -> bool {
+        let rt = self.rt;
+        match file_io::open_device(rt, self.device) {
+            Ok(line) => {
+                if !line.is_terminal() {
+                    return say::no_line(rt, self.device);
+                }
+                let wire = Wire {
                     rt,
-                    device,
-                    address,
-                    path,
-                    &mut image[..length],
-                    &mut figures,
-                );
+                    device: self.device,
+                    line,
+                    address: self.address,
+                    terminal: rt.stderr().is_terminal(),
+                    refuses: true,
+                };
+                on_wire(wire, self.path, image, figures, scope)
             }
-            false
+            Err(why) => say::failed(rt, self.device, why),
         }
-        _ => say::refused(rt, path, answer.number()),
     }
 }
 
-fn on_log(
-    rt: HostRuntime,
-    device: &[u8],
-    address: u8,
-    path: &[u8],
-    image: &mut [u8],
-    figures: &mut [u32],
-) -> bool {
-    let options = arguments::said_options(rt);
-    let chosen = options.chosen;
-    match log_header::sound(image) {
-        LogHeader::Sound(h) => match span_of(chosen, h.days) {
-            SpanAnswer::Of(span) => on_line(
-                rt, device, address, path, image, figures, h, span, options,
-            ),
-            SpanAnswer::NotInLog => say::refused(rt, path, refusal::NOT_IN_LOG),
-        },
-        LogHeader::Unsound => say::refused(rt, path, refusal::UNSOUND),
-    }
-}
-
-fn span_of(chosen: Chosen, days: u8) -> SpanAnswer {
+fn span_of(chosen: Chosen, days: u8) -> Option<Span> {
     match chosen {
-        Chosen::All => SpanAnswer::Of(Span { from: 0, end: days }),
-        Chosen::One(day) => {
-            if day < days {
-                SpanAnswer::Of(Span {
-                    from: day,
-                    end: day + 1,
-                })
-            } else {
-                SpanAnswer::NotInLog
-            }
-        }
-        Chosen::Unread => SpanAnswer::NotInLog,
+        Chosen::All => Some(Span { from: 0, end: days }),
+        Chosen::One(day) if day < days => Some(Span {
+            from: day,
+            end: day + 1,
+        }),
+        Chosen::One(_) | Chosen::Unread => None,
     }
 }
 
-fn on_line(
-    rt: HostRuntime,
-    device: &[u8],
-    address: u8,
-    path: &[u8],
-    image: &mut [u8],
-    figures: &mut [u32],
-    h: Header,
-    span: Span,
-    options: Options,
-) -> bool {
-    let mut lock = [0u8; PATH_ROOM];
-    match locks::take(rt, Kind::Line, device, &mut lock) {
-        Taken::Path(n) => {
-            let well = on_device(rt, device, address, path, image, figures, h, span, options);
-            locks::left(rt, front(&lock, n));
-            well
-        }
-        Taken::Not => false,
-    }
-}
-
-// Nothing is written to what is no terminal line.
-fn on_device(
-    rt: HostRuntime,
-    device: &[u8],
-    address: u8,
-    path: &[u8],
-    image: &mut [u8],
-    figures: &mut [u32],
-    h: Header,
-    span: Span,
-    options: Options,
-) -> bool {
-    match file_io::open_device(rt, device) {
-        Ok(line) => {
-            if !line.is_terminal() {
-                return say::no_line(rt, device);
-            }
-            let wire = Wire {
-                rt: rt,
-                line: line,
-                address: address,
-                terminal: rt.stderr().is_terminal(),
-                refuses: true,
-            };
-            on_wire(&wire, device, path, image, figures, h, span, options)
-        }
-        Err(why) => say::failed(rt, device, why),
-    }
-}
-
-fn on_wire(
-    wire: &Wire,
-    device: &[u8],
-    path: &[u8],
-    image: &mut [u8],
-    figures: &mut [u32],
-    h: Header,
-    span: Span,
-    options: Options,
-) -> bool {
-    say::asking(wire.rt, device, wire.address);
-    let wanted = options.wanted;
-    let order = options.order;
-    match meter::met(wire, device, h, options.anyway) {
-        Known::At(now) => {
-            say::order(wire.rt, order);
-            let plan = Plan {
-                header: h,
-                now: now,
-                wanted: wanted,
-                order: order,
-            };
-            polled(wire, device, path, image, figures, plan, span)
-        }
-        Known::Not => false,
-    }
+fn on_wire(wire: Wire, path: &[u8], image: &mut [u8], figures: &mut [u32], scope: Scope) -> bool {
+    let options = scope.options;
+    say::asking(wire.rt, wire.device, wire.address);
+    let Some(now) = meter::met(&wire, scope.header, options.anyway) else {
+        return false;
+    };
+    say::order(wire.rt, options.order);
+    let plan = Plan {
+        header: scope.header,
+        now,
+        wanted: options.wanted,
+        order: options.order,
+    };
+    polled(&Job { wire, path, plan }, image, figures, scope.span)
 }
 
 // What could not be saved is not reported.
-fn polled(
-    wire: &Wire,
-    device: &[u8],
-    path: &[u8],
-    image: &mut [u8],
-    figures: &mut [u32],
-    plan: Plan,
-    span: Span,
-) -> bool {
-    let course = poll_days::poll(
-        wire, plan, device, path, image, figures, span.from, span.end,
-    );
+fn polled(job: &Job, image: &mut [u8], figures: &mut [u32], span: Span) -> bool {
+    let course = poll_days::poll(job, image, figures, span);
+    let wire = &job.wire;
     say::new_line(wire.rt, wire.terminal);
-    let tally = course.tally;
-    let passed = course.passed;
-    say::sum(wire.rt, tally, passed);
-    let end = course.end;
-    match end {
-        End::GoesOn => {
-            report::show(
-                wire.rt,
-                wire.terminal,
-                path,
-                image,
-                figures,
-                span.from,
-                span.end,
-            );
-            true
-        }
-        End::Stopped => {
-            report::show(
-                wire.rt,
-                wire.terminal,
-                path,
-                image,
-                figures,
-                span.from,
-                span.end,
-            );
-            false
-        }
-        End::NotSaved => false,
+    say::sum(wire.rt, course.tally, course.passed);
+    if course.end == End::NotSaved {
+        return false;
     }
+    report::show(wire.rt, wire.terminal, job.path, image, figures, span);
+    course.end == End::GoesOn
 }

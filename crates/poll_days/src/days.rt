@@ -8,15 +8,15 @@ ghost use Rattle.polling.specs.Fate.{ask_settled};
 ghost use Rattle.polling.specs.Reached.{Reached, Polled};
 
 use crate::saving;
-use crate::saving::{SaveAnswer, Way};
+use crate::saving::{SaveError, Way};
 use frame::layout::{READ_BYTES, SLICE_REPLY};
 use log_header::Header;
-use logger::{AskAnswer, OpenAsk};
+use logger::OpenAsk;
 use paths_and_locks::front;
-use poll_line::{Heard, REPLY_ROOM, Wire};
+use poll_line::{REPLY_ROOM, Wire};
 use poll_words::say;
-use polling::{Fate, Faults, Next, Order, Passed, Settled, Standing, Tally, Wanted};
-use slots::SLOTS_MOST;
+use polling::{Fate, Faults, Order, Passed, Settled, Standing, Tally, Wanted};
+use refusal::Numbered;
 
 // What is asked for: of this log's intervals those that are wanted and over at a moment, in an order.
 #[derive(Clone, Copy)]
@@ -28,7 +28,7 @@ pub struct Plan {
     pub order: Order,
 }
 
-#[derive(Clone, Copy)]
+#[derive(Clone, Copy, PartialEq, Eq)]
 pub enum End {
     GoesOn,
     // Early, and that is said; what was taken is saved.
@@ -44,249 +44,231 @@ pub struct Course {
     pub tally: Tally,
     pub passed: Passed,
     pub end: End,
-    pub held: OpenAsk,
+    pub held: Option<OpenAsk>,
 }
 
-// Asks for the wanted intervals of the days from one on and before another.
-pub fn poll(
-    wire: &Wire,
-    plan: Plan,
-    device: &[u8],
-    path: &[u8],
-    image: &mut [u8],
-    figures: &mut [u32],
-    from: u8,
-    end: u8,
-) -> Course
+// The days from one on and before another.
+#[derive(Clone, Copy)]
+pub struct Span {
+    pub from: u8,
+    pub end: u8,
+}
+
+// What a poll works on: the line, the name of the log's file, and what is asked for.
+// The log and its figures are lent beside it, each by itself, as the libraries take them and the contracts name them.
+#[derive(Drop)]
+pub struct Job<'a> {
+    pub wire: Wire<'a>,
+    pub path: &'a [u8],
+    pub plan: Plan,
+}
+
+// Asks for the wanted intervals of the span's days.
+pub fn poll(job: &Job, image: &mut [u8], figures: &mut [u32], span: Span) -> Course
     ensures { Polled (log_and_rows image.old figures.old) (log_and_rows image.new figures.new) }
 {
-    let order = plan.order;
-    let mut course = nothing(OpenAsk::Closed);
-    for turn in from..end {
-        let day = polling::day_in_order(order, from, end, turn);
-        let earlier = course;
-        course = one_day(wire, plan, device, path, image, figures, day, earlier);
-        if is_over(course) {
+    let mut course = nothing(None);
+    for turn in span.from..span.end {
+        let day = polling::day_in_order(job.plan.order, span.from, span.end, turn);
+        course = job.one_day(image, figures, day, course);
+        if course.end != End::GoesOn {
             return course;
         }
     }
     course
 }
 
-// One more day behind the earlier ones.
-fn one_day(
-    wire: &Wire,
-    plan: Plan,
-    device: &[u8],
-    path: &[u8],
-    image: &mut [u8],
-    figures: &mut [u32],
-    day: u8,
-    earlier: Course,
-) -> Course
-    ensures { Reached (state (log_and_rows image.old figures.old) earlier.held)
-        (state (log_and_rows image.new figures.new) result.held) }
-{
-    let held = earlier.held;
-    let after = asks(wire, plan, device, path, image, figures, day, held);
-    let left = after.held;
-    let course = kept(wire, path, image, after);
-    let tally = course.tally;
-    let passed = course.passed;
-    say::day(wire.rt, wire.terminal, day, tally, passed);
-    holding(behind(earlier, course), left)
+impl Job<'_> {
+    // One more day behind the earlier ones.
+    fn one_day(&self, image: &mut [u8], figures: &mut [u32], day: u8, earlier: Course) -> Course
+        ensures { Reached (state (log_and_rows image.old figures.old) earlier.held)
+            (state (log_and_rows image.new figures.new) result.held) }
+    {
+        let after = self.asks(image, figures, day, earlier.held);
+        let course = self.kept(image, after);
+        let wire = &self.wire;
+        say::day(wire.rt, wire.terminal, day, course.tally, course.passed);
+        holding(behind(earlier, course), after.held)
+    }
+
+    // A day whose asks have left the log as it was: its file is not touched.
+    fn kept(&self, image: &[u8], after: Course) -> Course {
+        if !changes(after.tally) || self.saved(image) {
+            return after;
+        }
+        ends(after, End::NotSaved)
+    }
+
+    fn saved(&self, image: &[u8]) -> bool {
+        let rt = self.wire.rt;
+        let Err(error) = saving::saved(rt, Way::InItsPlace, self.path, image) else {
+            return true;
+        };
+        say::new_line(rt, self.wire.terminal);
+        match error {
+            SaveError::Refused(number) => say::refused(rt, self.path, number),
+            SaveError::Failed(why) => {
+                say::not_saved(rt, self.path, why);
+                false
+            }
+        }
+    }
+
+    fn asks(&self, image: &mut [u8], figures: &mut [u32], day: u8, held: Option<OpenAsk>) -> Course
+        ensures { Reached (state (log_and_rows image.old figures.old) held)
+            (state (log_and_rows image.new figures.new) result.held) }
+    {
+        let plan = self.plan;
+        let mut course = nothing(held);
+        let mut passed = 0;
+        while let Some(slot) = polling::next_in_order(image, day, passed, plan.wanted, plan.order) {
+            course = self.one_slot(image, figures, day, slot, course);
+            if course.end != End::GoesOn {
+                return course;
+            }
+            passed = polling::passed_with(plan.order, slot);
+        }
+        course
+    }
+
+    // An interval that is not over, or that another year's could answer for, is not asked for.
+    fn one_slot(
+        &self,
+        image: &mut [u8],
+        figures: &mut [u32],
+        day: u8,
+        slot: u8,
+        earlier: Course,
+    ) -> Course
+        ensures { Reached (state (log_and_rows image.old figures.old) earlier.held)
+            (state (log_and_rows image.new figures.new) result.held) }
+    {
+        match polling::standing_of(self.plan.header, day, slot, self.plan.now) {
+            Standing::Due => self.one_ask(image, figures, day, slot, earlier),
+            standing => passed_over(earlier, standing),
+        }
+    }
+
+    fn one_ask(
+        &self,
+        image: &mut [u8],
+        figures: &mut [u32],
+        day: u8,
+        slot: u8,
+        earlier: Course,
+    ) -> Course
+        ensures { Reached (state (log_and_rows image.old figures.old) earlier.held)
+            (state (log_and_rows image.new figures.new) result.held) }
+    {
+        let wire = &self.wire;
+        say::slot(
+            wire.rt,
+            wire.terminal,
+            day,
+            slot,
+            earlier.tally,
+            earlier.passed,
+        );
+        let mut frame = [0u8; READ_BYTES];
+        let asked = logger::put_ask(image, earlier.held, wire.address, day, slot, &mut frame);
+        if asked.answer.is_err() {
+            let course = self.refused(earlier, asked.answer.number());
+            return holding(course, asked.held);
+        }
+        self.exchanged(image, figures, &frame, asked.held, earlier)
+    }
+
+    // Sends the open ask's frame, and settles the ask by what is heard then. A device that fails is not the meter's silence: the poll ends
+    // with the ask open, and nothing is counted.
+    fn exchanged(
+        &self,
+        image: &mut [u8],
+        figures: &mut [u32],
+        frame: &[u8],
+        held: Option<OpenAsk>,
+        earlier: Course,
+    ) -> Course
+        ensures { Reached (state (log_and_rows image.old figures.old) held)
+            (state (log_and_rows image.new figures.new) result.held) }
+    {
+        let mut reply = [0u8; REPLY_ROOM];
+        let Some(n) = poll_line::exchange(&self.wire, frame, SLICE_REPLY, &mut reply) else {
+            return holding(ends(earlier, End::Stopped), held);
+        };
+        self.heard(image, figures, front(&reply, n), held, earlier)
+    }
+
+    // What was heard for the open ask, which no bytes are where the meter was silent.
+    fn heard(
+        &self,
+        image: &mut [u8],
+        figures: &mut [u32],
+        reply: &[u8],
+        held: Option<OpenAsk>,
+        earlier: Course,
+    ) -> Course
+        ensures { Reached (state (log_and_rows image.old figures.old) held)
+            (state (log_and_rows image.new figures.new) result.held) }
+    {
+        let after = ask_settled(image, figures, held, reply);
+        let course = self.followed(after.fate, counted(earlier, after.fate));
+        holding(course, after.held)
+    }
+
+    // What an ask's fate leads to.
+    fn followed(&self, fate: Fate, course: Course) -> Course {
+        match fate {
+            Fate::Taken | Fate::Refused => course,
+            Fate::Silent | Fate::Malformed(_) => self.after_a_loss(course),
+            Fate::Stopped(number) => self.refused(course, number),
+        }
+    }
+
+    fn after_a_loss(&self, course: Course) -> Course {
+        if poll_line::silent_again(&self.wire) {
+            return course;
+        }
+        ends(course, End::Stopped)
+    }
+
+    // The poll ends, and that the log refused is said.
+    fn refused(&self, course: Course, number: u8) -> Course {
+        say::new_line(self.wire.rt, self.wire.terminal);
+        say::refused(self.wire.rt, self.path, number);
+        ends(course, End::Stopped)
+    }
 }
 
 // A day's course behind those of the days before it.
 fn behind(earlier: Course, course: Course) -> Course {
-    let before = earlier.tally;
-    let tally = course.tally;
-    let passed_before = earlier.passed;
-    let passed = course.passed;
-    let end = course.end;
-    let held = course.held;
     Course {
-        tally: polling::together(before, tally),
-        passed: polling::passed_together(passed_before, passed),
-        end: end,
-        held: held,
+        tally: polling::together(earlier.tally, course.tally),
+        passed: polling::passed_together(earlier.passed, course.passed),
+        ..course
     }
-}
-
-// A day whose asks have left the log as it was: its file is not touched.
-fn kept(wire: &Wire, path: &[u8], image: &[u8], after: Course) -> Course {
-    let tally = after.tally;
-    if changes(tally) {
-        if saved(wire, path, image) {
-            return after;
-        }
-        return ends(after, End::NotSaved);
-    }
-    after
 }
 
 // Whether asks have changed the log: a reply was taken, or an ask lapsed, with no answer or after one that was not well formed. A
 // refusal by the meter does neither.
 fn changes(tally: Tally) -> bool {
-    if tally.taken != 0 {
-        return true;
-    }
-    if tally.silent != 0 {
-        return true;
-    }
-    has_faults(tally.faults)
+    tally.taken != 0 || tally.silent != 0 || has_faults(tally.faults)
 }
 
 fn has_faults(faults: Faults) -> bool {
-    if faults.length != 0 {
-        return true;
-    }
-    if faults.crc != 0 {
-        return true;
-    }
-    if faults.address != 0 {
-        return true;
-    }
-    if faults.function != 0 {
-        return true;
-    }
-    faults.parameter != 0
-}
-
-fn asks(
-    wire: &Wire,
-    plan: Plan,
-    device: &[u8],
-    path: &[u8],
-    image: &mut [u8],
-    figures: &mut [u32],
-    day: u8,
-    held: OpenAsk,
-) -> Course
-    ensures { Reached (state (log_and_rows image.old figures.old) held)
-        (state (log_and_rows image.new figures.new) result.held) }
-{
-    let wanted = plan.wanted;
-    let order = plan.order;
-    let mut course = nothing(held);
-    let mut passed: u8 = 0;
-    while passed < SLOTS_MOST {
-        let Next::Slot(next) = polling::next_in_order(image, day, passed, wanted, order) else {
-            return course;
-        };
-        let earlier = course;
-        course = one_slot(wire, plan, device, path, image, figures, day, next, earlier);
-        if is_over(course) {
-            return course;
-        }
-        passed = polling::passed_with(order, next);
-    }
-    course
-}
-
-// An interval that is not over, or that another year's could answer for, is not asked for.
-fn one_slot(
-    wire: &Wire,
-    plan: Plan,
-    device: &[u8],
-    path: &[u8],
-    image: &mut [u8],
-    figures: &mut [u32],
-    day: u8,
-    slot: u8,
-    earlier: Course,
-) -> Course
-    ensures { Reached (state (log_and_rows image.old figures.old) earlier.held)
-        (state (log_and_rows image.new figures.new) result.held) }
-{
-    let h = plan.header;
-    let standing = polling::standing_of(h, day, slot, plan.now);
-    match standing {
-        Standing::Due => one_ask(wire, device, path, image, figures, day, slot, earlier),
-        Standing::NotOver => passed_over(earlier, standing),
-        Standing::TooOld => passed_over(earlier, standing),
-    }
-}
-
-fn one_ask(
-    wire: &Wire,
-    device: &[u8],
-    path: &[u8],
-    image: &mut [u8],
-    figures: &mut [u32],
-    day: u8,
-    slot: u8,
-    earlier: Course,
-) -> Course
-    ensures { Reached (state (log_and_rows image.old figures.old) earlier.held)
-        (state (log_and_rows image.new figures.new) result.held) }
-{
-    let tally = earlier.tally;
-    let passed = earlier.passed;
-    let before = earlier.held;
-    say::slot(wire.rt, wire.terminal, day, slot, tally, passed);
-    let mut frame = [0u8; READ_BYTES];
-    let asked = logger::put_ask(image, before, wire.address, day, slot, &mut frame);
-    let answer = asked.answer;
-    let held = asked.held;
-    match answer {
-        AskAnswer::Done => exchanged(wire, device, path, image, figures, &frame, held, earlier),
-        _ => {
-            say::new_line(wire.rt, wire.terminal);
-            say::refused(wire.rt, path, answer.number());
-            holding(ends(earlier, End::Stopped), held)
-        }
-    }
-}
-
-// Sends the open ask's frame, and settles the ask by what is heard then. A device that fails is not the meter's silence: the poll ends with
-// the ask open, and nothing is counted.
-fn exchanged(
-    wire: &Wire,
-    device: &[u8],
-    path: &[u8],
-    image: &mut [u8],
-    figures: &mut [u32],
-    frame: &[u8],
-    held: OpenAsk,
-    earlier: Course,
-) -> Course
-    ensures { Reached (state (log_and_rows image.old figures.old) held)
-        (state (log_and_rows image.new figures.new) result.held) }
-{
-    let mut reply = [0u8; REPLY_ROOM];
-    match poll_line::exchange(wire, device, frame, SLICE_REPLY, &mut reply) {
-        Heard::Bytes(n) => {
-            let bytes = front(&reply, n);
-            heard(wire, device, path, image, figures, bytes, held, earlier)
-        }
-        Heard::Failed => holding(ends(earlier, End::Stopped), held),
-    }
-}
-
-// What was heard for the open ask, which no bytes are where the meter was silent.
-fn heard(
-    wire: &Wire,
-    device: &[u8],
-    path: &[u8],
-    image: &mut [u8],
-    figures: &mut [u32],
-    reply: &[u8],
-    held: OpenAsk,
-    earlier: Course,
-) -> Course
-    ensures { Reached (state (log_and_rows image.old figures.old) held)
-        (state (log_and_rows image.new figures.new) result.held) }
-{
-    let after = ask_settled(image, figures, held, reply);
-    let fate = after.fate;
-    let left = after.held;
-    let course = followed(wire, device, path, fate, counted(earlier, fate));
-    holding(course, left)
+    faults.length != 0
+        || faults.crc != 0
+        || faults.address != 0
+        || faults.function != 0
+        || faults.parameter != 0
 }
 
 // What was heard is taken, and the ask lapses where it is still open: one history of the logger's calls, which the equation names.
-fn ask_settled(image: &mut [u8], figures: &mut [u32], held: OpenAsk, reply: &[u8]) -> Settled
+fn ask_settled(
+    image: &mut [u8],
+    figures: &mut [u32],
+    held: Option<OpenAsk>,
+    reply: &[u8],
+) -> Settled
     ensures figures_after { outcome result (log_and_rows image.new figures.new)
         ≡ ask_settled (log_and_rows image.old figures.old) held reply.now }
     ensures reached { Reached (state (log_and_rows image.old figures.old) held)
@@ -295,44 +277,14 @@ fn ask_settled(image: &mut [u8], figures: &mut [u32], held: OpenAsk, reply: &[u8
     polling::settle(image, figures, held, reply)
 }
 
-// What an ask's fate leads to.
-fn followed(wire: &Wire, device: &[u8], path: &[u8], fate: Fate, course: Course) -> Course {
-    match fate {
-        Fate::Taken => course,
-        Fate::Refused => course,
-        Fate::Silent => after_a_loss(wire, device, course),
-        Fate::Malformed(_) => after_a_loss(wire, device, course),
-        Fate::Stopped(number) => {
-            say::new_line(wire.rt, wire.terminal);
-            say::refused(wire.rt, path, number);
-            ends(course, End::Stopped)
-        }
-    }
-}
-
-fn after_a_loss(wire: &Wire, device: &[u8], course: Course) -> Course {
-    if poll_line::silent_again(wire, device) {
-        return course;
-    }
-    ends(course, End::Stopped)
-}
-
 // The same course, with the ask that is open now.
-fn holding(course: Course, held: OpenAsk) -> Course
+fn holding(course: Course, held: Option<OpenAsk>) -> Course
     ensures { result.held ≡ held }
 {
-    let tally = course.tally;
-    let passed = course.passed;
-    let end = course.end;
-    Course {
-        tally: tally,
-        passed: passed,
-        end: end,
-        held: held,
-    }
+    Course { held, ..course }
 }
 
-fn nothing(held: OpenAsk) -> Course
+fn nothing(held: Option<OpenAsk>) -> Course
     ensures { result.held ≡ held }
 {
     Course {
@@ -353,70 +305,26 @@ fn nothing(held: OpenAsk) -> Course
             too_old: 0,
         },
         end: End::GoesOn,
-        held: held,
+        held,
     }
 }
 
 fn counted(earlier: Course, fate: Fate) -> Course {
-    let tally = earlier.tally;
-    let passed = earlier.passed;
-    let end = earlier.end;
-    let held = earlier.held;
     Course {
-        tally: polling::counted(tally, fate),
-        passed: passed,
-        end: end,
-        held: held,
+        tally: polling::counted(earlier.tally, fate),
+        ..earlier
     }
 }
 
 fn passed_over(earlier: Course, standing: Standing) -> Course
     ensures { result.held ≡ earlier.held }
 {
-    let tally = earlier.tally;
-    let passed = earlier.passed;
-    let end = earlier.end;
-    let held = earlier.held;
     Course {
-        tally: tally,
-        passed: polling::passed_over(passed, standing),
-        end: end,
-        held: held,
+        passed: polling::passed_over(earlier.passed, standing),
+        ..earlier
     }
 }
 
 fn ends(course: Course, end: End) -> Course {
-    let tally = course.tally;
-    let passed = course.passed;
-    let held = course.held;
-    Course {
-        tally: tally,
-        passed: passed,
-        end: end,
-        held: held,
-    }
-}
-
-fn is_over(course: Course) -> bool {
-    let end = course.end;
-    match end {
-        End::GoesOn => false,
-        End::Stopped => true,
-        End::NotSaved => true,
-    }
-}
-
-fn saved(wire: &Wire, path: &[u8], image: &[u8]) -> bool {
-    match saving::saved(wire.rt, Way::InItsPlace, path, image) {
-        SaveAnswer::Done => true,
-        SaveAnswer::Refused(number) => {
-            say::new_line(wire.rt, wire.terminal);
-            say::refused(wire.rt, path, number)
-        }
-        SaveAnswer::Failed(why) => {
-            say::new_line(wire.rt, wire.terminal);
-            say::not_saved(wire.rt, path, why);
-            false
-        }
-    }
+    Course { end, ..course }
 }

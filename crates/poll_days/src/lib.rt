@@ -4,5 +4,5 @@
 mod days;
 mod saving;
 
-pub use days::{Course, End, Plan, poll};
-pub use saving::{SaveAnswer, Way, saved};
+pub use days::{Course, End, Job, Plan, Span, poll};
+pub use saving::{SaveError, Way, saved};

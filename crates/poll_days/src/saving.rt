@@ -2,8 +2,9 @@
 ghost use Rattle.std.specs.Prelude.{◌≡◌, take};
 ghost use Rattle.poll_days.specs.Saved.{LogFile};
 
-use log_file::{FILE_MOST, WriteAnswer};
+use log_file::{FILE_MOST, WriteError};
 use paths_and_locks::front;
+use refusal::Numbered;
 use std::io;
 
 // How the file comes to its path.
@@ -16,25 +17,31 @@ pub enum Way {
 }
 
 #[derive(Clone, Copy)]
-pub enum SaveAnswer {
-    Done,
+pub enum SaveError {
     // The log, with this number.
     Refused(u8),
     // The system did, and why.
     Failed(io::Error),
 }
 
-// Writes the file of a log.
-pub fn saved(rt: HostRuntime, way: Way, path: &[u8], image: &[u8]) -> SaveAnswer {
-    let mut file = [0u8; FILE_MOST];
-    let answer = log_file::write_file(image, &mut file);
-    let WriteAnswer::Done(n) = answer else {
-        return SaveAnswer::Refused(answer.number());
-    };
-    match put(rt, way, path, file_of(image, &file, n)) {
-        Ok(()) => SaveAnswer::Done,
-        Err(why) => SaveAnswer::Failed(why),
+impl From<WriteError> for SaveError {
+    fn from(refusal: WriteError) -> SaveError {
+        SaveError::Refused(refusal.number())
     }
+}
+
+impl From<io::Error> for SaveError {
+    fn from(why: io::Error) -> SaveError {
+        SaveError::Failed(why)
+    }
+}
+
+// Writes the file of a log.
+pub fn saved(rt: HostRuntime, way: Way, path: &[u8], image: &[u8]) -> Result<(), SaveError> {
+    let mut file = [0u8; FILE_MOST];
+    let n = log_file::write_file(image, &mut file)?;
+    put(rt, way, path, file_of(image, &file, n))?;
+    Ok(())
 }
 
 fn put(rt: HostRuntime, way: Way, path: &[u8], file: &[u8]) -> io::Result<()> {

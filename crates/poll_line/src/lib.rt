@@ -6,4 +6,4 @@ mod asking;
 mod wire;
 
 pub use asking::{Ask, asked};
-pub use wire::{Heard, REPLY_ROOM, Wire, exchange, silent_again};
+pub use wire::{REPLY_ROOM, Wire, exchange, silent_again};

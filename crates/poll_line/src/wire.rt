@@ -7,9 +7,11 @@ use std::io;
 use std::io::{Read, Write};
 
 #[derive(Drop)]
-pub struct Wire {
+pub struct Wire<'a> {
     // What is said of it is said on this machine.
     pub rt: HostRuntime,
+    // The line's name, as what is said of it has it.
+    pub device: &'a [u8],
     // Open for reading and writing.
     pub line: File,
     // The meter's.
@@ -18,28 +20,6 @@ pub struct Wire {
     pub terminal: bool,
     // Whether a reply may be a refusal, which is shorter: the Mercury 206 has none.
     pub refuses: bool,
-}
-
-#[derive(Clone, Copy)]
-pub enum Heard {
-    // How many bytes: none are no answer.
-    Bytes(usize),
-    // The device did, and that is said.
-    Failed,
-}
-
-#[derive(Clone, Copy)]
-enum Got {
-    // How many bytes stand in the buffer then.
-    Bytes(usize),
-    Silent,
-}
-
-#[derive(Clone, Copy)]
-enum Line {
-    Silent,
-    // It went on for all the reads that a drain has.
-    Busy,
 }
 
 // Silent reads in a row, before an ask and after one that was lost.
@@ -60,72 +40,59 @@ const GATHER_READS: usize = polling::SILENT_MOST as usize + REPLY_ROOM;
 const CHUNK: usize = REPLY_ROOM;
 
 // Sends a frame on a line that is silent, and gathers what is heard then: a full reply has so many bytes.
-pub fn exchange(wire: &Wire, device: &[u8], frame: &[u8], full: usize, reply: &mut [u8]) -> Heard {
-    if drained(wire, device, BEFORE_AN_ASK) {
-        let mut line = &wire.line;
-        return match line.write_all(frame) {
-            Ok(()) => gathered(wire, device, full, reply),
-            Err(e) => {
-                failed(wire, device, e);
-                Heard::Failed
-            }
-        };
+pub fn exchange(wire: &Wire, frame: &[u8], full: usize, reply: &mut [u8]) -> Option<usize> {
+    if !drained(wire, BEFORE_AN_ASK) {
+        return None;
     }
-    Heard::Failed
+    let mut line = &wire.line;
+    line.write_all(frame)
+        .and_then(|()| gather(wire, full, reply))
+        .map_err(|why| failed(wire, why))
+        .ok()
 }
 
 // Lets the line fall silent after an ask that was lost, so that a late reply is not taken for the next one's. Where it does not, or
 // the device fails, that is said.
-pub fn silent_again(wire: &Wire, device: &[u8]) -> bool {
-    drained(wire, device, AFTER_A_LOSS)
+pub fn silent_again(wire: &Wire) -> bool {
+    drained(wire, AFTER_A_LOSS)
 }
 
-fn failed(wire: &Wire, device: &[u8], why: io::Error) {
+fn failed(wire: &Wire, why: io::Error) {
     say::new_line(wire.rt, wire.terminal);
-    say::failed(wire.rt, device, why);
+    say::failed(wire.rt, wire.device, why);
 }
 
-fn drained(wire: &Wire, device: &[u8], quiet: u8) -> bool {
+fn drained(wire: &Wire, quiet: u8) -> bool {
     match drain(wire, quiet) {
-        Ok(Line::Silent) => true,
-        Ok(Line::Busy) => {
+        Ok(true) => true,
+        Ok(false) => {
             say::new_line(wire.rt, wire.terminal);
-            say::never_silent(wire.rt, device);
+            say::never_silent(wire.rt, wire.device);
             false
         }
-        Err(e) => {
-            failed(wire, device, e);
+        Err(why) => {
+            failed(wire, why);
             false
         }
     }
 }
 
-// Throws away what comes until so many reads in a row are silent.
-fn drain(wire: &Wire, quiet: u8) -> io::Result<Line> {
+// Throws away what comes until so many reads in a row are silent: whether they are, before all the reads that a drain has are over.
+fn drain(wire: &Wire, quiet: u8) -> io::Result<bool> {
     let mut left = quiet;
     for _ in 0..DRAIN_READS {
         let mut chunk = [0u8; CHUNK];
         match read_on(wire, &mut chunk, 0)? {
-            Got::Bytes(_) => left = quiet,
-            Got::Silent => {
+            Some(_) => left = quiet,
+            None => {
                 if left <= 1 {
-                    return Ok(Line::Silent);
+                    return Ok(true);
                 }
                 left -= 1;
             }
         }
     }
-    Ok(Line::Busy)
-}
-
-fn gathered(wire: &Wire, device: &[u8], full: usize, reply: &mut [u8]) -> Heard {
-    match gather(wire, full, reply) {
-        Ok(n) => Heard::Bytes(n),
-        Err(e) => {
-            failed(wire, device, e);
-            Heard::Failed
-        }
-    }
+    Ok(false)
 }
 
 fn gather(wire: &Wire, full: usize, reply: &mut [u8]) -> io::Result<usize> {
@@ -133,11 +100,11 @@ fn gather(wire: &Wire, full: usize, reply: &mut [u8]) -> io::Result<usize> {
     let mut silent: u8 = 0;
     for _ in 0..GATHER_READS {
         match read_on(wire, reply, n)? {
-            Got::Bytes(after) => {
+            Some(after) => {
                 n = after;
                 silent = 0;
             }
-            Got::Silent => silent = silent.saturating_add(1),
+            None => silent = silent.saturating_add(1),
         }
         if is_over(wire.refuses, full, front(reply, n), silent) {
             return Ok(n);
@@ -154,14 +121,14 @@ fn is_over(refuses: bool, full: usize, reply: &[u8], silent: u8) -> bool {
 }
 
 // One read, to the bytes behind the first n of a buffer.
-fn read_on(wire: &Wire, buffer: &mut [u8], n: usize) -> io::Result<Got> {
+fn read_on(wire: &Wire, buffer: &mut [u8], n: usize) -> io::Result<Option<usize>> {
     if buffer.len() <= n {
-        return Ok(Got::Silent);
+        return Ok(None);
     }
     let mut line = &wire.line;
     let got = line.read(&mut buffer[n..])?;
     if got == 0 {
-        return Ok(Got::Silent);
+        return Ok(None);
     }
-    Ok(Got::Bytes(n + got))
+    Ok(Some(n + got))
 }

@@ -1,8 +1,9 @@
 // Messages and progress, on standard error. What says that something failed answers false, as its caller does then.
-use calendar::{Date, DateAnswer, DateTime};
+use calendar::{Date, DateTime};
 use log_header::Header;
 use polling::{DAY_MINUTES, Faults, Learned, Order, Passed, Tally};
 use reader::Fault;
+use refusal::Numbered;
 use refusal_words::WORDS_MOST;
 use std::io;
 
@@ -32,7 +33,7 @@ pub fn refused(rt: HostRuntime, path: &[u8], number: u8) -> bool {
     put(rt, b"poll: ");
     put(rt, path);
     put(rt, b": refused ");
-    decimal(rt, number as u64);
+    decimal(rt, u64::from(number));
     put(rt, b": ");
     in_words(rt, number);
     put(rt, b"\n");
@@ -50,7 +51,7 @@ pub fn malformed(rt: HostRuntime, device: &[u8], fault: mercury::Fault) -> bool 
     put(rt, b"poll: ");
     put(rt, device);
     put(rt, b": refused ");
-    decimal(rt, refusal::MERCURY_FORM as u64);
+    decimal(rt, u64::from(refusal::MERCURY_FORM));
     put(rt, b": the reply's ");
     match fault {
         mercury::Fault::Length => put(rt, b"length"),
@@ -79,7 +80,7 @@ pub fn held(rt: HostRuntime, what: &[u8], lock: &[u8], process: u32) -> bool {
     put(rt, b"poll: ");
     put(rt, what);
     put(rt, b": process ");
-    decimal(rt, process as u64);
+    decimal(rt, u64::from(process));
     put(rt, b" has it (");
     put(rt, lock);
     put(rt, b")\n");
@@ -108,13 +109,13 @@ pub fn no_line(rt: HostRuntime, device: &[u8]) -> bool {
 // Said before the first read: where the port was never set that may wait for ever.
 pub fn asking(rt: HostRuntime, device: &[u8], address: u8) {
     put(rt, b"poll: asking meter ");
-    decimal(rt, address as u64);
+    decimal(rt, u64::from(address));
     asking_on(rt, device);
 }
 
 pub fn asking_mercury(rt: HostRuntime, device: &[u8], address: u32) {
     put(rt, b"poll: asking Mercury 206 ");
-    decimal(rt, address as u64);
+    decimal(rt, u64::from(address));
     asking_on(rt, device);
 }
 
@@ -142,7 +143,7 @@ pub fn silent(rt: HostRuntime, device: &[u8], address: u8) {
     put(rt, b"poll: ");
     put(rt, device);
     put(rt, b": no answer of meter ");
-    decimal(rt, address as u64);
+    decimal(rt, u64::from(address));
     put(
         rt,
         b": is it on, is that its address, is the port set to its speed?\n",
@@ -153,7 +154,7 @@ pub fn silent_mercury(rt: HostRuntime, device: &[u8], address: u32) -> bool {
     put(rt, b"poll: ");
     put(rt, device);
     put(rt, b": no answer of Mercury 206 ");
-    decimal(rt, address as u64);
+    decimal(rt, u64::from(address));
     put(
         rt,
         b": is it on, is that its number, is the port set to its speed?\n",
@@ -172,16 +173,16 @@ pub fn does_not_fit(rt: HostRuntime, device: &[u8], address: u8, h: Header, l: L
     match l {
         Learned::Ke(ke) => {
             put(rt, b"poll: the meter's Ke is ");
-            decimal(rt, ke as u64);
+            decimal(rt, u64::from(ke));
             put(rt, b", the log's ");
-            decimal(rt, h.ke as u64);
+            decimal(rt, u64::from(h.ke));
             put(rt, b": nothing was asked for\n");
         }
         Learned::Minutes(minutes) => {
             put(rt, b"poll: the meter's intervals have ");
-            decimal(rt, minutes as u64);
+            decimal(rt, u64::from(minutes));
             put(rt, b" minutes, the log's ");
-            decimal(rt, h.minutes as u64);
+            decimal(rt, u64::from(h.minutes));
             put(rt, b": nothing was asked for\n");
         }
         _ => unlearned(rt, device, address, l),
@@ -194,9 +195,9 @@ pub fn unlearned(rt: HostRuntime, device: &[u8], address: u8, l: Learned) {
     match l {
         Learned::Refused(result) => {
             put(rt, b": meter ");
-            decimal(rt, address as u64);
+            decimal(rt, u64::from(address));
             put(rt, b" refuses to tell its clock or its Ke, with result ");
-            decimal(rt, result as u64);
+            decimal(rt, u64::from(result));
             put(rt, b"\n");
         }
         Learned::Malformed(fault) => unlike(rt, fault),
@@ -216,11 +217,7 @@ fn unlike(rt: HostRuntime, fault: Fault) {
         }
         Fault::Crc => put(rt, b": see to cable and speed\n"),
         Fault::Address => put(rt, b": see to the address\n"),
-        Fault::Function => put(
-            rt,
-            b": is it an SS-301, and does nobody else ask on the line?\n",
-        ),
-        Fault::Parameter => put(
+        Fault::Function | Fault::Parameter => put(
             rt,
             b": is it an SS-301, and does nobody else ask on the line?\n",
         ),
@@ -261,20 +258,16 @@ fn machine_time(rt: HostRuntime, minute: u32) {
         month: 1,
         day: 1,
     };
-    let days = minute / DAY_MINUTES;
     let rest = minute % DAY_MINUTES;
-    if days < 65536 {
-        match calendar::days_later(start, days as u16) {
-            DateAnswer::On(date) => {
-                time(
-                    rt,
-                    date,
-                    (rest / HOUR_MINUTES) as u8,
-                    (rest % HOUR_MINUTES) as u8,
-                );
-            }
-            _ => {}
-        }
+    if let Ok(days) = u16::try_from(minute / DAY_MINUTES)
+        && let Ok(date) = calendar::days_later(start, days)
+    {
+        time(
+            rt,
+            date,
+            (rest / HOUR_MINUTES) as u8,
+            (rest % HOUR_MINUTES) as u8,
+        );
     }
 }
 
@@ -300,9 +293,9 @@ pub fn order(rt: HostRuntime, order: Order) {
 pub fn slot(rt: HostRuntime, terminal: bool, day: u8, number: u8, tally: Tally, passed: Passed) {
     if terminal {
         put(rt, b"\rpoll: day ");
-        decimal(rt, day as u64);
+        decimal(rt, u64::from(day));
         put(rt, b" slot ");
-        decimal(rt, number as u64);
+        decimal(rt, u64::from(number));
         put(rt, b": ");
         counts(rt, tally, passed);
         put(rt, b"  ");
@@ -315,7 +308,7 @@ pub fn day(rt: HostRuntime, terminal: bool, number: u8, tally: Tally, passed: Pa
         put(rt, b"\r");
     }
     put(rt, b"poll: day ");
-    decimal(rt, number as u64);
+    decimal(rt, u64::from(number));
     put(rt, b": ");
     counts(rt, tally, passed);
     put(rt, b"\n");
@@ -363,7 +356,7 @@ fn thrown_away(rt: HostRuntime, faults: Faults) {
 }
 
 fn count(rt: HostRuntime, n: u32, what: &[u8]) {
-    decimal(rt, n as u64);
+    decimal(rt, u64::from(n));
     put(rt, what);
 }
 

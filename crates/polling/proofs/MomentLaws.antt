@@ -5,10 +5,9 @@ use native.Mathlib.Omega.{arith}
 use mathlib.Core.Path.{◌≡◌, refl}
 use mathlib.Core.Bool.{Bool, true, false, cond, ◌&&◌}
 use lib.Dec.{ltb}
-use Rattle.calendar.specs.Date.{is_date, day_number, day_of, century_days}
+use Rattle.calendar.specs.Date.{is_date, day_number, century_days}
 use Rattle.calendar.proofs.DateLaws.{number-below}
 use Rattle.calendar.specs.declared.date.Date.{Date}
-use Rattle.calendar.specs.declared.date.DayAnswer.TheVariants.{Day, NotADate}
 use Rattle.polling.specs.Moment.{days_to}
 use Rattle.season_nights.specs.Night.{night_of, is_autumn}
 use Rattle.polling.specs.Standing.{over_at}
@@ -34,21 +33,3 @@ over-most d e n p = rw p (go (is_autumn (night_of d) && (ltb 120 e && ltb e 180)
     go : (b : Bool) → cond b 180 e ≤ e + 180
     go true = omega arith
     go false = omega arith
-
--- the calendar's number, where there is one
-pub days-found : (d : Date) (n : ℕ) → day_of d ≡ Day n → n ≡ days_to d
-unfolding day_of days_to
-days-found d n e = go (is_date d) e
-  where
-    go : (b : Bool) → cond b (Day (day_number d)) NotADate ≡ Day n → n ≡ cond b (day_number d) 0
-    go true p = cc
-    go false p = let z : ◌≡◌ {A = ℕ} 0 1 = cc in absurd (omega arith)
-
--- and 0 where there is none
-pub days-none : (d : Date) → day_of d ≡ NotADate → 0 ≡ days_to d
-unfolding day_of days_to
-days-none d e = go (is_date d) e
-  where
-    go : (b : Bool) → cond b (Day (day_number d)) NotADate ≡ NotADate → 0 ≡ cond b (day_number d) 0
-    go true p = let z : ◌≡◌ {A = ℕ} 0 1 = cc in absurd (omega arith)
-    go false p = refl

@@ -1,4 +1,5 @@
 -- What follows from the definitions of specs/Reached.antt, for proofs alone: no contract cites it.
+use Rattle.std.specs.Prelude.{Option}
 use Prim.Native.Nat.{ℕ}
 use mathlib.Core.Path.{◌≡◌, refl, sym, ap, ◌∙◌}
 use mathlib.Core.List.{List, [], ◌∷◌, ◌++◌}
@@ -8,7 +9,7 @@ use Rattle.energy_log.specs.View.{view_of}
 use Rattle.day_rows.specs.LogAndRows.{LogAndRows}
 use Rattle.logger.specs.Book.{Call, ask, AllBytes, run_of}
 use Rattle.logger.specs.Run.{State, state, step, run}
-use Rattle.logger.specs.declared.ask.Asked.{Asked}
+use Rattle.logger.specs.Ask.{Asked}
 use Rattle.logger.specs.declared.held.OpenAsk.{OpenAsk}
 use Rattle.logger.specs.Ask as Ask
 use Rattle.polling.specs.Fate.{ask_settled}
@@ -41,7 +42,7 @@ onward {s} {t} {u} x y = record {
 }
 
 -- an ask leaves the log and its figures, and the ask that it answers
-pub asks : (b : LogAndRows) (o : OpenAsk) (address day slot : ℕ) (out after : List ℕ) (r : Asked) → outcome r after ≡ Ask.asked (view_of b.log) o address day slot out
+pub asks : (b : LogAndRows) (o : Option OpenAsk) (address day slot : ℕ) (out after : List ℕ) (r : Asked) → outcome r after ≡ Ask.asked (view_of b.log) o address day slot out
     → Reached (state b o) (state b r.held)
 unfolding run_of step
 asks b o address day slot out after r e =
@@ -53,7 +54,7 @@ settle-bytes [] k = (tt, tt)
 settle-bytes (b ∷ y) k = (k, (tt, tt))
 
 -- what was heard is taken, and the ask lapses
-pub settles : (b : LogAndRows) (o : OpenAsk) (y : List ℕ) (after : LogAndRows) (r : Settled) → Bytes y → outcome r after ≡ ask_settled b o y
+pub settles : (b : LogAndRows) (o : Option OpenAsk) (y : List ℕ) (after : LogAndRows) (r : Settled) → Bytes y → outcome r after ≡ ask_settled b o y
     → Reached (state b o) (state after r.held)
 settles b o y after r k e = record {
   calls = settle_calls y;

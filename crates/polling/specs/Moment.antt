@@ -1,12 +1,10 @@
 -- Moments as minutes since the start of 2000, by which an interval is over or not. Source: document 01, "Clock": the meter's clock has date,
 -- hour and minute; 002, section 4.13: a slice is stored when the next interval begins.
-use Rattle.std.specs.Prelude.{ℕ, ◌+◌, ◌*◌, ◌-◌, ◌/◌, Bool, cond, ltb}
+use Rattle.std.specs.Prelude.{ℕ, ◌+◌, ◌*◌, ◌-◌, ◌/◌, Bool, cond, ltb, None, Option, Some}
 use Rattle.calendar.specs.Date.{is_date, day_number, century_days}
 use Rattle.calendar.specs.Time.{is_time}
 use Rattle.calendar.specs.declared.date.Date.{Date}
 use Rattle.calendar.specs.declared.time.DateTime.{DateTime}
-use Rattle.polling.specs.declared.moment.Moment.{Moment}
-use Rattle.polling.specs.declared.moment.Moment.TheVariants.{Minute, NotATime}
 
 abbrev pub day_minutes : ℕ
 day_minutes = 1440
@@ -16,8 +14,8 @@ unfoldable pub days_to : Date → ℕ
 days_to d = cond (is_date d) (day_number d) 0
 
 -- the minutes since 2000-01-01 00:00 at a clock's time
-unfoldable pub moment_of : DateTime → Moment
-moment_of t = cond (is_time t) (Minute (days_to t.date * day_minutes + (t.hour * 60 + t.minute))) NotATime
+unfoldable pub moment_of : DateTime → Option ℕ
+moment_of t = cond (is_time t) (Some (days_to t.date * day_minutes + (t.hour * 60 + t.minute))) None
 
 -- 2000-01-01 00:00 in the machine's own count, the seconds since 1970: thirty years with seven leap days
 abbrev pub machine_start : ℕ

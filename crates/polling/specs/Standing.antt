@@ -1,10 +1,9 @@
 -- Which intervals of a log a meter can be asked for at a moment. Source: 002, section 4.13: a slice is stored when the next interval begins, and
 -- zeros are answered for one that the meter does not have; a request names month, day and number, and no year.
-use Rattle.std.specs.Prelude.{ℕ, ◌+◌, ◌*◌, cond, ◌&&◌, ltb, leb}
+use Rattle.calendar.specs.declared.date.DateError.{DateError}
+use Rattle.std.specs.Prelude.{ℕ, ◌+◌, ◌*◌, cond, ◌&&◌, ltb, leb, Err, Ok, Result}
 use Rattle.calendar.specs.Date.{days_later}
 use Rattle.calendar.specs.declared.date.Date.{Date}
-use Rattle.calendar.specs.declared.date.DateAnswer.{DateAnswer}
-use Rattle.calendar.specs.declared.date.DateAnswer.TheVariants.{On, NotADate, OutOfRange}
 use Rattle.season_nights.specs.Night.{night_of, is_autumn}
 use Rattle.log_header.specs.declared.header.Header.{Header}
 use Rattle.polling.specs.Moment.{day_minutes, days_to}
@@ -25,10 +24,9 @@ unfoldable pub by_now : ℕ → ℕ → Standing
 by_now end now = cond (ltb now end) NotOver (cond (leb (end + old_minutes) now) TooOld Due)
 
 -- slot k of a date, in intervals of m minutes
-unfoldable pub standing_on : DateAnswer → ℕ → ℕ → ℕ → Standing
-standing_on (On date) m k now = by_now (days_to date * day_minutes + over_at date (m * (k + 1))) now
-standing_on NotADate m k now = NotOver
-standing_on OutOfRange m k now = NotOver
+unfoldable pub standing_on : Result Date DateError → ℕ → ℕ → ℕ → Standing
+standing_on (Ok date) m k now = by_now (days_to date * day_minutes + over_at date (m * (k + 1))) now
+standing_on (Err none) m k now = NotOver
 
 -- slot k of day d of a log, at a minute since 2000; a day that the calendar does not have is never over
 unfoldable pub standing_of : Header → ℕ → ℕ → ℕ → Standing

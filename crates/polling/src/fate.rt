@@ -4,8 +4,9 @@ ghost use Rattle.refusal.specs.Outcome.{outcome};
 ghost use Rattle.day_rows.specs.LogAndRows.{log_and_rows};
 ghost use Rattle.polling.specs.Fate.{heard, ask_settled, fate_of, fate_lapsed};
 
-use logger::{LapseAnswer, OpenAsk, TakeAnswer};
+use logger::{LapseError, OpenAsk, TakeError};
 use reader::Fault;
+use refusal::Numbered;
 
 #[derive(Clone, Copy)]
 pub enum Fate {
@@ -24,68 +25,57 @@ pub enum Fate {
 #[derive(Clone, Copy)]
 pub struct Settled {
     pub fate: Fate,
-    pub held: OpenAsk,
+    pub held: Option<OpenAsk>,
 }
 
 // Takes what was heard for the open ask into the log, and lets the ask lapse, which closes it where the reply did not: with nothing
 // heard, and after a reply that is not well formed. The interval then stays a gap, and the log counts the lapse.
-pub fn settle(log: &mut [u8], figures: &mut [u32], held: OpenAsk, reply: &[u8]) -> Settled
+pub fn settle(log: &mut [u8], figures: &mut [u32], held: Option<OpenAsk>, reply: &[u8]) -> Settled
     ensures { outcome result (log_and_rows log.new figures.new)
         ≡ ask_settled (log_and_rows log.old figures.old) held reply.now }
 {
     let heard = heard(log, figures, held, reply);
-    let fate = heard.fate;
-    let left = heard.held;
-    let lapsed = logger::lapse(log, left);
-    let answer = lapsed.answer;
-    let after = lapsed.held;
+    let lapsed = logger::lapse(log, heard.held);
     Settled {
-        fate: fate_lapsed(answer, fate),
-        held: after,
+        fate: fate_lapsed(lapsed.answer, heard.fate),
+        held: lapsed.held,
     }
 }
 
 // A lapse is refused by a log that is none, and then the poll stops.
-fn fate_lapsed(answer: LapseAnswer, fate: Fate) -> Fate
+fn fate_lapsed(answer: Result<(), LapseError>, fate: Fate) -> Fate
     ensures { result ≡ fate_lapsed answer fate }
 {
     match answer {
-        LapseAnswer::Done => fate,
-        LapseAnswer::NotInLog => Fate::Stopped(refusal::NOT_IN_LOG),
-        LapseAnswer::Unsound => Fate::Stopped(refusal::UNSOUND),
+        Ok(()) => fate,
+        Err(refusal) => Fate::Stopped(refusal.number()),
     }
 }
 
-fn heard(log: &mut [u8], figures: &mut [u32], held: OpenAsk, reply: &[u8]) -> Settled
+fn heard(log: &mut [u8], figures: &mut [u32], held: Option<OpenAsk>, reply: &[u8]) -> Settled
     ensures { outcome result (log_and_rows log.new figures.new)
         ≡ heard (log_and_rows log.old figures.old) held reply.now }
 {
-    if reply.len() == 0 {
+    if reply.is_empty() {
         return Settled {
             fate: Fate::Silent,
-            held: held,
+            held,
         };
     }
     let taken = logger::take_reply(log, figures, held, reply);
-    let answer = taken.answer;
-    let left = taken.held;
     Settled {
-        fate: fate_of(answer),
-        held: left,
+        fate: fate_of(taken.answer),
+        held: taken.held,
     }
 }
 
-fn fate_of(answer: TakeAnswer) -> Fate
+fn fate_of(answer: Result<(), TakeError>) -> Fate
     ensures { result ≡ fate_of answer }
 {
     match answer {
-        TakeAnswer::Done => Fate::Taken,
-        TakeAnswer::Malformed(fault) => Fate::Malformed(fault),
-        TakeAnswer::MeterRefused(_) => Fate::Refused,
-        TakeAnswer::TooShort => Fate::Stopped(refusal::TOO_SHORT),
-        TakeAnswer::NoAskOpen => Fate::Stopped(refusal::NO_ASK_OPEN),
-        TakeAnswer::NotInLog => Fate::Stopped(refusal::NOT_IN_LOG),
-        TakeAnswer::OtherCounts => Fate::Stopped(refusal::OTHER_COUNTS),
-        TakeAnswer::Unsound => Fate::Stopped(refusal::UNSOUND),
+        Ok(()) => Fate::Taken,
+        Err(TakeError::Malformed(fault)) => Fate::Malformed(fault),
+        Err(TakeError::MeterRefused(_)) => Fate::Refused,
+        Err(refusal) => Fate::Stopped(refusal.number()),
     }
 }

@@ -12,8 +12,8 @@ mod standing;
 mod tally;
 
 pub use fate::{Fate, Settled, settle};
-pub use moment::{DAY_MINUTES, Moment, days_to, far_apart, machine_minute, moment_of};
-pub use next::{Next, Wanted, next_gap, next_wanted};
+pub use moment::{DAY_MINUTES, days_to, far_apart, machine_minute, moment_of};
+pub use next::{Wanted, next_gap, next_wanted};
 pub use order::{Order, day_in_order, next_in_order, passed_with};
 pub use question::{Learned, Question, answer_bytes, fits_log, learned_from, put_question};
 pub use reply::{SILENT_MOST, is_enough, is_over, is_whole};

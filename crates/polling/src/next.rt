@@ -3,18 +3,9 @@ ghost use Rattle.std.specs.Prelude.{◌≡◌};
 ghost use Rattle.polling.specs.Next.{next_wanted, next_gap, next_in, asks_for, is_wanted};
 ghost use Rattle.energy_log.specs.Image.{cell_at};
 ghost use Rattle.energy_log.specs.View.{view_of};
-ghost use Rattle.log_cell.specs.declared.cell.Cell.TheVariants.{Empty};
-ghost use Rattle.log_cell.specs.declared.cell.CellAnswer.TheVariants.{Good};
 
-use log_cell::{Cell, CellAnswer};
-use log_header::{Header, Interval, LogHeader};
-
-#[derive(Clone, Copy)]
-pub enum Next {
-    // A slot of the day.
-    Slot(u8),
-    Nothing,
-}
+use log_cell::Cell;
+use log_header::Header;
 
 // Which cells are asked for.
 #[derive(Clone, Copy)]
@@ -26,65 +17,46 @@ pub enum Wanted {
 
 // The first slot of a day, from a slot on, that exists and whose cell is a gap. Bytes that are no log have none, and neither has a day
 // outside it.
-pub fn next_gap(log: &[u8], day: u8, slot: u8) -> Next
+pub fn next_gap(log: &[u8], day: u8, slot: u8) -> Option<u8>
     ensures { result ≡ next_gap (view_of log.now) day slot }
 {
     next_wanted(log, day, slot, Wanted::Gaps)
 }
 
 // The same of the cells that are wanted.
-pub fn next_wanted(log: &[u8], day: u8, slot: u8, wanted: Wanted) -> Next
+#[tactic(auto, unfolding(crate::specs::Next::next_wanted))]
+pub fn next_wanted(log: &[u8], day: u8, slot: u8, wanted: Wanted) -> Option<u8>
     ensures { result ≡ next_wanted wanted (view_of log.now) day slot }
 {
-    match log_header::sound(log) {
-        LogHeader::Sound(h) => first_wanted(log, h, day, slot, wanted),
-        LogHeader::Unsound => Next::Nothing,
-    }
+    let h = log_header::sound(log)?;
+    first_wanted(log, h, day, slot, wanted)
 }
 
-fn first_wanted(log: &[u8], h: Header, day: u8, slot: u8, wanted: Wanted) -> Next
+fn first_wanted(log: &[u8], h: Header, day: u8, slot: u8, wanted: Wanted) -> Option<u8>
     ensures { result ≡ next_in wanted h (cell_at log.now) day slot }
 {
-    let end = slots::slots_of(h.minutes);
-    let mut i = slot;
-    while i < end {
-        if asks_for(log, h, day, i, wanted) {
-            return Next::Slot(i);
-        }
-        i += 1;
-    }
-    Next::Nothing
+    (slot..slots::slots_of(h.minutes)).find(|i| asks_for(log, h, day, *i, wanted))
 }
 
 // A slot that is not in the log is never asked for, and one that does not exist is not in it.
+#[tactic(auto, unfolding(crate::specs::Next::asks_for))]
 pub fn asks_for(log: &[u8], h: Header, day: u8, slot: u8, wanted: Wanted) -> bool
     ensures { result ≡ asks_for wanted h (cell_at log.now) day slot }
 {
-    match log_header::interval_of(h, day, slot) {
-        Interval::At(i) => is_wanted(wanted, energy_log::cell_at(log, i)),
-        Interval::Outside => false,
-    }
+    let Some(i) = log_header::interval_of(h, day, slot) else {
+        return false;
+    };
+    is_wanted(wanted, energy_log::cell_at(log, i))
 }
 
 // A bad cell is not wanted.
-fn is_wanted(wanted: Wanted, answer: CellAnswer) -> bool
+#[tactic(auto, unfolding(crate::specs::Next::is_wanted))]
+fn is_wanted(wanted: Wanted, answer: Option<Cell>) -> bool
     ensures { result ≡ is_wanted wanted answer }
 {
     match answer {
-        CellAnswer::Good(c) => match c {
-            Cell::Gap => true,
-            Cell::Empty => is_again(wanted),
-            Cell::Measured(_, _, _, _) => false,
-        },
-        CellAnswer::Bad => false,
-    }
-}
-
-fn is_again(wanted: Wanted) -> bool
-    ensures { result ≡ is_wanted wanted (Good Empty) }
-{
-    match wanted {
-        Wanted::Gaps => false,
-        Wanted::GapsAndEmpties => true,
+        Some(Cell::Gap) => true,
+        Some(Cell::Empty) => matches!(wanted, Wanted::GapsAndEmpties),
+        Some(Cell::Measured(..)) | None => false,
     }
 }

@@ -10,8 +10,8 @@ use frame::layout;
 use log_header::Header;
 use parameters::code;
 use parameters::code::Reading;
-use reader::{Fault, Reply};
-use request::{Request, RequestAnswer};
+use reader::{Fault, ReplyError};
+use request::{Request, RequestError};
 
 #[derive(Clone, Copy)]
 pub enum Question {
@@ -45,7 +45,7 @@ const QUARTER: u8 = 15;
 const HALF: u8 = 30;
 
 // Puts a question's frame to the front of a lent output.
-pub fn put_question(question: Question, address: u8, out: &mut [u8]) -> RequestAnswer
+pub fn put_question(question: Question, address: u8, out: &mut [u8]) -> Result<(), RequestError>
     ensures { outcome result out.new ≡ requested (question_of question address) out.old }
 {
     request::put_request(request_of(question, address), out)
@@ -59,18 +59,20 @@ pub fn answer_bytes(question: Question) -> usize
 }
 
 // What a reply to a question tells.
+#[tactic(auto, unfolding(crate::specs::Question::learned_of))]
 pub fn learned_from(question: Question, address: u8, reply: &[u8]) -> Learned
     ensures { result ≡ learned_of question address reply.now }
 {
     let q = request_of(question, address);
     match reader::reply_of(address, code::READ, q.parameter, full_bytes(q), reply) {
-        Reply::Malformed(fault) => Learned::Malformed(fault),
-        Reply::Refused(result) => refusal_of(question, result),
-        Reply::Answered => figure_of(question, byte_numbers::tail(reply, layout::DATA)),
+        Err(ReplyError::Malformed(fault)) => Learned::Malformed(fault),
+        Err(ReplyError::Refused(result)) => refusal_of(question, result),
+        Ok(()) => figure_of(question, byte_numbers::tail(reply, layout::DATA)),
     }
 }
 
 // Whether what was learned of the meter is as the log has it.
+#[tactic(auto, unfolding(crate::specs::Question::fits_log))]
 pub fn fits_log(h: Header, l: Learned) -> bool
     ensures { result ≡ fits_log h l }
 {
@@ -78,11 +80,11 @@ pub fn fits_log(h: Header, l: Learned) -> bool
         Learned::Clock(_) => true,
         Learned::Ke(ke) => ke == h.ke,
         Learned::Minutes(minutes) => minutes == h.minutes,
-        Learned::Refused(_) => false,
-        Learned::Malformed(_) => false,
+        Learned::Refused(_) | Learned::Malformed(_) => false,
     }
 }
 
+#[tactic(auto, unfolding(crate::specs::Question::question_of))]
 fn request_of(question: Question, address: u8) -> Request
     ensures { result ≡ question_of question address }
 {
@@ -91,7 +93,7 @@ fn request_of(question: Question, address: u8) -> Request
         Question::Weight => plain(address, code::TELEMETRY),
         Question::Interval => Request {
             reading: Reading::Stored,
-            address: address,
+            address,
             parameter: code::SLICE,
             offset: JANUARY,
             tariff: FIRST_DAY,
@@ -106,39 +108,38 @@ fn plain(address: u8, parameter: u8) -> Request
 {
     Request {
         reading: Reading::Stored,
-        address: address,
-        parameter: parameter,
+        address,
+        parameter,
         offset: 0,
         tariff: 0,
         detail: 0,
     }
 }
 
+#[tactic(auto, unfolding(crate::specs::Question::full_size))]
 fn full_bytes(q: Request) -> usize
     ensures { result ≡ full_size q }
 {
     layout::BARE_BYTES + request::data_bytes(request::subject_of(q, request::MOST_SLOTS))
 }
 
+#[tactic(auto, unfolding(crate::specs::Question::figure_of))]
 fn figure_of(question: Question, bytes: &[u8]) -> Learned
     ensures { result ≡ figure_of question bytes.now }
 {
     match question {
         Question::Clock => Learned::Clock(wire_values::date_time_of(bytes)),
-        Question::Weight => {
-            let telemetry = wire_values::telemetry_of(bytes);
-            Learned::Ke(telemetry.ke)
-        }
+        Question::Weight => Learned::Ke(wire_values::telemetry_of(bytes).ke),
         Question::Interval => Learned::Minutes(QUARTER),
     }
 }
 
+#[tactic(auto, unfolding(crate::specs::Question::refusal_of))]
 fn refusal_of(question: Question, res: u8) -> Learned
     ensures { result ≡ refusal_of question res }
 {
     match question {
-        Question::Clock => Learned::Refused(res),
-        Question::Weight => Learned::Refused(res),
+        Question::Clock | Question::Weight => Learned::Refused(res),
         Question::Interval => Learned::Minutes(HALF),
     }
 }

@@ -1,6 +1,6 @@
 // What became of the asks, counted.
 ghost use Rattle.std.specs.Prelude.{◌≡◌};
-ghost use Rattle.polling.specs.Tally.{one_more, sum_of, faulted_in, counted_in, passed_over, faults_together, together, passed_together};
+ghost use Rattle.polling.specs.Tally.{faulted_in, counted_in, passed_over, faults_together, together, passed_together};
 
 use crate::fate::Fate;
 use crate::standing::Standing;
@@ -32,89 +32,82 @@ pub struct Passed {
 }
 
 // One ask more. An ask that stopped the poll is not counted.
+#[tactic(auto, unfolding(crate::specs::Tally::counted_in, crate::specs::Tally::one_more))]
 pub fn counted(t: Tally, fate: Fate) -> Tally
     ensures { result ≡ counted_in t fate }
 {
     let mut after = t;
     match fate {
-        Fate::Taken => after.taken = one_more(t.taken),
-        Fate::Silent => after.silent = one_more(t.silent),
+        Fate::Taken => after.taken = t.taken.saturating_add(1),
+        Fate::Silent => after.silent = t.silent.saturating_add(1),
         Fate::Malformed(fault) => after.faults = faulted(t.faults, fault),
-        Fate::Refused => after.refused = one_more(t.refused),
+        Fate::Refused => after.refused = t.refused.saturating_add(1),
         Fate::Stopped(_) => {}
     }
     after
 }
 
+#[tactic(auto, unfolding(crate::specs::Tally::faulted_in, crate::specs::Tally::one_more))]
 fn faulted(f: Faults, fault: Fault) -> Faults
     ensures { result ≡ faulted_in f fault }
 {
     let mut after = f;
     match fault {
-        Fault::Length(_) => after.length = one_more(f.length),
-        Fault::Crc => after.crc = one_more(f.crc),
-        Fault::Address => after.address = one_more(f.address),
-        Fault::Function => after.function = one_more(f.function),
-        Fault::Parameter => after.parameter = one_more(f.parameter),
+        Fault::Length(_) => after.length = f.length.saturating_add(1),
+        Fault::Crc => after.crc = f.crc.saturating_add(1),
+        Fault::Address => after.address = f.address.saturating_add(1),
+        Fault::Function => after.function = f.function.saturating_add(1),
+        Fault::Parameter => after.parameter = f.parameter.saturating_add(1),
     }
     after
 }
 
 // One interval more that is not asked for; one that is due is counted by its fate.
+#[tactic(auto, unfolding(crate::specs::Tally::passed_over, crate::specs::Tally::one_more))]
 pub fn passed_over(p: Passed, standing: Standing) -> Passed
     ensures { result ≡ passed_over p standing }
 {
     let mut after = p;
     match standing {
         Standing::Due => {}
-        Standing::NotOver => after.not_over = one_more(p.not_over),
-        Standing::TooOld => after.too_old = one_more(p.too_old),
+        Standing::NotOver => after.not_over = p.not_over.saturating_add(1),
+        Standing::TooOld => after.too_old = p.too_old.saturating_add(1),
     }
     after
 }
 
 // Two parts of a poll in one.
+#[tactic(auto, unfolding(crate::specs::Tally::together, crate::specs::Tally::sum_of))]
 pub fn together(a: Tally, b: Tally) -> Tally
     ensures { result ≡ together a b }
 {
     Tally {
-        taken: sum_of(a.taken, b.taken),
-        silent: sum_of(a.silent, b.silent),
+        taken: a.taken.saturating_add(b.taken),
+        silent: a.silent.saturating_add(b.silent),
         faults: faults_together(a.faults, b.faults),
-        refused: sum_of(a.refused, b.refused),
+        refused: a.refused.saturating_add(b.refused),
     }
 }
 
+#[tactic(auto, unfolding(crate::specs::Tally::faults_together, crate::specs::Tally::sum_of))]
 fn faults_together(a: Faults, b: Faults) -> Faults
     ensures { result ≡ faults_together a b }
 {
     Faults {
-        length: sum_of(a.length, b.length),
-        crc: sum_of(a.crc, b.crc),
-        address: sum_of(a.address, b.address),
-        function: sum_of(a.function, b.function),
-        parameter: sum_of(a.parameter, b.parameter),
+        length: a.length.saturating_add(b.length),
+        crc: a.crc.saturating_add(b.crc),
+        address: a.address.saturating_add(b.address),
+        function: a.function.saturating_add(b.function),
+        parameter: a.parameter.saturating_add(b.parameter),
     }
 }
 
+#[tactic(auto, unfolding(crate::specs::Tally::passed_together, crate::specs::Tally::sum_of))]
 pub fn passed_together(a: Passed, b: Passed) -> Passed
     ensures { result ≡ passed_together a b }
 {
     Passed {
-        not_over: sum_of(a.not_over, b.not_over),
-        too_old: sum_of(a.too_old, b.too_old),
+        not_over: a.not_over.saturating_add(b.not_over),
+        too_old: a.too_old.saturating_add(b.too_old),
     }
-}
-
-fn sum_of(a: u32, b: u32) -> u32
-    ensures { result ≡ sum_of a b }
-{
-    if a <= u32::MAX - b { a + b } else { u32::MAX }
-}
-
-// The largest number stays.
-fn one_more(n: u32) -> u32
-    ensures { result ≡ one_more n }
-{
-    if n < u32::MAX { n + 1 } else { n }
 }

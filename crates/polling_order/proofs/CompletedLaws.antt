@@ -6,20 +6,20 @@ use Prim.Native.Nat.{ℕ, ◌+◌}
 use native.Mathlib.Omega.{arith}
 use lib.Dec.{eqb, ltb}
 use lib.ListN.{length}
+use Rattle.std.specs.Prelude.{None, Option, Some, Err, Ok, Result}
 use Rattle.test_laws.proofs.Test.{either}
 use Rattle.refusal.specs.Outcome.{Outcome}
 use Rattle.frame.specs.Layout.{read_size}
+use Rattle.reader.specs.declared.form.Fault.{Fault}
 use Rattle.log_header.specs.Interval.{interval_of}
 use Rattle.log_header.proofs.IntervalLaws.{by-at}
 use Rattle.log_header.specs.declared.header.Header.{Header}
-use Rattle.reader.specs.declared.form.Form.{Form}
-use Rattle.reader.specs.declared.form.Form.TheVariants.{WellFormed, Faulty}
 use Rattle.logger.specs.Book.{Call, ask, lapse, reply, Answer, Book, entry, place_of, kept_with, lapses_with, keep_reply, fault_answer, book_reply, book_ask, book_lapse, book_step, run_of, book_run}
 use Rattle.logger.specs.Reply.{slice_form, if_formed, result_of}
 use Rattle.wire_values.specs.declared.row.Row.{Row}
 use Rattle.logger.proofs.TakeLaws.{by-none}
 use Rattle.logger.specs.declared.held.OpenAsk.{OpenAsk}
-use Rattle.logger.specs.declared.held.OpenAsk.TheVariants.{Closed, Open}
+use Rattle.logger.specs.Held.{opened_for}
 use Rattle.polling_order.specs.Completed.{counted, refused, lapsed, Completed, ended_at, ending_of, completed_by, completed, rows_with, rows_at}
 use Rattle.polling_order.proofs.OrderLaws.{rows_append, lapses_in, lapses-append}
 
@@ -28,18 +28,18 @@ pub record Adds (before after : Book) (ds : List Completed) : Type 0 where
   pub kept : (i : ℕ) → after.kept i ≡ before.kept i ++ rows_at i ds
   pub lapses : (i : ℕ) → after.lapses i ≡ before.lapses i + lapses_in i ds
 
-abbrev book : OpenAsk → (ℕ → List Row) → (ℕ → ℕ) → Book
+abbrev book : Option OpenAsk → (ℕ → List Row) → (ℕ → ℕ) → Book
 book held kept lapses = record { held = held; kept = kept; lapses = lapses }
 
 -- nothing is completed
-adds_none : (held after : OpenAsk) (kept : ℕ → List Row) (lapses : ℕ → ℕ) → Adds (book held kept lapses) (book after kept lapses) []
+adds_none : (held after : Option OpenAsk) (kept : ℕ → List Row) (lapses : ℕ → ℕ) → Adds (book held kept lapses) (book after kept lapses) []
 unfolding rows_at lapses_in
 adds_none held after kept lapses = record { kept = λ i. sym (append-nil (kept i)); lapses = λ i. omega arith }
 
 -- an ask for interval p is, by a well-formed reply with these counts or with another result
-module _ (held : OpenAsk) (kept : ℕ → List Row) (lapses : ℕ → ℕ) (p : ℕ) where
+module _ (held : Option OpenAsk) (kept : ℕ → List Row) (lapses : ℕ → ℕ) (p : ℕ) where
   adds-reply : (ok : Bool) (refusal : Answer) (r : Row) (result : ℕ)
-      → Adds (book held kept lapses) (cond ok (keep_reply kept lapses p r) (entry refusal Closed kept lapses)).left
+      → Adds (book held kept lapses) (cond ok (keep_reply kept lapses p r) (entry refusal None kept lapses)).left
       (ended_at p (cond ok (counted r) (refused result)) ∷ [])
   unfolding keep_reply kept_with rows_at rows_with lapses_in
   adds-reply true refusal r result = record { kept = λ i. row (eqb i p) i; lapses = λ i. none (eqb i p) i }
@@ -62,15 +62,15 @@ module _ (held : OpenAsk) (kept : ℕ → List Row) (lapses : ℕ → ℕ) (p : 
       no_lapse false i = omega arith
 
   -- a reply that is not well formed completes nothing
-  formed-adds : (f : Form) (ok : Bool) (refusal : Answer) (r : Row) (result : ℕ)
+  formed-adds : (f : Result Unit Fault) (ok : Bool) (refusal : Answer) (r : Row) (result : ℕ)
       → Adds (book held kept lapses)
-      (if_formed f (λ fault. entry (fault_answer fault) held kept lapses) (cond ok (keep_reply kept lapses p r) (entry refusal Closed kept lapses))).left
+      (if_formed f (λ fault. entry (fault_answer fault) held kept lapses) (cond ok (keep_reply kept lapses p r) (entry refusal None kept lapses))).left
       (if_formed f (λ fault. []) (ended_at p (cond ok (counted r) (refused result)) ∷ []))
-  formed-adds WellFormed ok refusal r result = adds-reply ok refusal r result
-  formed-adds (Faulty fault) ok refusal r result = adds_none held held kept lapses
+  formed-adds (Ok tt) ok refusal r result = adds-reply ok refusal r result
+  formed-adds (Err fault) ok refusal r result = adds_none held held kept lapses
 
   -- or by a lapse
-  adds-lapse : Adds (book held kept lapses) (book Closed kept (lapses_with lapses p)) (ended_at p lapsed ∷ [])
+  adds-lapse : Adds (book held kept lapses) (book None kept (lapses_with lapses p)) (ended_at p lapsed ∷ [])
   unfolding lapses_with rows_at rows_with lapses_in
   adds-lapse = record { kept = λ i. none (eqb i p) i; lapses = λ i. one (eqb i p) i }
     where
@@ -83,19 +83,19 @@ module _ (held : OpenAsk) (kept : ℕ → List Row) (lapses : ℕ → ℕ) (p : 
       one false i = omega arith
 
 -- one call
-pub step-adds : (h : Header) (held : OpenAsk) (kept : ℕ → List Row) (lapses : ℕ → ℕ) (c : Call)
+pub step-adds : (h : Header) (held : Option OpenAsk) (kept : ℕ → List Row) (lapses : ℕ → ℕ) (c : Call)
     → Adds (book held kept lapses) (book_step h (book held kept lapses) c).left (completed_by h held c)
 unfolding book_step book_ask book_lapse book_reply completed_by ending_of
 step-adds h held kept lapses (ask address day slot out) =
     let P : Outcome Answer Book → Type 0 = λ e. Adds (book held kept lapses) e.left [] in
     either P (ltb (length out) read_size) (adds_none held held kept lapses) (
     by-none P held (λ a d t o. adds_none held held kept lapses) (λ o.
-    by-at P (interval_of h day slot) (λ n. adds_none held held kept lapses) (λ i n. adds_none held (Open address day slot) kept lapses)))
-step-adds h Closed kept lapses lapse = adds_none Closed Closed kept lapses
-step-adds h (Open a d t) kept lapses lapse = adds-lapse (Open a d t) kept lapses (place_of h d t)
-step-adds h Closed kept lapses (reply y) = adds_none Closed Closed kept lapses
-step-adds h (Open a d t) kept lapses (reply y) =
-    formed-adds (Open a d t) kept lapses (place_of h d t) (slice_form a y) (eqb (result_of y) 0) (record { number = 24; result = result_of y; length = 0 }) _ (result_of y)
+    by-at P (interval_of h day slot) (λ n. adds_none held held kept lapses) (λ i n. adds_none held (opened_for address day slot) kept lapses)))
+step-adds h None kept lapses lapse = adds_none None None kept lapses
+step-adds h (Some asking) kept lapses lapse = adds-lapse (Some asking) kept lapses (place_of h asking.day asking.slot)
+step-adds h None kept lapses (reply y) = adds_none None None kept lapses
+step-adds h (Some asking) kept lapses (reply y) =
+    formed-adds (Some asking) kept lapses (place_of h asking.day asking.slot) (slice_form asking.address y) (eqb (result_of y) 0) (record { number = 24; result = result_of y; length = 0 }) _ (result_of y)
 
 -- any list of calls
 pub run-adds : (h : Header) (b : Book) (calls : List Call) → Adds b (book_run h b calls).left (completed h b calls)

@@ -10,6 +10,7 @@ use lib.Dec.{ltb}
 use lib.ListN.{length, get_or}
 use lib.Seq.{ext_get_or}
 use borrow.Author.Tests.{ltb-true, ltb-false}
+use Rattle.std.specs.Prelude.{None, Some}
 use Rattle.byte_numbers.specs.Place.{byte_at}
 use Rattle.log_header.specs.Header.{cells_of}
 use Rattle.energy_log.specs.Image.{OutsideCell, image_of, AllCells}
@@ -19,9 +20,7 @@ use Rattle.log_header.proofs.IntervalLaws.{in-log}
 use Rattle.energy_log.proofs.ViewLaws.{Whole, cell_in_lem, none_in, view_by, view-image}
 use Rattle.log_cell.specs.declared.cell.Cell.{Cell}
 use Rattle.log_cell.specs.declared.cell.Cell.TheVariants.{Gap}
-use Rattle.log_cell.specs.declared.cell.CellAnswer.TheVariants.{Good, Bad}
 use Rattle.log_header.specs.declared.header.Header.{Header}
-use Rattle.log_header.specs.declared.header.LogHeader.TheVariants.{Sound}
 use Rattle.day_rows.specs.LogAndRows.{LogAndRows, log_and_rows}
 use Rattle.day_rows.specs.Figures.{row_numbers}
 use Rattle.day_rows.specs.Rows.{row_at}
@@ -77,8 +76,8 @@ module _ {b : LogAndRows} (start : Start b) (calls : List Call) (k : AllBytes ca
       ∙ view-image h cells (lapses_out told.lapses) start.right (length-worked_out told.kept 0 (cells_of h)) all-cells
 
   -- a cell after a history is the book's: where two histories are compared cell by cell
-  pub seen-cell : (i : ℕ) → i < cells_of h → (view_of (ran b calls).left.log).cell i ≡ Good (afresh (told.kept i))
-  seen-cell i l = ap (λ (v : View). v.cell i) seen ∙ cell_in_lem cells i (rw length-worked_out l) ∙ ap Good (cell_at i l)
+  pub seen-cell : (i : ℕ) → i < cells_of h → (view_of (ran b calls).left.log).cell i ≡ Some (afresh (told.kept i))
+  seen-cell i l = ap (λ (v : View). v.cell i) seen ∙ cell_in_lem cells i (rw length-worked_out l) ∙ ap Some (cell_at i l)
 
   -- the replies of an interval are those of the start's cell and of the completed asks
   pub kept-are : (i : ℕ) → told.kept i ≡ replies_at start (asks_in start calls) i
@@ -119,7 +118,7 @@ run-behind h s [] d l f k = refl
 run-behind h s (c ∷ calls) d l f k =
     run-behind h (step s c).left calls d l (step-faithful h s c k.0 f) k.1
     ∙ (claims.day-figures).other_days s c d (λ g i e o same.
-    let q : Sound g ≡ Sound h = sym e ∙ f.sound in
+    let q : Some g ≡ Some h = sym e ∙ f.sound in
     let one : g ≡ h = cc in
     let in-days = (in-log g o.day o.slot i o.interval).day-below in
     let days : g.days ≡ h.days = ap (λ (x : Header). x.days) one in
@@ -156,14 +155,14 @@ module _ (b : LogAndRows) (start : Start b) (these those : List Call) (k : AllBy
   same_seen : (i : ℕ) → Free i → (view_of one.log).cell i ≡ (view_of two.log).cell i
   same_seen i free = go (ltb i (cells_of head)) refl
     where
-      past : (calls : List Call) → AllBytes calls → cells_of head ≤ i → (view_of (ran b calls).left.log).cell i ≡ Bad
+      past : (calls : List Call) → AllBytes calls → cells_of head ≤ i → (view_of (ran b calls).left.log).cell i ≡ None
       past calls m n =
           ap (λ (v : View). v.cell i) (seen start calls m) ∙ none_in (cells start calls m) i (rw (length-worked_out (booked start calls).left.kept 0 (cells_of head)) n)
 
       go : (t : Bool) → ltb i (cells_of head) ≡ t → (view_of one.log).cell i ≡ (view_of two.log).cell i
       go true e =
           let m = ltb-true i (cells_of head) e in
-          seen-cell start these k i m ∙ ap Good (same-afresh i free) ∙ sym (seen-cell start those l i m)
+          seen-cell start these k i m ∙ ap Some (same-afresh i free) ∙ sym (seen-cell start those l i m)
       go false e = let m = ltb-false i (cells_of head) e in past these k m ∙ sym (past those l m)
 
   same-lapsed : (i : ℕ) → (view_of one.log).lapses i ≡ (view_of two.log).lapses i

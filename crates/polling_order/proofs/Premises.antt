@@ -9,6 +9,7 @@ use native.Mathlib.Omega.{arith}
 use lib.Dec.{eqb}
 use lib.ListN.{length, get_or}
 use borrow.Author.Tests.{eq-eqb, eqb-true}
+use Rattle.std.specs.Prelude.{Ok, Some}
 use Rattle.byte_numbers.specs.Number.{Bytes, bytes_of}
 use Rattle.byte_numbers.specs.Place.{byte_at}
 use Rattle.byte_numbers.proofs.NumberLaws.{bytes-bytes_of}
@@ -24,12 +25,9 @@ use Rattle.log_header.proofs.IntervalLaws.{in-log, interval-below}
 use Rattle.energy_log.proofs.ViewLaws.{cell_in_lem}
 use Rattle.log_cell.specs.declared.cell.Cell.{Cell}
 use Rattle.log_cell.specs.declared.cell.Cell.TheVariants.{Gap, Empty, Measured}
-use Rattle.log_cell.specs.declared.cell.CellAnswer.TheVariants.{Good}
 use Rattle.log_header.specs.declared.header.Header.{Header}
-use Rattle.log_header.specs.declared.interval.Interval.TheVariants.{At}
 use Rattle.day_rows.specs.LogAndRows.{LogAndRows}
 use Rattle.reader.specs.Form.{form_of, length_for, function_for, head_of}
-use Rattle.reader.specs.declared.form.Form.TheVariants.{WellFormed}
 use Rattle.logger.specs.Book.{counts_in, is_zero, first_of, by_first, afresh, place_of, came_first, AllBytes}
 use Rattle.logger.specs.Reply.{slice_form}
 use Rattle.wire_values.specs.declared.row.Row.{Row}
@@ -69,7 +67,7 @@ reply-bytes address r l = bytes-append (body address r) (bytes_of 2 (crc_of (bod
 
 -- the checks of a reply's form, one by one
 by-checks : (address : ℕ) (y : List ℕ) → eqb (length y) (length_for (byte_at y function_place) slice_reply) ≡ true → crc_fits y ≡ true
-    → head_of address read slice y ≡ WellFormed → slice_form address y ≡ WellFormed
+    → head_of address read slice y ≡ Ok tt → slice_form address y ≡ Ok tt
 unfolding form_of
 by-checks address y size crc head = simp (size, crc, head)
 
@@ -77,11 +75,11 @@ right-size : (address : ℕ) (r : Row) → let y = framed (body address r) in eq
 unfolding framed bytes_of length_for
 right-size address r = refl
 
-right-head : (address : ℕ) (r : Row) → head_of address read slice (framed (body address r)) ≡ WellFormed
+right-head : (address : ℕ) (r : Row) → head_of address read slice (framed (body address r)) ≡ Ok tt
 unfolding framed head_of function_for
 right-head address r = simp (eq-eqb address address refl)
 
-well-formed : (address : ℕ) (r : Row) → address < 256 → slice_form address (reply_with address r) ≡ WellFormed
+well-formed : (address : ℕ) (r : Row) → address < 256 → slice_form address (reply_with address r) ≡ Ok tt
 unfolding reply_with
 well-formed address r l =
     by-checks address (framed (body address r)) (right-size address r) (crc_fits-framed (body address r) (body_bytes address r l)) (right-head address r)
@@ -100,19 +98,19 @@ counted-with address r f = λ t. counted (record {
 
 -- ---- rounds that complete their asks
 
-at_place : (h : Header) (day slot i : ℕ) → interval_of h day slot ≡ At i → interval_of h day slot ≡ At (place_of h day slot)
+at_place : (h : Header) (day slot i : ℕ) → interval_of h day slot ≡ Some i → interval_of h day slot ≡ Some (place_of h day slot)
 unfolding place_of
-at_place h day slot i e = e ∙ ap At (sym (in-log h day slot i e).index)
+at_place h day slot i e = e ∙ ap Some (sym (in-log h day slot i e).index)
 
-completes : (h : Header) (address day slot i : ℕ) (x : Closing) → interval_of h day slot ≡ At i → Closes address x → Completes h (round_of address day slot x)
+completes : (h : Header) (address day slot i : ℕ) (x : Closing) → interval_of h day slot ≡ Some i → Closes address x → Completes h (round_of address day slot x)
 completes h address day slot i x e c = record { room = omega arith; interval = at_place h day slot i e; stays = tt; closed = c }
 
 -- the claim that the premises can be met: by a lapse
-pub lapse_completes : (h : Header) (address day slot i : ℕ) → interval_of h day slot ≡ At i → Completes h (round_of address day slot lapses)
+pub lapse_completes : (h : Header) (address day slot i : ℕ) → interval_of h day slot ≡ Some i → Completes h (round_of address day slot lapses)
 lapse_completes h address day slot i e = completes h address day slot i lapses e tt
 
 -- by a reply
-pub reply_completes : (h : Header) (address day slot i : ℕ) (r : Row) → address < 256 → RowFits r → interval_of h day slot ≡ At i
+pub reply_completes : (h : Header) (address day slot i : ℕ) (r : Row) → address < 256 → RowFits r → interval_of h day slot ≡ Some i
     → Completes h (round_of address day slot (answers (reply_with address r))) × (ending_of (reply_with address r) ≡ counted r)
 reply_completes h address day slot i r l f e =
     (completes h address day slot i (answers (reply_with address r)) e (reply-bytes address r l, well-formed address r l), counted-with address r f)
@@ -209,7 +207,7 @@ first-measured : (q r : Row) → is_zero q ≡ false → afresh (q ∷ r ∷ [])
 unfolding afresh first_of by_first
 first-measured q r z = simp z
 
-same_row : (q r : Row) → Good (Measured q.e_plus q.e_minus q.r_plus q.r_minus) ≡ Good (Measured r.e_plus r.e_minus r.r_plus r.r_minus) → q ≡ r
+same_row : (q r : Row) → Some (Measured q.e_plus q.e_minus q.r_plus q.r_minus) ≡ Some (Measured r.e_plus r.e_minus r.r_plus r.r_minus) → q ≡ r
 same_row q r e =
     let a : q.e_plus ≡ r.e_plus = cc in
     let b : q.e_minus ≡ r.e_minus = cc in
@@ -217,12 +215,12 @@ same_row q r e =
     let d : q.r_minus ≡ r.r_minus = cc in
     λ t. record { e_plus = a t; e_minus = b t; r_plus = c t; r_minus = d t }
 
-module _ (b : LogAndRows) (start : Start b) (day slot i : ℕ) (at : interval_of start.header day slot ≡ At i) (seen : (view_of b.log).cell i ≡ Good Gap) where
+module _ (b : LogAndRows) (start : Start b) (day slot i : ℕ) (at : interval_of start.header day slot ≡ Some i) (seen : (view_of b.log).cell i ≡ Some Gap) where
   -- what is seen as a gap is one of the start's
   gap : get_or start.cells i Gap ≡ Gap
   gap =
       let there : i < length start.cells = rw start.count (interval-below start.header day slot i at) in
-      let same : Good (get_or start.cells i Gap) ≡ Good Gap = sym (cell_in_lem start.cells i there) ∙ sym (ap (λ (v : View). v.cell i) (start_seen start)) ∙ seen in
+      let same : Some (get_or start.cells i Gap) ≡ Some Gap = sym (cell_in_lem start.cells i there) ∙ sym (ap (λ (v : View). v.cell i) (start_seen start)) ∙ seen in
       cc
 
   abbrev reading : Row → Round
@@ -243,18 +241,18 @@ module _ (b : LogAndRows) (start : Start b) (day slot i : ℕ) (at : interval_of
   rows_are q r f g = rw (counted-with 1 q f, counted-with 1 r g, (in-log start.header day slot i at).index, eq-eqb i i refl) refl
 
   first_holds : (q r : Row) → RowFits q → RowFits r → is_zero q ≡ false
-      → (view_of (ran b (calls_of (reading q ∷ reading r ∷ []))).left.log).cell i ≡ Good (Measured q.e_plus q.e_minus q.r_plus q.r_minus)
+      → (view_of (ran b (calls_of (reading q ∷ reading r ∷ []))).left.log).cell i ≡ Some (Measured q.e_plus q.e_minus q.r_plus q.r_minus)
   unfolding came_first
   first_holds q r f g z =
       let both = read-both q r f g in
       let rounds = reading q ∷ reading r ∷ [] in
       let bytes = calls-bytes start.header rounds both in
       seen-cell start (calls_of rounds) bytes i (interval-below start.header day slot i at)
-      ∙ ap (λ (rows : List Row). Good (afresh rows))
+      ∙ ap (λ (rows : List Row). Some (afresh rows))
       (kept-are start (calls_of rounds) bytes i
       ∙ ap (λ (ds : List Completed). replies_at start ds i) (asks-are b start rounds both)
       ∙ ap₂ (λ (c : Cell) (rows : List Row). came_first c ++ rows) gap (rows_are q r f g))
-      ∙ ap Good (first-measured q r z)
+      ∙ ap Some (first-measured q r z)
 
   -- the claim that two different replies do make a difference
   pub differ : (q r : Row) → RowFits q → RowFits r → is_zero q ≡ false → is_zero r ≡ false → (q ≡ r → ⊥)

@@ -5,53 +5,53 @@ use mathlib.Core.List.{List, [], ◌∷◌, ◌++◌}
 use Prim.Native.Nat.{ℕ}
 use lib.ListN.{length}
 use borrow.Author.Tests.{le-ltb}
+use Rattle.std.specs.Prelude.{Err, Ok, Result, None, Option}
 use Rattle.refusal.specs.Outcome.{Outcome}
 use Rattle.frame.specs.Layout.{read_size}
+use Rattle.reader.specs.declared.form.Fault.{Fault}
 use Rattle.log_header.specs.declared.header.Header.{Header}
-use Rattle.reader.specs.declared.form.Form.{Form}
-use Rattle.reader.specs.declared.form.Form.TheVariants.{WellFormed, Faulty}
 use Rattle.logger.specs.Book.{Call, ask, Answer, Book, entry, fault_answer, place_of, keep_reply, book_reply, book_ask, book_lapse, book_step, AllBytes}
 use Rattle.logger.specs.Reply.{slice_form, if_formed, result_of}
 use Rattle.wire_values.specs.declared.row.Row.{Row}
 use Rattle.logger.proofs.TakeLaws.{by-ok}
 use Rattle.logger.specs.declared.held.OpenAsk.{OpenAsk}
-use Rattle.logger.specs.declared.held.OpenAsk.TheVariants.{Closed, Open}
+use Rattle.logger.specs.Held.{opened_for}
 use Rattle.polling_order.specs.Completed.{lapsed, Completed, ended_at, ending_of, completed_by, completed}
 use Rattle.polling_order.specs.Rounds.{Closing, lapses, answers, Round, closing_call, replies_then, calls_of, AllMalformed, Closes, Completes, AllComplete, ending_by, asks_of}
 
 -- a book by its three parts
-abbrev pub book : OpenAsk → (ℕ → List Row) → (ℕ → ℕ) → Book
+abbrev pub book : Option OpenAsk → (ℕ → List Row) → (ℕ → ℕ) → Book
 book held kept counts = record { held = held; kept = kept; lapses = counts }
 
 module _ (h : Header) (kept : ℕ → List Row) (counts : ℕ → ℕ) where
   -- the ask opens
   opens : (r : Round) (calls : List Call) → Completes h r
-      → completed h (book Closed kept counts) (ask r.address r.day r.slot r.out ∷ calls)
-      ≡ completed h (book (Open r.address r.day r.slot) kept counts) calls
+      → completed h (book None kept counts) (ask r.address r.day r.slot r.out ∷ calls)
+      ≡ completed h (book (opened_for r.address r.day r.slot) kept counts) calls
   unfolding completed completed_by book_step book_ask
   opens r calls c = rw (le-ltb (length r.out) read_size c.room, c.interval) refl
 
   -- a reply that is not well formed leaves it
-  stays-one : (f : Form) (a d t : ℕ) (y : List ℕ) (o : Outcome Answer Book) (ds : List Completed) (calls : List Call) → (f ≡ WellFormed → ⊥)
+  stays-one : (f : Result Unit Fault) (a d t : ℕ) (y : List ℕ) (o : Outcome Answer Book) (ds : List Completed) (calls : List Call) → (f ≡ Ok tt → ⊥)
       → if_formed f (λ fault. []) ds
-      ++ completed h (if_formed f (λ fault. entry (fault_answer fault) (Open a d t) kept counts) o).left calls
-      ≡ completed h (book (Open a d t) kept counts) calls
-  stays-one WellFormed a d t y o ds calls k = absurd (k refl)
-  stays-one (Faulty fault) a d t y o ds calls k = refl
+      ++ completed h (if_formed f (λ fault. entry (fault_answer fault) (opened_for a d t) kept counts) o).left calls
+      ≡ completed h (book (opened_for a d t) kept counts) calls
+  stays-one (Ok tt) a d t y o ds calls k = absurd (k refl)
+  stays-one (Err fault) a d t y o ds calls k = refl
 
   stays_all : (a d t : ℕ) (ys : List (List ℕ)) (calls : List Call) → AllMalformed a ys
-      → completed h (book (Open a d t) kept counts) (replies_then ys calls) ≡ completed h (book (Open a d t) kept counts) calls
+      → completed h (book (opened_for a d t) kept counts) (replies_then ys calls) ≡ completed h (book (opened_for a d t) kept counts) calls
   unfolding completed completed_by book_step book_reply
   stays_all a d t [] calls k = refl
   stays_all a d t (y ∷ ys) calls k = stays-one (slice_form a y) a d t y _ _ (replies_then ys calls) k.0.faulty ∙ stays_all a d t ys calls k.1
 
 -- what is completed with none open, whatever was kept
 abbrev pub Behind : Header → List Call → List Completed → Type 0
-Behind h calls ds = (kept : ℕ → List Row) (counts : ℕ → ℕ) → completed h (book Closed kept counts) calls ≡ ds
+Behind h calls ds = (kept : ℕ → List Row) (counts : ℕ → ℕ) → completed h (book None kept counts) calls ≡ ds
 
 -- what closes the ask completes it, and leaves none open
 closes : (h : Header) (kept : ℕ → List Row) (counts : ℕ → ℕ) (a d t : ℕ) (x : Closing) (calls : List Call) (ds : List Completed) → Closes a x → Behind h calls ds
-    → completed h (book (Open a d t) kept counts) (closing_call x ∷ calls) ≡ ended_at (place_of h d t) (ending_by x) ∷ ds
+    → completed h (book (opened_for a d t) kept counts) (closing_call x ∷ calls) ≡ ended_at (place_of h d t) (ending_by x) ∷ ds
 unfolding completed completed_by book_step book_lapse book_reply keep_reply
 closes h kept counts a d t lapses calls ds c k = ap (λ (l : List Completed). ended_at (place_of h d t) lapsed ∷ l) (k kept _)
 closes h kept counts a d t (answers y) calls ds c k =

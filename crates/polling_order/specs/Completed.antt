@@ -1,5 +1,5 @@
 -- The completed asks of a history. Document 02, CR 13: "two histories holding the same completed asks, each with its reply or lapse".
-use Rattle.std.specs.Prelude.{cond, List, [], ◌∷◌, ◌++◌, ℕ, eqb, get_or}
+use Rattle.std.specs.Prelude.{cond, List, [], ◌∷◌, ◌++◌, ℕ, eqb, get_or, Option}
 use Rattle.log_cell.specs.declared.cell.Cell.TheVariants.{Gap}
 use Rattle.log_header.specs.declared.header.Header.{Header}
 use Rattle.day_rows.specs.LogAndRows.{LogAndRows}
@@ -29,7 +29,7 @@ unfoldable pub ending_of : List ℕ → Ending
 ending_of y = if_ok (result_of y) (refused (result_of y)) (counted (counts_in y))
 
 -- what a call completes: the ask that was open before it, where a lapse or a well-formed reply closes it; else nothing
-unfoldable pub completed_by : Header → OpenAsk → Call → List Completed
+unfoldable pub completed_by : Header → Option OpenAsk → Call → List Completed
 unfolding ending_of
 completed_by h held (ask address day slot out) = []
 completed_by h held lapse = if_open held [] (λ address day slot. ended_at (place_of h day slot) lapsed ∷ [])

@@ -4,7 +4,7 @@
 --
 -- The calls run by the definitions that the contracts of `put_ask`, `lapse` and `take_reply` cite (`ran` of claims/specs/Demand3.antt). Answers are not spoken of: 0 and 25
 -- change places with their replies. Proofs: `polling-order`, proofs/Claims.antt.
-use Rattle.std.specs.Prelude.{◌≡◌, false, List, [], ◌∷◌, reverse, ◌⊎◌, ℕ, ◌+◌, ◌*◌, ◌≤◌, ◌<◌, length}
+use Rattle.std.specs.Prelude.{◌≡◌, false, List, [], ◌∷◌, reverse, ◌⊎◌, ℕ, ◌+◌, ◌*◌, ◌≤◌, ◌<◌, length, Some}
 use Rattle.byte_numbers.specs.Place.{byte_at}
 use Rattle.slots.specs.Day.{slots_of}
 use Rattle.log_header.specs.Header.{cells_of, sound_of}
@@ -13,10 +13,7 @@ use Rattle.log_header.specs.Interval.{interval_of}
 use Rattle.energy_log.specs.Pair.{pair_of}
 use Rattle.energy_log.specs.View.{view_of}
 use Rattle.log_cell.specs.declared.cell.Cell.TheVariants.{Gap}
-use Rattle.log_cell.specs.declared.cell.CellAnswer.TheVariants.{Good}
 use Rattle.log_header.specs.declared.header.Header.{Header}
-use Rattle.log_header.specs.declared.header.LogHeader.TheVariants.{Sound}
-use Rattle.log_header.specs.declared.interval.Interval.TheVariants.{At}
 use Rattle.day_rows.specs.LogAndRows.{LogAndRows, log_and_rows}
 use Rattle.day_rows.specs.Rows.{row_at}
 use Rattle.logger.specs.Book.{is_zero, Call, AllBytes}
@@ -39,7 +36,7 @@ pub record OfDay (h : Header) (d i : ℕ) : Type 0 where
 -- "the logs differ at most in the cells concerned", those of intervals that have two different nonzero replies among these asks': header, lapses, every other cell, and
 -- the figures of every day without such an interval are the same, and every bit of the log that holds none of them
 pub record SameElsewhere {b : LogAndRows} (start : Start b) (asks : List Completed) (s t : LogAndRows) : Type 0 where
-  pub header : (sound_of s.log ≡ Sound start.header) × (sound_of t.log ≡ Sound start.header)
+  pub header : (sound_of s.log ≡ Some start.header) × (sound_of t.log ≡ Some start.header)
   pub size : length s.log ≡ length t.log
   pub lapses : (i : ℕ) → (view_of s.log).lapses i ≡ (view_of t.log).lapses i
   pub cells : (i : ℕ) → OneReply (replies_at start asks i) → (view_of s.log).cell i ≡ (view_of t.log).cell i
@@ -68,8 +65,8 @@ pub record PollingOrder : Type 0 where
   -- reply with any four counts
   pub held : (b : LogAndRows) (start : Start b) (rounds : List Round) → AllComplete start.header rounds
       → AllBytes (calls_of rounds) × (asks_in start (calls_of rounds) ≡ asks_of start.header rounds)
-  pub lapse_completes : (h : Header) (address day slot i : ℕ) → interval_of h day slot ≡ At i → Completes h (round_of address day slot lapses)
-  pub reply_completes : (h : Header) (address day slot i : ℕ) (r : Row) → address < 256 → RowFits r → interval_of h day slot ≡ At i
+  pub lapse_completes : (h : Header) (address day slot i : ℕ) → interval_of h day slot ≡ Some i → Completes h (round_of address day slot lapses)
+  pub reply_completes : (h : Header) (address day slot i : ℕ) (r : Row) → address < 256 → RowFits r → interval_of h day slot ≡ Some i
       → Completes h (round_of address day slot (answers (reply_with address r))) × (ending_of (reply_with address r) ≡ counted r)
   -- no interval has two different nonzero replies where each is asked for once and no measured one is asked for
   pub once_each : (b : LogAndRows) (start : Start b) (asks : List Completed) → OnceEach asks → NoneMeasured start asks → OneReplyEach start asks
@@ -78,7 +75,7 @@ pub record PollingOrder : Type 0 where
       → AllComplete h (reverse rounds) × Reordered (asks_of h rounds) (asks_of h (reverse rounds))
       × (after b (calls_of rounds) ≡ after b (calls_of (reverse rounds)))
   -- and where an interval has two different nonzero replies the logs do differ: two replies for one gap
-  pub differ : (b : LogAndRows) (start : Start b) (day slot i : ℕ) → let h = start.header in interval_of h day slot ≡ At i → (view_of b.log).cell i ≡ Good Gap
+  pub differ : (b : LogAndRows) (start : Start b) (day slot i : ℕ) → let h = start.header in interval_of h day slot ≡ Some i → (view_of b.log).cell i ≡ Some Gap
       → (q r : Row) → RowFits q → RowFits r → is_zero q ≡ false → is_zero r ≡ false → (q ≡ r → ⊥)
       → let one = round_of 1 day slot (answers (reply_with 1 q)) in let two = round_of 1 day slot (answers (reply_with 1 r)) in
       Reordered (asks_of h (one ∷ two ∷ [])) (asks_of h (two ∷ one ∷ []))

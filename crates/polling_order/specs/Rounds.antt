@@ -1,12 +1,10 @@
 -- Lists of completed asks, as calls: each ask closed before the next. Document 02, CR 13: "that each ask is closed before the next".
-use Rattle.std.specs.Prelude.{◌≡◌, ℕ, ◌≤◌, length}
+use Rattle.std.specs.Prelude.{◌≡◌, ℕ, ◌≤◌, length, Ok, Some}
 use mathlib.Core.List.{List, [], ◌∷◌, map, Memᴰ}
 use Rattle.byte_numbers.specs.Number.{Bytes}
 use Rattle.frame.specs.Layout.{read_size}
 use Rattle.log_header.specs.Interval.{interval_of}
 use Rattle.log_header.specs.declared.header.Header.{Header}
-use Rattle.log_header.specs.declared.interval.Interval.TheVariants.{At}
-use Rattle.reader.specs.declared.form.Form.TheVariants.{WellFormed}
 use Rattle.logger.specs.Book.{Call, ask, lapse, reply, place_of}
 use Rattle.logger.specs.Reply.{slice_form}
 use Rattle.polling_order.specs.Completed.{Ending, lapsed, Completed, ended_at, ending_of}
@@ -46,7 +44,7 @@ calls_of (r ∷ rs) = ask r.address r.day r.slot r.out ∷ replies_then r.malfor
 -- a reply to an ask by this address that leaves it open
 pub record Malformed (address : ℕ) (y : List ℕ) : Type 0 where
   pub bytes : Bytes y
-  pub faulty : slice_form address y ≡ WellFormed → ⊥
+  pub faulty : slice_form address y ≡ Ok tt → ⊥
 
 abbrev pub AllMalformed : ℕ → List (List ℕ) → Type 0
 AllMalformed address [] = Unit
@@ -55,12 +53,12 @@ AllMalformed address (y ∷ ys) = Malformed address y × AllMalformed address ys
 -- a lapse closes it, and so does a well-formed reply
 abbrev pub Closes : ℕ → Closing → Type 0
 Closes address lapses = Unit
-Closes address (answers y) = Bytes y × (slice_form address y ≡ WellFormed)
+Closes address (answers y) = Bytes y × (slice_form address y ≡ Ok tt)
 
 -- the ask opens, since there is room for its frame and its interval is in the log; then it is closed
 pub record Completes (h : Header) (r : Round) : Type 0 where
   pub room : read_size ≤ length r.out
-  pub interval : interval_of h r.day r.slot ≡ At (place_of h r.day r.slot)
+  pub interval : interval_of h r.day r.slot ≡ Some (place_of h r.day r.slot)
   pub stays : AllMalformed r.address r.malformed
   pub closed : Closes r.address r.closing
 

@@ -1,12 +1,14 @@
 // What a reply comes to, before its figures are looked at: whether it is well formed, what is wrong with it first, and the meter's result.
 ghost use Rattle.std.specs.Prelude.{◌≡◌};
+ghost use Rattle.reader.specs.declared.form.ReplyError.TheVariants.{Malformed};
 ghost use Rattle.reader.specs.Form.{reply_of, form_of, head_of, length_for, function_for, fault_number, length_or};
 
 use frame::layout;
 use parameters::code;
+use refusal::Numbered;
 
 // What is wrong with a reply, in the order in which it is looked for.
-#[derive(Clone, Copy)]
+#[derive(Clone, Copy, PartialEq, Eq)]
 pub enum Fault {
     // How many bytes came.
     Length(usize),
@@ -17,26 +19,26 @@ pub enum Fault {
     Parameter,
 }
 
-#[derive(Clone, Copy)]
-pub enum Form {
-    WellFormed,
-    Faulty(Fault),
-}
-
-#[derive(Clone, Copy)]
-pub enum Reply {
+#[derive(Clone, Copy, PartialEq, Eq)]
+pub enum ReplyError {
     Malformed(Fault),
     // The meter's result, which is not 0.
     Refused(u8),
-    // Behind the result stand the figures.
-    Answered,
 }
 
-impl Fault {
+impl From<Fault> for ReplyError {
+    ghost from_gives = { λ fault e. e ≡ Malformed fault };
+
+    fn from(fault: Fault) -> ReplyError {
+        ReplyError::Malformed(fault)
+    }
+}
+
+impl Numbered for Fault {
     // Document 02's number.
-    pub fn number(self) -> u8
-        ensures { result ≡ fault_number self }
-    {
+    ghost number_of = { fault_number };
+
+    fn number(&self) -> u8 {
         match self {
             Fault::Length(_) => refusal::REPLY_LENGTH,
             Fault::Crc => refusal::REPLY_CRC,
@@ -45,53 +47,59 @@ impl Fault {
             Fault::Parameter => refusal::REPLY_PARAMETER,
         }
     }
+}
 
+impl Fault {
     // How many bytes came, which a wrong length alone tells.
     pub fn length_or(self, other: usize) -> usize
         ensures { result ≡ length_or self other }
     {
         match self {
             Fault::Length(n) => n,
-            Fault::Crc => other,
-            Fault::Address => other,
-            Fault::Function => other,
-            Fault::Parameter => other,
+            Fault::Crc | Fault::Address | Fault::Function | Fault::Parameter => other,
         }
     }
 }
 
 // What a reply comes to: one to a request with `function` and `parameter` sent to `address`, whose full reply has `full` bytes.
-pub fn reply_of(address: u8, function: u8, parameter: u8, full: usize, reply: &[u8]) -> Reply
+#[tactic(auto, unfolding(crate::specs::Form::reply_of))]
+pub fn reply_of(
+    address: u8,
+    function: u8,
+    parameter: u8,
+    full: usize,
+    reply: &[u8],
+) -> Result<(), ReplyError>
     ensures { result ≡ reply_of address function parameter full reply.now }
 {
-    if let Form::Faulty(fault) = form_of(address, function, parameter, full, reply) {
-        return Reply::Malformed(fault);
-    }
+    form_of(address, function, parameter, full, reply)?;
     let result = byte_numbers::byte_at(reply, layout::RESULT);
     if result == code::OK {
-        Reply::Answered
+        Ok(())
     } else {
-        Reply::Refused(result)
+        Err(ReplyError::Refused(result))
     }
 }
 
 // Its form.
-fn form_of(address: u8, function: u8, parameter: u8, full: usize, reply: &[u8]) -> Form
+#[tactic(auto, unfolding(crate::specs::Form::form_of))]
+fn form_of(address: u8, function: u8, parameter: u8, full: usize, reply: &[u8]) -> Result<(), Fault>
     ensures { result ≡ form_of address function parameter full reply.now }
 {
     let length = length_for(byte_numbers::byte_at(reply, layout::FUNCTION), full);
     if reply.len() != length {
-        return Form::Faulty(Fault::Length(reply.len()));
+        return Err(Fault::Length(reply.len()));
     }
     if frame::crc_fits(reply) {
         head_of(address, function, parameter, reply)
     } else {
-        Form::Faulty(Fault::Crc)
+        Err(Fault::Crc)
     }
 }
 
 // What a reply's first four bytes say.
-fn head_of(address: u8, function: u8, parameter: u8, reply: &[u8]) -> Form
+#[tactic(auto, unfolding(crate::specs::Form::head_of))]
+fn head_of(address: u8, function: u8, parameter: u8, reply: &[u8]) -> Result<(), Fault>
     ensures { result ≡ head_of address function parameter reply.now }
 {
     let sender = byte_numbers::byte_at(reply, layout::ADDRESS);
@@ -99,17 +107,18 @@ fn head_of(address: u8, function: u8, parameter: u8, reply: &[u8]) -> Form
     let asked = byte_numbers::byte_at(reply, layout::PARAMETER);
     let wanted = function_for(function, byte_numbers::byte_at(reply, layout::RESULT));
     if sender != address {
-        return Form::Faulty(Fault::Address);
+        return Err(Fault::Address);
     }
     if done as u16 != wanted {
-        return Form::Faulty(Fault::Function);
+        return Err(Fault::Function);
     }
     if asked != parameter {
-        return Form::Faulty(Fault::Parameter);
+        return Err(Fault::Parameter);
     }
-    Form::WellFormed
+    Ok(())
 }
 
+#[tactic(auto, unfolding(crate::specs::Form::length_for))]
 fn length_for(function: u8, full: usize) -> usize
     ensures { result ≡ length_for function full }
 {
@@ -121,6 +130,7 @@ fn length_for(function: u8, full: usize) -> usize
 }
 
 // Of 16 bits: a function may be any byte, and the top bit is added to it.
+#[tactic(auto, unfolding(crate::specs::Form::function_for))]
 fn function_for(function: u8, res: u8) -> u16
     ensures { result ≡ function_for function res }
 {

@@ -8,6 +8,6 @@ mod form;
 mod reply;
 mod rows;
 
-pub use form::{Fault, Reply, reply_of};
-pub use reply::{Decoded, decode};
+pub use form::{Fault, ReplyError, reply_of};
+pub use reply::{DecodeError, Decoded, decode};
 pub use rows::six_slices;

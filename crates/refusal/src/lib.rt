@@ -1,5 +1,29 @@
-// The numbers of document 01's refusal table and of document 02's requests, by name. What each leaves behind stands there.
+// The numbers of document 01's refusal table and of document 02's requests, by name, and what has one: every refusal of a call, and so
+// every call's answer. What each number leaves behind stands in the table.
 #![tactic(auto)]
+
+ghost use Rattle.std.specs.Prelude.{◌≡◌, ℕ};
+ghost use Rattle.refusal.specs.Number.{answer_number};
+
+// What has a number of the table.
+pub trait Numbered {
+    ghost number_of: { Self → ℕ };
+
+    fn number(&self) -> u8
+        ensures { result ≡ number_of self.now };
+}
+
+// A call that is done answers 0, and one that is refused its refusal's number.
+impl<T, E: Numbered> Numbered for Result<T, E> {
+    ghost number_of = { answer_number E.number_of };
+
+    fn number(&self) -> u8 {
+        match self {
+            Ok(_) => DONE,
+            Err(refusal) => refusal.number(),
+        }
+    }
+}
 
 pub const DONE: u8 = 0;
 // A lent output that is too short.

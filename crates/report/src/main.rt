@@ -8,9 +8,9 @@ ghost use Rattle.day_rows.specs.LogAndRows.{log_and_rows};
 ghost use Rattle.report_page.specs.Page.{ReadOf, page_line, strip_line};
 ghost use Rattle.report.specs.Printed.{Printed};
 
-use day_report::{LINE_MOST, STRIP_MOST, TextAnswer};
+use day_report::{LINE_MOST, STRIP_MOST};
 use day_rows::FIGURES_MOST;
-use log_file::ReadAnswer;
+use log_file::ReadError;
 use log_header::IMAGE_MOST;
 use report_page::Page;
 use std::io;
@@ -48,7 +48,13 @@ fn read(rt: HostRuntime, file: &[u8]) {
 }
 
 // What was read of the file.
-fn shown(rt: HostRuntime, file: &[u8], answer: ReadAnswer, room: &[u8], figures: &[u32])
+fn shown(
+    rt: HostRuntime,
+    file: &[u8],
+    answer: Result<usize, ReadError>,
+    room: &[u8],
+    figures: &[u32],
+)
     requires { ReadOf file.now answer (log_and_rows room.now figures.now) }
 {
     lines(rt, file, answer, room, figures);
@@ -58,7 +64,13 @@ fn shown(rt: HostRuntime, file: &[u8], answer: ReadAnswer, room: &[u8], figures:
     }
 }
 
-fn lines(rt: HostRuntime, file: &[u8], answer: ReadAnswer, room: &[u8], figures: &[u32])
+fn lines(
+    rt: HostRuntime,
+    file: &[u8],
+    answer: Result<usize, ReadError>,
+    room: &[u8],
+    figures: &[u32],
+)
     requires { ReadOf file.now answer (log_and_rows room.now figures.now) }
 {
     let mut page = report_page::page_of(answer);
@@ -74,14 +86,19 @@ fn line(rt: HostRuntime, file: &[u8], page: Page, room: &[u8], figures: &[u32]) 
 {
     let mut text = [0u8; LINE_MOST];
     let next = report_page::put_next_line(page, room, figures, &mut text);
-    let answer = next.answer;
-    if let TextAnswer::Done(n) = answer {
+    if let Ok(n) = next.answer {
         say(rt, line_of(file, page.next, &text, n));
     }
     next.after
 }
 
-fn strips(rt: HostRuntime, file: &[u8], answer: ReadAnswer, room: &[u8], figures: &[u32])
+fn strips(
+    rt: HostRuntime,
+    file: &[u8],
+    answer: Result<usize, ReadError>,
+    room: &[u8],
+    figures: &[u32],
+)
     requires { ReadOf file.now answer (log_and_rows room.now figures.now) }
 {
     let mut page = report_page::page_of(answer);
@@ -97,8 +114,7 @@ fn strip(rt: HostRuntime, file: &[u8], page: Page, room: &[u8], figures: &[u32])
 {
     let mut text = [0u8; STRIP_MOST];
     let next = report_page::put_next_strip(page, room, &mut text);
-    let answer = next.answer;
-    if let TextAnswer::Done(n) = answer {
+    if let Ok(n) = next.answer {
         let _ = rt.stderr().write_all(strip_of(file, page.next, &text, n));
     }
     next.after
@@ -124,10 +140,7 @@ fn strip_of<'a>(file: &[u8], day: u8, text: &'a [u8], n: usize) -> &'a [u8]
 fn front(bytes: &[u8], n: usize) -> &[u8]
     ensures { result.now ≡ take n bytes.now }
 {
-    if n < bytes.len() {
-        return &bytes[..n];
-    }
-    bytes
+    &bytes[..n.min(bytes.len())]
 }
 
 // What cannot be written is left out.

@@ -1,6 +1,10 @@
 -- What follows from the definition of a page: a refusal's line, its length, and its parts written one behind the other; that a file is never
 -- refused for want of room; that past the last line there is none; that the lines of what was read are those of the file; and that each line
 -- has room. Assumes nothing.
+use Rattle.std.specs.Prelude.{Err, None, Ok, Option, Result, Some}
+use Rattle.std.specs.Result.{result_unwrap_or}
+use Rattle.log_file.specs.declared.read.ReadError.{ReadError}
+use Rattle.day_report.specs.declared.answer.ReportError.{ReportError}
 use mathlib.Core.Path.{◌≡◌, refl, sym, ap, ◌∙◌}
 use mathlib.Core.Bool.{Bool, true, false, ◌&&◌}
 use mathlib.Core.List.{[], ◌∷◌, List, ◌++◌}
@@ -21,20 +25,18 @@ use Rattle.frame.specs.Sealing.{crc_fits}
 use Rattle.log_header.specs.Header.{header_size, days_most, image_most, length_of, is_header, mark_right, version_at, if_right}
 use Rattle.log_header.proofs.HeaderLaws.{image-most}
 use Rattle.log_header.specs.declared.header.Header.{Header}
-use Rattle.log_header.specs.declared.header.HeaderAnswer.{HeaderAnswer}
-use Rattle.log_header.specs.declared.header.HeaderAnswer.TheVariants.{Right, Wrong}
 use Rattle.day_rows.specs.Rows.{figures_of, all_figures}
 use Rattle.day_rows.specs.LogAndRows.{LogAndRows, log_and_rows, enough}
 use Rattle.day_rows.proofs.RowsLaws.{figures_most, figures-at-most, Small, small-nil, small-written, small-figures}
 use Rattle.log_file.specs.Row.{row_at, lapses_in}
 use Rattle.log_file.specs.File.{is_version, file_header, file_length_as, cells_right}
-use Rattle.log_file.specs.Read.{read_number, mark_size, read_cells, read_fields, read_file}
+use Rattle.log_file.specs.Read.{read_error_number, read_number, if_read, mark_size, read_cells, read_fields, read_file}
 use Rattle.log_file.proofs.FileLaws.{file-header-right}
 use Rattle.log_file.proofs.RowLaws.{read-is-cell}
-use Rattle.log_file.specs.declared.read.ReadAnswer.{ReadAnswer}
-use Rattle.log_file.specs.declared.read.ReadAnswer.TheVariants.{Done, WrongMark, WrongVersion, WrongHeader, WrongLength, WrongCrc, WrongCell, TooShort}
+use Rattle.log_file.specs.declared.read.ReadError.TheVariants.{WrongMark, WrongVersion, WrongHeader, WrongLength, WrongCrc, WrongCell, TooShort}
+use Rattle.day_report.specs.declared.answer.ReportError.TheVariants as report
+use Rattle.day_report.specs.Report.{error_number}
 use Rattle.day_report.specs.Text.{line_feed, heading_text, line_most, text_number}
-use Rattle.day_report.specs.declared.answer.TextAnswer.{TextAnswer}
 use Rattle.day_report.proofs.TextLaws.{Never, text-fits}
 use Rattle.energy_log.specs.View.{view_of}
 use Rattle.day_report.proofs.DayLaws.{line-past, line-room}
@@ -57,32 +59,55 @@ written-refused s n =
     sym (written-append (written s 0 (ascii "refused ")) 8 (decimal n) (line_feed ∷ []))
     ∙ sym (written-append s 0 (ascii "refused ") (decimal n ++ (line_feed ∷ [])))
 
+-- ---- numbers, for the code that asks whether there was an answer
+
+-- a file that was refused does not have number 0
+pub refused_number : (e : ReadError) → eqb (read_error_number e) 0 ≡ false
+refused_number WrongMark = refl
+refused_number WrongVersion = refl
+refused_number WrongHeader = refl
+refused_number WrongLength = refl
+refused_number WrongCrc = refl
+refused_number WrongCell = refl
+refused_number TooShort = refl
+
+-- nor does a line that was
+pub unput_number : (e : ReportError) → eqb (error_number e) 0 ≡ false
+unput_number report.TooShort = refl
+unput_number report.Unsound = refl
+unput_number report.NotInLog = refl
+
+-- a file that was refused gave no byte of an image
+pub read_or_none : (read : Result ℕ ReadError) → result_unwrap_or read 0 ≡ if_read read 0 (λ n. n)
+read_or_none (Ok n) = refl
+read_or_none (Err e) = refl
+
 -- ---- what a file gives
 
 -- what holds of every refusal but 1, and of what a file with a right header gives by its cells, holds of what it gives
-module _ (P : Outcome ReadAnswer LogAndRows → Type 0) (f out figs : List ℕ) (other : (a : ReadAnswer) → 1 < read_number a → P (outcome a (log_and_rows out figs)))
+module _ (P : Outcome (Result ℕ ReadError) LogAndRows → Type 0) (f out figs : List ℕ) (other : (a : Result ℕ ReadError) → 1 < read_number a → P (outcome a (log_and_rows out figs)))
     (cells : (h : Header) → is_header h ≡ true → P (read_cells f h out figs)) where
   by-fields : P (read_fields f out figs)
   unfolding read_fields
-  by-fields = either P (leb header_size (length f)) (go (file_header f) refl) (other WrongHeader (omega arith))
+  by-fields = either P (leb header_size (length f)) (go (file_header f) refl) (other (Err WrongHeader) (omega arith))
     where
-      go : (a : HeaderAnswer) → file_header f ≡ a
-          → P (if_right a (outcome WrongHeader (log_and_rows out figs)) (λ h.
-          check (eqb (length f) (file_length_as (version_at f) h)) (outcome WrongLength (log_and_rows out figs)) (
-          check (crc_fits f) (outcome WrongCrc (log_and_rows out figs)) (
+      go : (a : Option Header) → file_header f ≡ a
+          → P (if_right a (outcome (Err WrongHeader) (log_and_rows out figs)) (λ h.
+          check (eqb (length f) (file_length_as (version_at f) h)) (outcome (Err WrongLength) (log_and_rows out figs)) (
+          check (crc_fits f) (outcome (Err WrongCrc) (log_and_rows out figs)) (
           read_cells f h out figs))))
-      go Wrong p = other WrongHeader (omega arith)
-      go (Right h) p =
+      go None p = other (Err WrongHeader) (omega arith)
+      go (Some h) p =
           either P (eqb (length f) (file_length_as (version_at f) h))
-          (either P (crc_fits f) (cells h (file-header-right f h p)) (other WrongCrc (omega arith)))
-          (other WrongLength (omega arith))
+          (either P (crc_fits f) (cells h (file-header-right f h p)) (other (Err WrongCrc) (omega arith)))
+          (other (Err WrongLength) (omega arith))
 
   by-file : P (read_file f out figs)
   unfolding read_file
   by-file =
       either P (leb mark_size (length f) && mark_right f)
-      (either P (is_version (version_at f)) by-fields (other WrongVersion (omega arith)))
-      (other WrongMark (omega arith))
+      (either P (is_version (version_at f)) by-fields (other (Err WrongVersion) (omega arith)))
+      (other (Err WrongMark) (omega arith))
 
 room-size : length room ≡ image_most
 unfolding room
@@ -95,7 +120,7 @@ figures-size = length-replicate {A = ℕ} figures_most 0
 -- ---- no file is refused for want of room
 
 -- the answer is not 1
-abbrev Room : Outcome ReadAnswer LogAndRows → Type 0
+abbrev Room : Outcome (Result ℕ ReadError) LogAndRows → Type 0
 Room o = read_number o.result ≡ 1 → ⊥
 
 cells-room : (f : List ℕ) (h : Header) (out figs : List ℕ) → length_of h ≤ length out → figures_of h ≤ length figs → Room (read_cells f h out figs)
@@ -111,7 +136,7 @@ never-short f =
 
 -- ---- as many figures as the longest log has, each of 32 bits
 
-abbrev Kept : Outcome ReadAnswer LogAndRows → Type 0
+abbrev Kept : Outcome (Result ℕ ReadError) LogAndRows → Type 0
 Kept o = (length o.left.figures ≡ figures_most) × Small o.left.figures
 
 small-zeros : (n : ℕ) → Small (replicate n 0)
@@ -144,7 +169,7 @@ module _ (f : List ℕ) (bytes : Bytes f) where
 -- ---- past the last line there is none
 
 -- 63 lines are all that a page has, whatever was read
-pub read_past : (read : ReadAnswer) (given : LogAndRows) (i : ℕ) (out : List ℕ) → lines_most ≤ i → Never 0 (read_line read given i out)
+pub read_past : (read : Result ℕ ReadError) (given : LogAndRows) (i : ℕ) (out : List ℕ) → lines_most ≤ i → Never 0 (read_line read given i out)
 unfolding read_line report_line refused_line
 read_past read given i out l =
     let behind : eqb i 0 ≡ false = ne_eqb i 0 (λ e. omega (arith, e)) in
@@ -152,12 +177,12 @@ read_past read given i out l =
     (rw behind (line-past (image_in read given.log) given.figures (i - 1) out (omega arith))) (rw behind (λ e. omega (arith, e)))
 
 -- 62 strips are all that there are
-pub strips-past : (read : ReadAnswer) (log : List ℕ) (d : ℕ) (out : List ℕ) → days_most ≤ d → Never 0 (read_strip read log d out)
+pub strips-past : (read : Result ℕ ReadError) (log : List ℕ) (d : ℕ) (out : List ℕ) → days_most ≤ d → Never 0 (read_strip read log d out)
 unfolding read_strip
 strips-past read log d out l = strip-past (image_in read log) d out l
 
 -- so a line that was put is below that
-below : (i most : ℕ) (o : Outcome TextAnswer (List ℕ)) → (most ≤ i → Never 0 o) → text_number o.result ≡ 0 → i < most
+below : (i most : ℕ) (o : Outcome (Result ℕ ReportError) (List ℕ)) → (most ≤ i → Never 0 o) → text_number o.result ≡ 0 → i < most
 below i most o past e = go (ltb i most) refl
   where
     go : (b : Bool) → ltb i most ≡ b → i < most
@@ -165,29 +190,29 @@ below i most o past e = go (ltb i most) refl
     go false f = absurd (past (ltb-false i most f) e)
 
 -- for the number of the line behind one that was put
-pub line-below : (read : ReadAnswer) (given : LogAndRows) (i : ℕ) (out : List ℕ) → text_number (read_line read given i out).result ≡ 0 → i < lines_most
+pub line-below : (read : Result ℕ ReadError) (given : LogAndRows) (i : ℕ) (out : List ℕ) → text_number (read_line read given i out).result ≡ 0 → i < lines_most
 line-below read given i out = below i lines_most (read_line read given i out) (read_past read given i out)
 
 -- and of the strip behind one
-pub strip-below : (read : ReadAnswer) (log : List ℕ) (d : ℕ) (out : List ℕ) → text_number (read_strip read log d out).result ≡ 0 → d < lines_most
+pub strip-below : (read : Result ℕ ReadError) (log : List ℕ) (d : ℕ) (out : List ℕ) → text_number (read_strip read log d out).result ≡ 0 → d < lines_most
 strip-below read log d out e = omega (arith, below d days_most (read_strip read log d out) (strips-past read log d out) e)
 
 -- ---- a line of what was read of a file is that line of the file's page
 
 -- for the program, which reads its file once
-pub line-of-file : (f : List ℕ) (read : ReadAnswer) (given : LogAndRows) (i : ℕ) (out : List ℕ) → ReadOf f read given
+pub line-of-file : (f : List ℕ) (read : Result ℕ ReadError) (given : LogAndRows) (i : ℕ) (out : List ℕ) → ReadOf f read given
     → read_line read given i out ≡ page_line f i out
 unfolding page_line
-line-of-file f read given i out e = ap (λ (o : Outcome ReadAnswer LogAndRows). read_line o.result o.left i out) e
+line-of-file f read given i out e = ap (λ (o : Outcome (Result ℕ ReadError) LogAndRows). read_line o.result o.left i out) e
 
 -- and for its strips
-pub strip-of-file : (f : List ℕ) (read : ReadAnswer) (given : LogAndRows) (d : ℕ) (out : List ℕ) → ReadOf f read given
+pub strip-of-file : (f : List ℕ) (read : Result ℕ ReadError) (given : LogAndRows) (d : ℕ) (out : List ℕ) → ReadOf f read given
     → read_strip read given.log d out ≡ strip_line f d out
 unfolding strip_line
-strip-of-file f read given d out e = ap (λ (o : Outcome ReadAnswer LogAndRows). read_strip o.result o.left.log d out) e
+strip-of-file f read given d out e = ap (λ (o : Outcome (Result ℕ ReadError) LogAndRows). read_strip o.result o.left.log d out) e
 
 -- a page stays that of what was read
-after_read : (p : Page) (a : TextAnswer) → (page_after a p).read ≡ p.read
+after_read : (p : Page) (a : Result ℕ ReportError) → (page_after a p).read ≡ p.read
 unfolding page_after
 after_read p a = either (λ (q : Page). q.read ≡ p.read) (eqb (text_number a) 0) refl refl
 
@@ -219,15 +244,15 @@ length-heading : length heading_text ≡ 44
 unfolding heading_text ascii
 length-heading = refl
 
-number-most : (a : ReadAnswer) → read_number a ≤ 35
-number-most (Done n) = omega arith
-number-most WrongMark = omega arith
-number-most WrongVersion = omega arith
-number-most WrongHeader = omega arith
-number-most WrongLength = omega arith
-number-most WrongCrc = omega arith
-number-most WrongCell = omega arith
-number-most TooShort = omega arith
+number-most : (a : Result ℕ ReadError) → read_number a ≤ 35
+number-most (Ok n) = omega arith
+number-most (Err WrongMark) = omega arith
+number-most (Err WrongVersion) = omega arith
+number-most (Err WrongHeader) = omega arith
+number-most (Err WrongLength) = omega arith
+number-most (Err WrongCrc) = omega arith
+number-most (Err WrongCell) = omega arith
+number-most (Err TooShort) = omega arith
 
 -- no line of a page is refused for want of room
 pub page-room : (f : List ℕ) (i : ℕ) (out : List ℕ) → Bytes f → line_most ≤ length out → Never 1 (page_line f i out)

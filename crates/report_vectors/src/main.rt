@@ -8,7 +8,7 @@
 
 ghost use Rattle.std.specs.Prelude.{◌≡◌, take};
 
-use day_report::{LINE_MOST, STRIP_MOST, TextAnswer};
+use day_report::{LINE_MOST, ReportError, STRIP_MOST};
 use day_rows::FIGURES_MOST;
 use log_header::IMAGE_MOST;
 use report_page::Page;
@@ -142,21 +142,19 @@ fn lines(rt: HostRuntime, first: Page, room: &[u8], figures: &[u32]) {
 fn line(rt: HostRuntime, page: Page, room: &[u8], figures: &[u32]) -> Page {
     let mut text = [0u8; LINE_MOST];
     let next = report_page::put_next_line(page, room, figures, &mut text);
-    let answer = next.answer;
-    put(rt, answer, &text);
+    put(rt, next.answer, &text);
     next.after
 }
 
 fn strip(rt: HostRuntime, first: Page, room: &[u8]) {
     let mut text = [0u8; STRIP_MOST];
     let next = report_page::put_next_strip(first, room, &mut text);
-    let answer = next.answer;
-    put(rt, answer, &text);
+    put(rt, next.answer, &text);
 }
 
 // A line that there is.
-fn put(rt: HostRuntime, answer: TextAnswer, text: &[u8]) {
-    if let TextAnswer::Done(n) = answer {
+fn put(rt: HostRuntime, answer: Result<usize, ReportError>, text: &[u8]) {
+    if let Ok(n) = answer {
         say(rt, front(text, n));
     }
 }
@@ -165,10 +163,7 @@ fn put(rt: HostRuntime, answer: TextAnswer, text: &[u8]) {
 fn front(bytes: &[u8], n: usize) -> &[u8]
     ensures { result.now ≡ take n bytes.now }
 {
-    if n < bytes.len() {
-        return &bytes[..n];
-    }
-    bytes
+    &bytes[..n.min(bytes.len())]
 }
 
 fn say(rt: HostRuntime, bytes: &[u8]) {

@@ -1,4 +1,6 @@
 -- Laws of requests and what they ask for.
+use Rattle.std.specs.Prelude.{None, Option, Some}
+use Rattle.request.specs.Subject.{subject_with}
 use mathlib.Core.Path.{◌≡◌, refl}
 use mathlib.Core.Bool.{Bool, true, false, ◌&&◌, false≢true}
 use Prim.Native.Nat.{ℕ, ◌-◌, ◌≤◌}
@@ -16,7 +18,6 @@ use Rattle.parameters.specs.declared.table.Fields.TheVariants.{Unused, Phase, Sl
 use Rattle.request.specs.Subject.{key_of, fields_fit, subject_for, subject_of, most_slots, askable, data_bytes}
 use Rattle.request.specs.declared.request.Request.{Request}
 use Rattle.request.specs.declared.subject.Subject.{Subject}
-use Rattle.request.specs.declared.subject.Subject.TheVariants.{Figures, Nothing}
 
 -- ---- what a request that asks for something asks for
 
@@ -24,7 +25,7 @@ use Rattle.request.specs.declared.subject.Subject.TheVariants.{Figures, Nothing}
 pub record Asked (p : Parameter) (q : Request) (slots : ℕ) : Type 0 where
   pub open-to : opens_to q.reading (parameter_row p) ≡ true
   pub fits : fields_fit (parameter_row p).fields q slots ≡ true
-  pub subject : subject_for p q slots ≡ Figures q.reading p q.detail
+  pub subject : subject_for p q slots ≡ subject_with q.reading p q.detail
 
 -- all of this holds of a request that asks for something
 pub asked : (p : Parameter) (q : Request) (slots : ℕ) → askable (subject_for p q slots) ≡ true → Asked p q slots
@@ -62,6 +63,6 @@ subject-wider q slots h e =
 -- ---- data bytes
 
 -- a reply to any request has at most 48 bytes of data, so its length is small enough to compute
-pub data_bytes-small : (s : Subject) → data_bytes s ≤ 48
-data_bytes-small (Figures reading p detail) = reply-small reading p detail
-data_bytes-small Nothing = lit≤ tt
+pub data_bytes-small : (s : Option Subject) → data_bytes s ≤ 48
+data_bytes-small (Some asked) = reply-small asked.reading asked.parameter asked.detail
+data_bytes-small None = lit≤ tt

@@ -1,15 +1,15 @@
 -- What a read request asks for. Source: document 01, "Frames": "Read: function 3, then parameter, offset, tariff, detail: 8 bytes in
 -- all. Unused fields are 0", and the bullets of the parameters.
-use Rattle.std.specs.Prelude.{Bool, true, false, cond, ◌&&◌, ℕ, ◌-◌, eqb, leb}
+use Rattle.std.specs.Prelude.{None, Option, Some, Bool, true, false, cond, ◌&&◌, ℕ, ◌-◌, eqb, leb}
 use Rattle.slots.specs.Key.{is_legal}
 use Rattle.slots.specs.declared.key.Key.{Key}
 use Rattle.parameters.specs.Table.{parameter_row, opens_to, parameter_of, reply_bytes}
+use Rattle.parameters.specs.declared.code.Reading.{Reading}
 use Rattle.parameters.specs.declared.code.Parameter.{Parameter}
 use Rattle.parameters.specs.declared.table.Fields.{Fields}
 use Rattle.parameters.specs.declared.table.Fields.TheVariants.{Unused, Phase, Slot, SixSlots}
 use Rattle.request.specs.declared.request.Request.{Request}
 use Rattle.request.specs.declared.subject.Subject.{Subject}
-use Rattle.request.specs.declared.subject.Subject.TheVariants.{Figures, Nothing}
 
 -- ---- the three fields
 
@@ -34,13 +34,17 @@ fields_fit SixSlots q slots = is_legal (key_of q) (slots - 5)
 
 -- ---- what is asked for
 
+-- the figures of a parameter, as stored or as displayed, by the detail
+abbrev pub subject_with : Reading → Parameter → ℕ → Option Subject
+subject_with reading parameter detail = Some (record { reading = reading; parameter = parameter; detail = detail })
+
 -- by the parameter that is read: figures as they are stored, with function 3, or as they are displayed, with 4 (document 02, request 3)
-unfoldable pub subject_for : Parameter → Request → ℕ → Subject
+unfoldable pub subject_for : Parameter → Request → ℕ → Option Subject
 subject_for p q slots =
-    cond (opens_to q.reading (parameter_row p) && fields_fit (parameter_row p).fields q slots) (Figures q.reading p q.detail) Nothing
+    cond (opens_to q.reading (parameter_row p) && fields_fit (parameter_row p).fields q slots) (subject_with q.reading p q.detail) None
 
 -- what a request asks of a meter whose day has so many slots; nothing, where it would not answer with 0
-unfoldable pub subject_of : Request → ℕ → Subject
+unfoldable pub subject_of : Request → ℕ → Option Subject
 unfolding subject_for
 subject_of q slots = subject_for (parameter_of q.parameter) q slots
 
@@ -50,11 +54,11 @@ abbrev pub most_slots : ℕ
 most_slots = 96
 
 -- whether it asks for something
-abbrev pub askable : Subject → Bool
-askable (Figures reading p detail) = true
-askable Nothing = false
+abbrev pub askable : Option Subject → Bool
+askable (Some asked) = true
+askable None = false
 
 -- how many data bytes its answer has
-abbrev pub data_bytes : Subject → ℕ
-data_bytes (Figures reading p detail) = reply_bytes reading p detail
-data_bytes Nothing = 0
+abbrev pub data_bytes : Option Subject → ℕ
+data_bytes (Some asked) = reply_bytes asked.reading asked.parameter asked.detail
+data_bytes None = 0

@@ -4,5 +4,5 @@
 mod request;
 mod subject;
 
-pub use request::{Request, RequestAnswer, put_request};
+pub use request::{Request, RequestError, put_request};
 pub use subject::{MOST_SLOTS, Subject, data_bytes, fields_fit, is_askable, key_of, subject_of};

@@ -1,14 +1,14 @@
 // Read requests and their frames.
 ghost use Rattle.std.specs.Prelude.{◌≡◌};
 ghost use Rattle.refusal.specs.Outcome.{outcome};
-ghost use Rattle.request.specs.Request.{requested, number_of};
+ghost use Rattle.request.specs.Request.{requested, error_number};
 
 use crate::subject::{MOST_SLOTS, is_askable, subject_of};
 use frame::layout::{CRC_BYTES, READ_BYTES};
-use parameters::code;
 use parameters::code::Reading;
+use refusal::Numbered;
 
-#[derive(Clone, Copy)]
+#[derive(Clone, Copy, PartialEq, Eq)]
 pub struct Request {
     // Its function.
     pub reading: Reading,
@@ -19,22 +19,20 @@ pub struct Request {
     pub detail: u8,
 }
 
-#[derive(Clone, Copy)]
-pub enum RequestAnswer {
-    Done,
+#[derive(Clone, Copy, PartialEq, Eq)]
+pub enum RequestError {
     TooShort,
     OutOfRange,
 }
 
-impl RequestAnswer {
+impl Numbered for RequestError {
     // Document 01's number.
-    pub fn number(self) -> u8
-        ensures { result ≡ number_of self }
-    {
+    ghost number_of = { error_number };
+
+    fn number(&self) -> u8 {
         match self {
-            RequestAnswer::Done => refusal::DONE,
-            RequestAnswer::TooShort => refusal::TOO_SHORT,
-            RequestAnswer::OutOfRange => refusal::OUT_OF_RANGE,
+            RequestError::TooShort => refusal::TOO_SHORT,
+            RequestError::OutOfRange => refusal::OUT_OF_RANGE,
         }
     }
 }
@@ -43,26 +41,25 @@ impl RequestAnswer {
 const BODY_BYTES: usize = READ_BYTES - CRC_BYTES;
 
 // Puts a request's frame to the front of a lent output.
-pub fn put_request(q: Request, out: &mut [u8]) -> RequestAnswer
+#[tactic(auto, unfolding(crate::specs::Request::requested))]
+pub fn put_request(q: Request, out: &mut [u8]) -> Result<(), RequestError>
     ensures { outcome result out.new ≡ requested q out.old }
 {
     if out.len() < READ_BYTES {
-        return RequestAnswer::TooShort;
+        return Err(RequestError::TooShort);
     }
-    if is_askable(subject_of(q, MOST_SLOTS)) {
-        let reading = q.reading;
-        let body = [
-            q.address,
-            code::reading_code(reading),
-            q.parameter,
-            q.offset,
-            q.tariff,
-            q.detail,
-        ];
-        byte_numbers::put_bytes(out, 0, &body);
-        frame::seal(out, BODY_BYTES);
-        RequestAnswer::Done
-    } else {
-        RequestAnswer::OutOfRange
+    if !is_askable(subject_of(q, MOST_SLOTS)) {
+        return Err(RequestError::OutOfRange);
     }
+    let body = [
+        q.address,
+        u8::from(q.reading),
+        q.parameter,
+        q.offset,
+        q.tariff,
+        q.detail,
+    ];
+    byte_numbers::put_bytes(out, 0, &body);
+    frame::seal(out, BODY_BYTES);
+    Ok(())
 }

@@ -8,12 +8,12 @@ use parameters::table;
 use parameters::table::Fields;
 use slots::Key;
 
-// What a request asks for; nothing, where the meter would not answer it with 0.
-#[derive(Clone, Copy)]
-pub enum Subject {
-    // The figures of a parameter, as stored or as displayed, by the detail.
-    Figures(Reading, Parameter, u8),
-    Nothing,
+// What a request asks for: the figures of a parameter, as stored or as displayed, by the detail.
+#[derive(Clone, Copy, PartialEq, Eq)]
+pub struct Subject {
+    pub reading: Reading,
+    pub parameter: Parameter,
+    pub detail: u8,
 }
 
 // The slots of a day of 15-minute slices: it has every number that a day of 30-minute ones has.
@@ -23,20 +23,22 @@ const PHASES: u8 = 3;
 // Six slices are the named one and so many after it.
 const AFTER: u8 = 5;
 
-// What a request asks of a meter whose day has so many slots.
-pub fn subject_of(q: Request, slots: u8) -> Subject
+// What a request asks of a meter whose day has so many slots; nothing, where the meter would not answer it with 0.
+#[tactic(auto, unfolding(crate::specs::Subject::subject_of, crate::specs::Subject::subject_for))]
+pub fn subject_of(q: Request, slots: u8) -> Option<Subject>
     ensures { result ≡ subject_of q slots }
 {
-    let p = table::parameter_of(q.parameter);
+    let p = Parameter::from(q.parameter);
     let row = table::parameter_row(p);
-    let fields = row.fields;
-    let reading = q.reading;
-    if table::opens_to(reading, row) {
-        if fields_fit(fields, q, slots) {
-            return Subject::Figures(reading, p, q.detail);
-        }
+    if table::opens_to(q.reading, row) && fields_fit(row.fields, q, slots) {
+        Some(Subject {
+            reading: q.reading,
+            parameter: p,
+            detail: q.detail,
+        })
+    } else {
+        None
     }
-    Subject::Nothing
 }
 
 // Whether offset, tariff and detail are such as a read of the parameter has.
@@ -51,29 +53,19 @@ pub fn fields_fit(fields: Fields, q: Request, slots: u8) -> bool
     }
 }
 
+#[tactic(auto, unfolding(crate::specs::Subject::unused))]
 fn are_unused(q: Request) -> bool
     ensures { result ≡ unused q }
 {
-    if q.offset != 0 {
-        return false;
-    }
-    if q.tariff != 0 {
-        return false;
-    }
-    q.detail == 0
+    q.offset == 0 && q.tariff == 0 && q.detail == 0
 }
 
 // The detail names all phases and their total, or one phase.
+#[tactic(auto, unfolding(crate::specs::Subject::is_phase))]
 fn is_phase(q: Request) -> bool
     ensures { result ≡ is_phase q }
 {
-    if q.offset != 0 {
-        return false;
-    }
-    if q.tariff != 0 {
-        return false;
-    }
-    q.detail <= PHASES
+    q.offset == 0 && q.tariff == 0 && q.detail <= PHASES
 }
 
 // The key of a slice: month, day and number stand in place of offset, tariff and detail.
@@ -91,28 +83,22 @@ pub fn key_of(q: Request) -> Key
 fn with_five_after(slots: u8) -> u8
     ensures { result ≡ slots - 5 }
 {
-    if slots < AFTER {
-        return 0;
-    }
-    slots - AFTER
+    slots.saturating_sub(AFTER)
 }
 
 // Whether the meter could answer it with 0.
-pub fn is_askable(subject: Subject) -> bool
+pub fn is_askable(subject: Option<Subject>) -> bool
     ensures { result ≡ askable subject }
 {
-    match subject {
-        Subject::Figures(_, _, _) => true,
-        Subject::Nothing => false,
-    }
+    subject.is_some()
 }
 
 // How many data bytes the answer has.
-pub fn data_bytes(subject: Subject) -> usize
+pub fn data_bytes(subject: Option<Subject>) -> usize
     ensures { result ≡ data_bytes subject }
 {
     match subject {
-        Subject::Figures(reading, p, detail) => table::reply_bytes(reading, p, detail),
-        Subject::Nothing => 0,
+        Some(asked) => table::reply_bytes(asked.reading, asked.parameter, asked.detail),
+        None => 0,
     }
 }

@@ -1,5 +1,6 @@
 -- What follows from the definitions of specs/Night.antt: which dates have the night of March, how far two of them lie apart, and which slots begin
 -- in the hour.
+use Rattle.std.specs.Prelude.{Err, Ok}
 use Prim.Native.Nat.{ℕ, ◌+◌, ◌*◌, ◌≤◌, ◌<◌}
 use native.Mathlib.Omega.{arith}
 use mathlib.Core.Path.{◌≡◌, refl, sym, ◌∙◌}
@@ -13,7 +14,7 @@ use Rattle.calendar.proofs.CountLaws.{ends-before}
 use Rattle.calendar.proofs.DateLaws.{Month, month-length, length-range, ranges, date-lies}
 use Rattle.calendar.proofs.SundayLaws.{last-sunday}
 use Rattle.calendar.specs.declared.date.Date.{Date}
-use Rattle.calendar.specs.declared.date.DateAnswer.TheVariants.{On, NotADate}
+use Rattle.calendar.specs.declared.date.DateError.TheVariants.{NotADate}
 use Rattle.slots.specs.Day.{is_minutes, slots_of}
 use Rattle.season_nights.specs.Night.{is_day, night_of, in_hour, is_spring}
 use Rattle.season_nights.specs.Run.{hour_of}
@@ -66,7 +67,7 @@ module _ (m : ℕ) (from : 3 ≤ m) (to : m ≤ 12) where
   unfolding last_sunday_of is_day
   told d e = go (ltb d.year 100) refl e
     where
-      go : (b : Bool) → ltb d.year 100 ≡ b → is_day (cond b (On (sunday d.year m)) NotADate) d ≡ true → IsLast m d
+      go : (b : Bool) → ltb d.year 100 ≡ b → is_day (cond b (Ok (sunday d.year m)) (Err NotADate)) d ≡ true → IsLast m d
       go true p q =
           let w = both _ _ q in
           let b : m ≡ d.month = eqb-true _ _ w.0 in

@@ -1,4 +1,6 @@
 -- What follows from the definitions of specs/Run.antt: the run is what is missing of a log, all of it and nothing else, and lies within the log.
+use Rattle.std.specs.Option.{SomeIff}
+use Rattle.std.specs.Prelude.{Err, None, Ok, Option, Some}
 use Prim.Native.Nat.{ℕ, ◌+◌, ◌*◌, ◌-◌, ◌/◌, ◌%◌, ◌≤◌, ◌<◌}
 use native.Mathlib.Omega.{arith}
 use native.Mathlib.Nat.{suc-mul, mul-le-mul_right, mod-lt, div-add-mod', div-mul-le_self}
@@ -13,44 +15,34 @@ use Rattle.calendar.specs.Sunday.{last_sunday, last_sunday_of}
 use Rattle.calendar.proofs.CountLaws.{starts-mono, ends-before}
 use Rattle.calendar.proofs.DateLaws.{month-length, length-of-month, month-carried, ranges, DateIs, same_number, days-later}
 use Rattle.calendar.specs.declared.date.Date.{Date}
-use Rattle.calendar.specs.declared.date.DateAnswer.TheVariants.{On, NotADate, OutOfRange}
+use Rattle.calendar.specs.declared.date.DateError.TheVariants.{NotADate}
 use Rattle.slots.specs.Day.{is_minutes, slots_of}
 use Rattle.season_nights.specs.Night.{night_of, in_hour, is_spring, missing}
 use Rattle.season_nights.specs.Run.{spring_day, spring_ahead, hour_of, no_run, run_at, missing_run, in_run}
 use Rattle.season_nights.proofs.NightLaws.{leb-alike, ltb-alike, sunday, IsLast, sunday-last, late, years-ordered, years-apart, spring-told, spring-is, whole-hours, hour-slots}
 use Rattle.season_nights.specs.declared.run.Run.{Run}
-use Rattle.season_nights.specs.declared.run.Ahead.{Ahead}
-use Rattle.season_nights.specs.declared.run.Ahead.TheVariants.{In, Past}
 
 -- ---- The days to the March day
 
 -- the calendar has one for every date's year
-has-sunday : (d : Date) → is_date d ≡ true → last_sunday_of d.year 3 ≡ On (sunday d.year 3)
+pub has-sunday : (d : Date) → is_date d ≡ true → last_sunday_of d.year 3 ≡ Ok (sunday d.year 3)
 unfolding last_sunday_of
 has-sunday d e = rw (lt-ltb _ _ (ranges d e).year-below)
 
 -- `to_sunday`: the calendar's answer is that day
-pub sunday-day : (d e : Date) → is_date d ≡ true → last_sunday_of d.year 3 ≡ On e → e.day ≡ last_sunday d.year 3
+pub sunday-day : (d e : Date) → is_date d ≡ true → last_sunday_of d.year 3 ≡ Ok e → e.day ≡ last_sunday d.year 3
 sunday-day d e v p =
     let q = sym p ∙ has-sunday d v in
     let r : e ≡ sunday d.year 3 = cc q in
     ap (λ (x : Date). x.day) r
 
--- and its other answers do not come
-pub sunday-there : (d : Date) → is_date d ≡ true → (last_sunday_of d.year 3 ≡ NotADate → ⊥) × (last_sunday_of d.year 3 ≡ OutOfRange → ⊥)
-sunday-there d v =
-    let h = has-sunday d v in (
-      λ p. let q = sym p ∙ h in let z : ◌≡◌ {A = ℕ} 0 1 = cc q in omega arith,
-      λ p. let q = sym p ∙ h in let z : ◌≡◌ {A = ℕ} 0 1 = cc q in omega arith,
-    )
-
 -- the March day of the year is still to come
-pub ahead_in : (d : Date) → is_date d ≡ true → day_number d ≤ spring_day d.year → spring_ahead d ≡ In (spring_day d.year - day_number d)
+pub ahead_in : (d : Date) → is_date d ≡ true → day_number d ≤ spring_day d.year → spring_ahead d ≡ Some (spring_day d.year - day_number d)
 unfolding spring_ahead
 ahead_in d e h = rw (e, le-leb _ _ h)
 
 -- or is past, and the next year's is too far for a log
-pub ahead_past : (d : Date) → spring_day d.year < day_number d → spring_ahead d ≡ Past
+pub ahead_past : (d : Date) → spring_day d.year < day_number d → spring_ahead d ≡ None
 unfolding spring_ahead
 ahead_past d h = rw (lt-leb _ _ h, and-false)
 
@@ -99,21 +91,30 @@ module _ (d : Date) (r : ℕ) (e : is_date d ≡ true) (b : days_before (month_n
       omega (arith, b, from-january y, january, february, starts-mono length_of (12 * y + 0) (month_number d) (omega arith))
 
   -- the arm of `to_day` for a day before the last Sunday
-  pub sunday-ahead : d.day ≤ r + last_sunday d.year 3 → spring_ahead d ≡ In (r + last_sunday d.year 3 - d.day)
+  pub sunday-ahead : d.day ≤ r + last_sunday d.year 3 → spring_ahead d ≡ Some (r + last_sunday d.year 3 - d.day)
   unfolding day_number
   sunday-ahead h =
       let i = ranges d e in
       let s = of-march d.year i.year-below in
       let n : spring_day d.year - day_number d ≡ r + last_sunday d.year 3 - d.day = omega (arith, b, i.day-from, s.from) in
-      ahead_in d e (omega (arith, b, i.day-from, s.from)) ∙ ap In n
+      ahead_in d e (omega (arith, b, i.day-from, s.from)) ∙ ap Some n
 
   -- its arm for one behind it
-  pub sunday-past : r + last_sunday d.year 3 < d.day → spring_ahead d ≡ Past
+  pub sunday-past : r + last_sunday d.year 3 < d.day → spring_ahead d ≡ None
   unfolding day_number
   sunday-past h = ahead_past d (omega (arith, b, (ranges d e).day-from, (of-march d.year (ranges d e).year-below).from))
 
+  -- `to_day` subtracts the day where it can
+  pub sunday-told : (s : ℕ) → s ≡ last_sunday d.year 3 → (o : Option ℕ) → SomeIff o (d.day ≤ r + s) (r + s - d.day) → o ≡ spring_ahead d
+  sunday-told s q (Some x) h = ap Some (omega (arith, h.1)) ∙ sym (sunday-ahead (omega (arith, h.0)))
+  sunday-told s q None h = sym (sunday-past (go (leb d.day (r + s)) refl))
+    where
+      go : (a : Bool) → leb d.day (r + s) ≡ a → r + last_sunday d.year 3 < d.day
+      go true p = absurd (h (leb-true _ _ p))
+      go false p = omega (arith, leb-false _ _ p)
+
 -- after March it has passed
-pub later-month : (d : Date) → is_date d ≡ true → 3 < d.month → spring_ahead d ≡ Past
+pub later-month : (d : Date) → is_date d ≡ true → 3 < d.month → spring_ahead d ≡ None
 unfolding day_number
 later-month d e h =
     let i = ranges d e in
@@ -128,13 +129,6 @@ later-month d e h =
 pub in-none : (cell : ℕ) → in_run no_run cell ≡ false
 unfolding in_run
 in-none cell = rw (le-ltb cell (0 + 0) (omega arith), and-false)
-
--- counted from the run's first cell
-pub counted : (r : Run) (cell : ℕ) → r.first ≤ cell → ltb (cell - r.first) r.count ≡ in_run r cell
-unfolding in_run
-counted r cell h =
-    rw (le-leb _ _ h)
-    (ltb-alike (cell - r.first) r.count cell (r.first + r.count) (λ p. omega arith) (λ p. omega arith))
 
 -- the hour of a day that begins at cell b
 abbrev hour_from : ℕ → ℕ → Run
@@ -172,7 +166,7 @@ other-day k m day s z h = go (ltb k day) refl
         let after : day < k = omega (arith, ltb-false k day p, z) in
         not-before (k * slots_of m) (hour_of m) (day * slots_of m + s) (digits_lt after h)
 
-other-run : (k days m day s : ℕ) → (k ≡ day → ⊥) → s < slots_of m → in_run (run_at (In k) days m) (day * slots_of m + s) ≡ false
+other-run : (k days m day s : ℕ) → (k ≡ day → ⊥) → s < slots_of m → in_run (run_at (Some k) days m) (day * slots_of m + s) ≡ false
 unfolding run_at
 other-run k days m day s z h = go (ltb k days)
   where
@@ -192,10 +186,10 @@ slot-minutes m s h = go (is_minutes m) h
 -- ---- The run is what is missing
 
 -- the date of a log's day, fewer than 62 days after the start
-module _ (start : Date) (day : ℕ) (d : Date) (e : days_later start day ≡ On d) where
+module _ (start : Date) (day : ℕ) (d : Date) (e : days_later start day ≡ Ok d) where
   started : is_date start ≡ true
   unfolding days_later
-  started = (chosen (is_date start) (date_on (day_number start + day)) NotADate e (λ p. let z : ◌≡◌ {A = ℕ} 0 1 = cc in omega arith)).0
+  started = (chosen (is_date start) (date_on (day_number start + day)) (Err NotADate) e (λ p. let z : ◌≡◌ {A = ℕ} 0 1 = cc in omega arith)).0
 
   on-day : DateIs (day_number start + day) d
   on-day = days-later start day d e
@@ -229,7 +223,7 @@ module _ (start : Date) (day : ℕ) (d : Date) (e : days_later start day ≡ On 
       go false p = p
 
 -- of a log of at most 62 days, a day's slot is missing exactly where its cell is one of the run's
-pub run-is-missing : (start : Date) (days minutes day slot : ℕ) (d : Date) → days ≤ 62 → day < days → slot < slots_of minutes → days_later start day ≡ On d
+pub run-is-missing : (start : Date) (days minutes day slot : ℕ) (d : Date) → days ≤ 62 → day < days → slot < slots_of minutes → days_later start day ≡ Ok d
     → missing (night_of d) minutes slot ≡ in_run (missing_run start days minutes) (day * slots_of minutes + slot)
 unfolding missing missing_run run_at
 run-is-missing start days minutes day slot d most h s e = go (eqb (day_number start + day) (spring_day start.year)) refl
@@ -274,7 +268,7 @@ run-at-cell start days minutes cell v most ends h = go (ltb 0 n) refl (ltb day d
         → missing (night_of (date_of (day_number start + day))) minutes (cell % n) ≡ in_run (missing_run start days minutes) cell
     go true p true q =
         let d = ltb-true day days q in
-        let e : days_later start day ≡ On (date_of (day_number start + day)) = rw (v, lt-ltb (day_number start + day) century_days (omega arith)) in
+        let e : days_later start day ≡ Ok (date_of (day_number start + day)) = rw (v, lt-ltb (day_number start + day) century_days (omega arith)) in
         run-is-missing start days minutes day (cell % n) (date_of (day_number start + day)) most d (mod-lt cell (ltb-true 0 n p)) e
         ∙ ap (in_run (missing_run start days minutes)) (div-add-mod' cell n)
     go true p false q = absurd (omega (arith, h, mul-le-mul_right n (ltb-false day days q), div-mul-le_self cell n))
@@ -292,6 +286,6 @@ run-in-log start days minutes = go (spring_ahead start)
     below k true p = omega (arith, next_row k days (slots_of minutes) (ltb-true k days p), whole-hours minutes)
     below k false p = omega arith
 
-    go : (a : Ahead) → (run_at a days minutes).first + (run_at a days minutes).count ≤ days * slots_of minutes
-    go (In k) = below k (ltb k days) refl
-    go Past = omega arith
+    go : (a : Option ℕ) → (run_at a days minutes).first + (run_at a days minutes).count ≤ days * slots_of minutes
+    go (Some k) = below k (ltb k days) refl
+    go None = omega arith

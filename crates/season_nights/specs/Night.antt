@@ -1,18 +1,16 @@
 -- The nights on which the clock is moved. Source: document 02, CR 5: "Where seasons are followed, the March day has no time between 02:00 and
 -- 03:00 .. The October day has that hour twice"; document 01, "Seasons": the days are the last Sundays of March and of October.
-use Rattle.std.specs.Prelude.{ℕ, ◌*◌, Bool, true, false, cond, ◌&&◌, eqb, leb, ltb}
+use Rattle.calendar.specs.declared.date.DateError.{DateError}
+use Rattle.std.specs.Prelude.{ℕ, ◌*◌, Bool, true, false, cond, ◌&&◌, eqb, leb, ltb, Err, Ok, Result}
 use Rattle.calendar.specs.Sunday.{last_sunday_of}
 use Rattle.calendar.specs.declared.date.Date.{Date}
-use Rattle.calendar.specs.declared.date.DateAnswer.{DateAnswer}
-use Rattle.calendar.specs.declared.date.DateAnswer.TheVariants as date
 use Rattle.season_nights.specs.declared.night.Night.{Night}
 use Rattle.season_nights.specs.declared.night.Night.TheVariants.{Plain, Spring, Autumn}
 
 -- whether the calendar's answer for a date's own year is that date: its month and its day
-unfoldable pub is_day : DateAnswer → Date → Bool
-is_day (date.On a) d = eqb a.month d.month && eqb a.day d.day
-is_day date.NotADate d = false
-is_day date.OutOfRange d = false
+unfoldable pub is_day : Result Date DateError → Date → Bool
+is_day (Ok a) d = eqb a.month d.month && eqb a.day d.day
+is_day (Err e) d = false
 
 -- "the March day", "the October day": the last Sundays of the date's own year; what is no date is neither
 unfoldable pub night_of : Date → Night

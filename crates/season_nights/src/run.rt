@@ -3,25 +3,15 @@ ghost use Rattle.std.specs.Prelude.{◌≡◌, true, ◌+◌, ◌*◌, ◌-◌, 
 ghost use Rattle.calendar.specs.Date.{is_date, days_before};
 ghost use Rattle.calendar.specs.Sunday.{last_sunday};
 ghost use Rattle.season_nights.specs.Run.{spring_ahead, run_at, missing_run, in_run};
-ghost use Rattle.season_nights.specs.declared.run.Ahead.TheVariants.{In};
 
 // Cells by their index, `count` of them from `first` on; none where `count` is 0.
-#[derive(Clone, Copy)]
+#[derive(Clone, Copy, PartialEq, Eq)]
 pub struct Run {
     pub first: usize,
     pub count: usize,
 }
 
-// When the March day of a date's own year comes.
-#[derive(Clone, Copy)]
-enum Ahead {
-    // So many days after the date.
-    In(u8),
-    // It was before, or what was handed in is no date.
-    Past,
-}
-
-const HOURS_A_DAY: u8 = 24;
+const HOURS_A_DAY: usize = 24;
 
 // The hours of the day before the one that is left out.
 const HOURS_BEFORE: usize = 2;
@@ -34,80 +24,61 @@ const MARCH: u8 = 3;
 
 // Which cells of a log do not exist, where its cells stand in time order from the first slot of the start on. A log of more than 62 days,
 // which there is not, may have others in a later year.
+#[tactic(auto, unfolding(crate::specs::Run::missing_run))]
 pub fn missing_run(start: calendar::Date, days: u8, minutes: u8) -> Run
     ensures { result ≡ missing_run start days minutes }
 {
     run_at(spring_ahead(start), days, minutes)
 }
 
+#[tactic(auto, unfolding(crate::specs::Run::in_run))]
 pub fn in_run(run: Run, cell: usize) -> bool
     ensures { result ≡ in_run run cell }
 {
-    if cell < run.first {
-        return false;
-    }
-    cell - run.first < run.count
+    run.first <= cell && cell - run.first < run.count
 }
 
 // The cells of the hour on the day that is so many days ahead, if the log has that day.
-fn run_at(ahead: Ahead, days: u8, minutes: u8) -> Run
+#[tactic(auto, unfolding(crate::specs::Run::run_at))]
+fn run_at(ahead: Option<u8>, days: u8, minutes: u8) -> Run
     ensures { result ≡ run_at ahead days minutes }
 {
     match ahead {
-        Ahead::In(day) => run_on(day, days, minutes),
-        Ahead::Past => Run { first: 0, count: 0 },
+        Some(day) if day < days => {
+            let slots = slots::slots_of(minutes) as usize;
+            let hour = slots / HOURS_A_DAY;
+            Run {
+                first: (day as usize) * slots + HOURS_BEFORE * hour,
+                count: hour,
+            }
+        }
+        _ => Run { first: 0, count: 0 },
     }
 }
 
-fn run_on(day: u8, days: u8, minutes: u8) -> Run
-    ensures { result ≡ run_at (In day) days minutes }
-{
-    if days <= day {
-        return Run { first: 0, count: 0 };
-    }
-    let slots = slots::slots_of(minutes);
-    let hour = (slots / HOURS_A_DAY) as usize;
-    Run {
-        first: (day as usize) * (slots as usize) + HOURS_BEFORE * hour,
-        count: hour,
-    }
-}
-
-fn spring_ahead(date: calendar::Date) -> Ahead
+#[tactic(auto, unfolding(crate::specs::Run::spring_ahead))]
+fn spring_ahead(date: calendar::Date) -> Option<u8>
     ensures { result ≡ spring_ahead date }
 {
-    if calendar::is_date(date) {
-        return to_sunday(date);
+    if !calendar::is_date(date) {
+        return None;
     }
-    Ahead::Past
-}
-
-fn to_sunday(date: calendar::Date) -> Ahead
-    requires { is_date date ≡ true }
-    ensures { result ≡ spring_ahead date }
-{
-    match calendar::last_sunday_of_march(date.year) {
-        calendar::DateAnswer::On(sunday) => to_day(date, sunday.day),
-        // Not of a date's year.
-        calendar::DateAnswer::NotADate => Ahead::Past,
-        calendar::DateAnswer::OutOfRange => Ahead::Past,
-    }
+    let Ok(sunday) = calendar::last_sunday_of_march(date.year) else {
+        return None;
+    };
+    to_day(date, sunday.day)
 }
 
 // `sunday` is the last Sunday of March.
-fn to_day(date: calendar::Date, sunday: u8) -> Ahead
+fn to_day(date: calendar::Date, sunday: u8) -> Option<u8>
     requires date_value { is_date date ≡ true }
     requires sunday_value { sunday ≡ last_sunday date.year 3 }
     ensures { result ≡ spring_ahead date }
 {
     if MARCH < date.month {
-        return Ahead::Past;
+        return None;
     }
-    let days = before_march(date.year, date.month) + sunday;
-    if days < date.day {
-        return Ahead::Past;
-    }
-    Ahead::In(days - date.day)
+    (before_march(date.year, date.month) + sunday).checked_sub(date.day)
 }
 
 // The days from the first of a month to the first of March.

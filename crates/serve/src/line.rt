@@ -6,7 +6,7 @@ ghost use Rattle.serve.specs.declared.bench.Bench.TheVariants as bench;
 use crate::bench::Bench;
 use crate::say;
 use frame::layout::LONGEST;
-use mercury_bench::{Answered, Meter};
+use mercury_bench::Meter;
 use meter_record::Record;
 use std::fs::File;
 use std::io::{IsTerminal, Read, Write};
@@ -59,6 +59,7 @@ pub fn serve(
 }
 
 // One frame, or none where the device is closed.
+#[tactic(auto, using(crate::proofs::BenchLaws::same))]
 fn turn(rt: HostRuntime, line: &File, device: &[u8], store: &mut [u8], s: Served) -> Served
     ensures { GoesOn s.bench store.old result.bench store.new }
 {
@@ -84,8 +85,7 @@ fn nothing_read(rt: HostRuntime, line: &File, device: &[u8]) {
 fn answer(rt: HostRuntime, line: &File, store: &mut [u8], frame: &[u8], s: Served) -> Served
     ensures { GoesOn s.bench store.old result.bench store.new }
 {
-    let bench = s.bench;
-    match bench {
+    match s.bench {
         Bench::Meter(record) => by_meter(rt, line, store, frame, s, record),
         Bench::Mercury(m) => by_mercury(line, frame, s, m),
     }
@@ -106,13 +106,11 @@ fn by_meter(
     let later = console_meter::seconds_later(before, console_meter::seconds_between(s.seen, now));
     let mut out = [0u8; METER_REPLY];
     let a = meter::answer(later, store, frame, &mut out);
-    let length = a.length;
-    let after = a.after;
     Served {
-        bench: Bench::Meter(after),
+        bench: Bench::Meter(a.after),
         seen: now,
-        read: next(s.read),
-        answered: replied(line, console::part(&out, length), s.answered),
+        read: s.read.saturating_add(1),
+        answered: replied(line, console::part(&out, a.length), s.answered),
         open: true,
     }
 }
@@ -122,36 +120,23 @@ fn by_mercury(line: &File, frame: &[u8], s: Served, m: Meter) -> Served
     ensures { result.bench ≡ bench.Mercury m }
 {
     let mut out = [0u8; MERCURY_REPLY];
-    let length = mercury_length(mercury_bench::answer(m, frame, &mut out));
+    // None where the frame is met with silence.
+    let length = mercury_bench::answer(m, frame, &mut out).unwrap_or(0);
     Served {
         bench: Bench::Mercury(m),
         seen: s.seen,
-        read: next(s.read),
+        read: s.read.saturating_add(1),
         answered: replied(line, console::part(&out, length), s.answered),
         open: true,
     }
 }
 
-// How many bytes the reply has: none where the frame is met with silence.
-fn mercury_length(answered: Answered) -> usize {
-    match answered {
-        Answered::Done(n) => n,
-        Answered::TooShort => 0,
-        Answered::OutOfRange => 0,
-        Answered::Silent(_) => 0,
-    }
-}
-
 // How many were answered, this one among them unless it is met with silence.
 fn replied(line: &File, reply: &[u8], answered: u64) -> u64 {
-    if reply.len() == 0 {
+    if reply.is_empty() {
         return answered;
     }
     let mut writer = line;
     let _ = writer.write_all(reply);
-    next(answered)
-}
-
-fn next(n: u64) -> u64 {
-    if n < u64::MAX { n + 1 } else { n }
+    answered.saturating_add(1)
 }

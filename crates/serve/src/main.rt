@@ -10,8 +10,6 @@ mod script;
 
 use bench::Bench;
 use file_io::PATH_ROOM;
-use script::Ready;
-use text::NumberAnswer;
 
 // Where the words of `serve DEVICE SCRIPT COUNT` stand.
 const DEVICE: usize = 1;
@@ -21,34 +19,25 @@ const SCRIPT: usize = 2;
 const COUNT: usize = 3;
 
 // The program's own name, DEVICE and SCRIPT.
-const LEAST_WORDS: usize = 3;
+const WORDS: usize = 3;
 
 // And COUNT.
-const MOST_WORDS: usize = 4;
+const COUNTED_WORDS: usize = 4;
 
 fn main(rt: HostRuntime) {
-    let words = file_io::word_count(rt);
-    if words < LEAST_WORDS {
-        help::say(rt);
-        return;
-    }
-    if MOST_WORDS < words {
-        help::say(rt);
-        return;
-    }
-    if words == MOST_WORDS {
-        counted(rt);
-    } else {
+    match file_io::word_count(rt) {
         // Nothing says that a device is closed: this many frames no run has.
-        made(rt, u64::MAX);
+        WORDS => made(rt, u64::MAX),
+        COUNTED_WORDS => counted(rt),
+        _ => help::say(rt),
     }
 }
 
 fn counted(rt: HostRuntime) {
     let mut room = [0u8; PATH_ROOM];
     match text::number_of(file_io::word(rt, COUNT, &mut room)) {
-        NumberAnswer::Number(count) => made(rt, count),
-        NumberAnswer::NotANumber => say::wrong_count(rt),
+        Some(count) => made(rt, count),
+        None => say::wrong_count(rt),
     }
 }
 
@@ -57,9 +46,8 @@ fn made(rt: HostRuntime, count: u64) {
     let mut store = [0u8; meter_store::STORE_BYTES];
     let mut room = [0u8; PATH_ROOM];
     let path = file_io::word(rt, SCRIPT, &mut room);
-    match script::made_by(rt, path, &mut store) {
-        Ready::Made(bench) => opened(rt, count, &mut store, bench),
-        Ready::Stopped => {}
+    if let Some(bench) = script::made_by(rt, path, &mut store) {
+        opened(rt, count, &mut store, bench);
     }
 }
 

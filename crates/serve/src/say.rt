@@ -17,11 +17,11 @@ pub fn waiting(rt: HostRuntime, device: &[u8], bench: Bench) {
     match bench {
         Bench::Meter(record) => {
             put(rt, b"serve: answering as meter ");
-            decimal(rt, record.address as u64);
+            decimal(rt, u64::from(record.address));
         }
         Bench::Mercury(m) => {
             put(rt, b"serve: answering as Mercury 206 ");
-            decimal(rt, m.address as u64);
+            decimal(rt, u64::from(m.address));
         }
     }
     on(rt, device);

@@ -5,55 +5,35 @@ use console_io::Rest;
 use console_meter::{Answer, Called};
 use frame::layout::LONGEST;
 use mercury_bench::Meter;
-use meter_record::{Record, RecordAnswer};
+use meter_record::Record;
 use std::fs::File;
 use std::io;
-
-#[derive(Clone, Copy)]
-pub enum Ready {
-    Made(Bench),
-    // And it was said why.
-    Stopped,
-}
-
-#[derive(Clone, Copy)]
-pub enum Second {
-    None,
-    Mercury(Meter),
-}
 
 // What the script has made so far.
 #[derive(Clone, Copy)]
 pub struct Made {
     pub record: Record,
-    pub second: Second,
+    pub second: Option<Meter>,
 }
 
-#[derive(Clone, Copy)]
-pub enum Step {
-    Made(Made),
+// Why a line makes nothing.
+#[derive(Clone, Copy, PartialEq, Eq)]
+pub enum StepError {
     Refused(u8),
     Unread,
 }
 
-pub fn made_by(rt: HostRuntime, path: &[u8], store: &mut [u8]) -> Ready {
-    let RecordAnswer::Done(first) = console_meter::first() else {
-        return Ready::Stopped;
-    };
+pub fn made_by(rt: HostRuntime, path: &[u8], store: &mut [u8]) -> Option<Bench> {
     let made = Made {
-        record: first,
-        second: Second::None,
+        record: console_meter::first().ok()?,
+        second: None,
     };
-    match lines(rt, path, store, made) {
-        Ok(ready) => ready,
-        Err(why) => {
-            say::failed(rt, path, why);
-            Ready::Stopped
-        }
-    }
+    lines(rt, path, store, made)
+        .map_err(|why| say::failed(rt, path, why))
+        .ok()?
 }
 
-fn lines(rt: HostRuntime, path: &[u8], store: &mut [u8], first: Made) -> io::Result<Ready> {
+fn lines(rt: HostRuntime, path: &[u8], store: &mut [u8], first: Made) -> io::Result<Option<Bench>> {
     let mut file = File::open(&rt, file_io::as_text(path)?)?;
     let mut line = [0u8; console_io::LINE_ROOM];
     let mut block = [0u8; 4096];
@@ -68,49 +48,43 @@ fn walk(
     first: Made,
     line: &mut [u8],
     block: &mut [u8],
-) -> io::Result<Ready> {
+) -> io::Result<Option<Bench>> {
     let mut made = first;
     let mut rest = Rest { at: 0, end: 0 };
     // Nothing says that a file ends: this many lines none has.
     for number in 1..u64::MAX {
         let taken = console_io::next_line(file, block, rest, line)?;
         if taken.ended {
-            return Ok(ready_of(made));
+            return Ok(Some(ready_of(made)));
         }
         rest = taken.rest;
-        let n = taken.length;
-        let step = set(console::part(line, n), store, made);
-        tell(rt, step, path, number);
-        let Step::Made(after) = step else {
-            return Ok(Ready::Stopped);
-        };
-        made = after;
+        match set(console::part(line, taken.length), store, made) {
+            Ok(after) => made = after,
+            Err(error) => {
+                tell(rt, error, path, number);
+                return Ok(None);
+            }
+        }
     }
-    Ok(Ready::Stopped)
+    Ok(None)
 }
 
 // A script that says `mercury` makes that one.
-fn ready_of(made: Made) -> Ready {
-    let record = made.record;
-    let second = made.second;
-    match second {
-        Second::Mercury(m) => Ready::Made(Bench::Mercury(m)),
-        Second::None => Ready::Made(Bench::Meter(record)),
-    }
+fn ready_of(made: Made) -> Bench {
+    made.second
+        .map_or(Bench::Meter(made.record), Bench::Mercury)
 }
 
 // A line as the console takes it, but for its answer: `frame` changes the meter as the frame says, and what only asks changes nothing.
-fn set(line: &[u8], store: &mut [u8], made: Made) -> Step {
+fn set(line: &[u8], store: &mut [u8], made: Made) -> Result<Made, StepError> {
     if console::is_passed_over(line) {
-        return Step::Made(made);
+        return Ok(made);
     }
     let mut out = [0u8; LONGEST];
     if console_mercury::is_named(line) {
-        let second = made.second;
-        return mercury_step(
-            console_mercury::called(line, mercury_of(second), &mut out),
-            made,
-        );
+        // The console's first where the script has made none.
+        let second = made.second.unwrap_or(console_mercury::first());
+        return mercury_step(console_mercury::called(line, second, &mut out), made);
     }
     step_of(
         console_meter::called(line, store, made.record, &mut out),
@@ -118,63 +92,41 @@ fn set(line: &[u8], store: &mut [u8], made: Made) -> Step {
     )
 }
 
-// The console's first where the script has made none.
-fn mercury_of(second: Second) -> Meter {
-    match second {
-        Second::Mercury(m) => m,
-        Second::None => console_mercury::first(),
-    }
-}
-
-fn mercury_step(called: console_mercury::Called, made: Made) -> Step {
-    let answer = called.answer;
-    let m = called.after;
-    match answer {
-        console_mercury::Answer::Unread => Step::Unread,
-        console_mercury::Answer::Number(n) => numbered(n, with_mercury(made, m)),
-        console_mercury::Answer::Frame(_, _) => Step::Made(made),
-        console_mercury::Answer::Told(_) => Step::Made(made),
-    }
-}
-
-fn with_mercury(made: Made, m: Meter) -> Made {
-    let record = made.record;
-    Made {
-        record: record,
-        second: Second::Mercury(m),
-    }
-}
-
-fn step_of(called: Called, made: Made) -> Step {
-    let answer = called.answer;
-    let record = called.after;
-    let second = made.second;
+fn mercury_step(called: console_mercury::Called, made: Made) -> Result<Made, StepError> {
     let after = Made {
-        record: record,
-        second: second,
+        second: Some(called.after),
+        ..made
     };
-    match answer {
-        Answer::Unread => Step::Unread,
-        Answer::Number(n) => numbered(n, after),
-        Answer::Reply(n, _) => numbered(n, after),
-        Answer::Recorded => Step::Made(made),
-        Answer::Shown => Step::Made(made),
-        Answer::Inquired(_) => Step::Made(made),
+    match called.answer {
+        console_mercury::Answer::Unread => Err(StepError::Unread),
+        console_mercury::Answer::Number(n) => numbered(n, after),
+        console_mercury::Answer::Frame(_, _) | console_mercury::Answer::Told(_) => Ok(made),
     }
 }
 
-fn numbered(n: u8, after: Made) -> Step {
-    if n == refusal::DONE {
-        return Step::Made(after);
+fn step_of(called: Called, made: Made) -> Result<Made, StepError> {
+    let after = Made {
+        record: called.after,
+        ..made
+    };
+    match called.answer {
+        Answer::Unread => Err(StepError::Unread),
+        Answer::Number(n) | Answer::Reply(n, _) => numbered(n, after),
+        Answer::Recorded | Answer::Shown | Answer::Inquired(_) => Ok(made),
     }
-    Step::Refused(n)
+}
+
+fn numbered(n: u8, after: Made) -> Result<Made, StepError> {
+    if n != refusal::DONE {
+        return Err(StepError::Refused(n));
+    }
+    Ok(after)
 }
 
 // One that was not done is named on standard error.
-fn tell(rt: HostRuntime, step: Step, path: &[u8], number: u64) {
-    match step {
-        Step::Made(_) => {}
-        Step::Refused(n) => say::refused(rt, path, number, n),
-        Step::Unread => say::unread(rt, path, number),
+fn tell(rt: HostRuntime, error: StepError, path: &[u8], number: u64) {
+    match error {
+        StepError::Refused(n) => say::refused(rt, path, number, n),
+        StepError::Unread => say::unread(rt, path, number),
     }
 }

@@ -2,7 +2,7 @@
 ghost use Rattle.std.specs.Prelude.{◌≡◌};
 ghost use Rattle.slots.specs.Key.{is_legal};
 
-#[derive(Clone, Copy)]
+#[derive(Clone, Copy, PartialEq, Eq)]
 pub struct Key {
     pub month: u8,
     pub day: u8,
@@ -13,20 +13,9 @@ const MONTHS: u8 = 12;
 
 const DAYS: u8 = 31;
 
+#[tactic(auto, unfolding(crate::specs::Key::is_legal))]
 pub fn is_legal(k: Key, slots: u8) -> bool
     ensures { result ≡ is_legal k slots }
 {
-    if k.month < 1 {
-        return false;
-    }
-    if MONTHS < k.month {
-        return false;
-    }
-    if k.day < 1 {
-        return false;
-    }
-    if DAYS < k.day {
-        return false;
-    }
-    k.number < slots
+    1 <= k.month && k.month <= MONTHS && 1 <= k.day && k.day <= DAYS && k.number < slots
 }

@@ -1,6 +1,8 @@
 -- What follows from the definitions of specs/Reading.antt, for proofs alone: no contract cites it.
+use Rattle.std.specs.Prelude.{None, Some}
 use mathlib.Core.Path.{◌≡◌}
 use mathlib.Core.Bool.{true, false, and-false}
+use mathlib.Core.Logic.{◌⊎◌, inl, inr}
 use mathlib.Core.List.{List, [], ◌∷◌}
 use Prim.Native.Nat.{ℕ, ◌+◌, ◌-◌, ◌*◌, ◌^◌, ◌≤◌, ◌<◌}
 use native.Mathlib.Nat.{le_refl}
@@ -12,13 +14,12 @@ use lib.ListN.{length, get_or, drop}
 use lib.Seq.{drop-cons}
 use Rattle.text.specs.Decimal.{decimal, value_from, value_of, is_digit, are_digits}
 use Rattle.text.proofs.DecimalLaws.{value-decimal, are_digits-decimal, decimal-least, decimal-most-u64}
-use Rattle.text.specs.declared.reading.NumberAnswer.TheVariants.{Number, NotANumber}
 use Rattle.text.specs.Reading.{is_number, number_of_text}
 
 -- ---- there and back
 
 -- what was written reads as what it was
-pub read-decimal : (n : ℕ) → n < 2 ^ 64 → number_of_text (decimal n) ≡ Number n
+pub read-decimal : (n : ℕ) → n < 2 ^ 64 → number_of_text (decimal n) ≡ Some n
 unfolding number_of_text is_number
 read-decimal n h =
     simp (
@@ -32,27 +33,27 @@ read-decimal n h =
 -- ---- the four ways to be no number, and the one to be one
 
 -- `number_of`: no digit is no number
-pub not-empty : (t : List ℕ) → length t < 1 → number_of_text t ≡ NotANumber
+pub not-empty : (t : List ℕ) → length t < 1 → number_of_text t ≡ None
 unfolding number_of_text is_number
 not-empty t h = rw (lt-leb 1 (length t) h)
 
 -- more digits than 64 bits can have
-pub not-long : (t : List ℕ) → 20 < length t → number_of_text t ≡ NotANumber
+pub not-long : (t : List ℕ) → 20 < length t → number_of_text t ≡ None
 unfolding number_of_text is_number
 not-long t h = rw (lt-leb (length t) 20 h, and-false (leb 1 (length t)))
 
 -- a byte that is no digit
-pub not-digits : (t : List ℕ) → are_digits t ≡ false → number_of_text t ≡ NotANumber
+pub not-digits : (t : List ℕ) → are_digits t ≡ false → number_of_text t ≡ None
 unfolding number_of_text is_number
 not-digits t h = rw (h, and-false (leb (length t) 20), and-false (leb 1 (length t)))
 
 -- a number of more than 64 bits
-pub not-small : (t : List ℕ) → 2 ^ 64 ≤ value_of t → number_of_text t ≡ NotANumber
+pub not-small : (t : List ℕ) → 2 ^ 64 ≤ value_of t → number_of_text t ≡ None
 unfolding number_of_text is_number
 not-small t h = rw (le-ltb (value_of t) (2 ^ 64) h, and-false (are_digits t), and-false (leb (length t) 20), and-false (leb 1 (length t)))
 
 -- else the number
-pub a-number : (t : List ℕ) → 1 ≤ length t → length t ≤ 20 → are_digits t ≡ true → value_of t < 2 ^ 64 → number_of_text t ≡ Number (value_of t)
+pub a-number : (t : List ℕ) → 1 ≤ length t → length t ≤ 20 → are_digits t ≡ true → value_of t < 2 ^ 64 → number_of_text t ≡ Some (value_of t)
 unfolding number_of_text is_number
 a-number t a b c d = rw (le-leb 1 (length t) a, le-leb (length t) 20 b, c, lt-ltb (value_of t) (2 ^ 64) d)
 
@@ -75,12 +76,8 @@ module _ (t : List ℕ) (i : ℕ) (h : i < length t) where
   unfolding are_digits is_digit
   digit_at low high = rw (add-one, drop-cons t i 0, le-leb 48 (get_or t i 0) low, le-leb (get_or t i 0) 57 high)
 
-  -- a byte before the digits fails it
-  pub below-digits : get_or t i 0 < 48 → are_digits (drop i t) ≡ false
+  -- a byte before the digits or behind them fails it
+  pub no-digit : (get_or t i 0 < 48) ⊎ ((48 ≤ get_or t i 0) × (57 < get_or t i 0)) → are_digits (drop i t) ≡ false
   unfolding are_digits is_digit
-  below-digits low = rw (drop-cons t i 0, lt-leb 48 (get_or t i 0) low)
-
-  -- a byte behind them fails it
-  pub above-digits : 57 < get_or t i 0 → are_digits (drop i t) ≡ false
-  unfolding are_digits is_digit
-  above-digits high = rw (drop-cons t i 0, lt-leb (get_or t i 0) 57 high, and-false (leb 48 (get_or t i 0)))
+  no-digit (inl low) = rw (drop-cons t i 0, lt-leb 48 (get_or t i 0) low)
+  no-digit (inr high) = rw (drop-cons t i 0, lt-leb (get_or t i 0) 57 high.1, and-false (leb 48 (get_or t i 0)))

@@ -1,9 +1,7 @@
 -- Bytes as hexadecimal text, as document 01 prints frames ("Marked examples": `01 03 24 05 11 00 53 6B`), here without the spaces; and
 -- such digits read back, for the console.
-use Rattle.std.specs.Prelude.{cond, List, [], ◌∷◌, ℕ, ◌+◌, ◌-◌, ◌/◌, ◌%◌, ltb}
+use Rattle.std.specs.Prelude.{cond, List, [], ◌∷◌, ℕ, ◌+◌, ◌-◌, ◌/◌, ◌%◌, ltb, None, Option, Some}
 use Rattle.text.specs.Decimal.{between}
-use Rattle.text.specs.declared.hex.HexAnswer.{HexAnswer}
-use Rattle.text.specs.declared.hex.HexAnswer.TheVariants.{Value, NotHex}
 
 -- the digit 0 to 9 or A to F
 unfoldable pub hex_digit : ℕ → ℕ
@@ -15,6 +13,6 @@ hex_text [] = []
 hex_text (b ∷ bs) = hex_digit (b / 16) ∷ hex_digit (b % 16) ∷ hex_text bs
 
 -- what a digit of text stands for, a letter in either case
-unfoldable pub hex_value : ℕ → HexAnswer
+unfoldable pub hex_value : ℕ → Option ℕ
 hex_value b =
-    cond (between 48 57 b) (Value (b - 48)) (cond (between 65 70 b) (Value (b - 55)) (cond (between 97 102 b) (Value (b - 87)) NotHex))
+    cond (between 48 57 b) (Some (b - 48)) (cond (between 65 70 b) (Some (b - 55)) (cond (between 97 102 b) (Some (b - 87)) None))

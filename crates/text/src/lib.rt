@@ -11,6 +11,6 @@ mod search;
 
 pub use date::put_date;
 pub use decimal::{decimal_length, put_decimal, put_two};
-pub use hex::{HexAnswer, hex_value, put_hex};
-pub use reading::{NumberAnswer, number_of};
+pub use hex::{hex_value, put_hex};
+pub use reading::number_of;
 pub use search::index_of;

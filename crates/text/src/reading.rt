@@ -2,47 +2,26 @@
 ghost use Rattle.std.specs.Prelude.{◌≡◌};
 ghost use Rattle.text.specs.Reading.{number_of_text};
 
-#[derive(Clone, Copy)]
-pub enum NumberAnswer {
-    Number(u64),
-    NotANumber,
-}
-
 // The most digits that a number of 64 bits has.
 const LONGEST: usize = 20;
-
-const LARGEST: u64 = 18446744073709551615;
 
 const ZERO: u8 = 48;
 
 const NINE: u8 = 57;
 
 // The number that the bytes of a text are: 1 to 20 digits, no sign. Leading zeros are taken.
-pub fn number_of(text: &[u8]) -> NumberAnswer
+pub fn number_of(text: &[u8]) -> Option<u64>
     ensures { result ≡ number_of_text text.now }
 {
-    if text.len() == 0 {
-        return NumberAnswer::NotANumber;
-    }
-    if LONGEST < text.len() {
-        return NumberAnswer::NotANumber;
+    if text.is_empty() || LONGEST < text.len() {
+        return None;
     }
     let mut value: u64 = 0;
-    let mut i = 0;
-    while i < text.len() {
-        let byte = text[i];
-        if byte < ZERO {
-            return NumberAnswer::NotANumber;
+    for &byte in text {
+        if byte < ZERO || NINE < byte {
+            return None;
         }
-        if NINE < byte {
-            return NumberAnswer::NotANumber;
-        }
-        let digit = (byte - ZERO) as u64;
-        if (LARGEST - digit) / 10 < value {
-            return NumberAnswer::NotANumber;
-        }
-        value = value * 10 + digit;
-        i += 1;
+        value = value.checked_mul(10)?.checked_add((byte - ZERO) as u64)?;
     }
-    NumberAnswer::Number(value)
+    Some(value)
 }

@@ -6,10 +6,5 @@ ghost use Rattle.text.specs.Search.{index_of};
 pub fn index_of(s: &[u8], byte: u8) -> usize
     ensures { result ≡ index_of byte s.now }
 {
-    for (i, b) in s.iter().enumerate() {
-        if *b == byte {
-            return i;
-        }
-    }
-    s.len()
+    s.iter().position(|b| *b == byte).unwrap_or(s.len())
 }

@@ -1,4 +1,5 @@
 -- The reader gets the meter's energies back bit for bit: what `energies_bytes` writes, `energies_of` reads, where the four are finite.
+use Rattle.std.specs.Prelude.{Some}
 use mathlib.Core.Path.{◌≡◌, refl, ◌∙◌}
 use mathlib.Core.Bool.{true}
 use mathlib.Core.List.{List, ◌++◌, append_assoc}
@@ -13,7 +14,6 @@ use Rattle.byte_numbers.proofs.PlaceLaws.{number_at-front, number_at-behind-byte
 use Rattle.wire_values.specs.Displayed.{energies_in, are_finite, energies_of, energies_bytes}
 use Rattle.wire_values.specs.Power.{is_finite}
 use Rattle.wire_values.specs.declared.displayed.Energies.{Energies}
-use Rattle.wire_values.specs.declared.displayed.EnergiesAnswer.TheVariants.{Finite}
 use Rattle.wire_values.proofs.PowerLaws.{finite-bits}
 
 -- all four are below the infinity's bits: finite, and not negative
@@ -35,7 +35,7 @@ unfolding energies_bytes bytes_of
 length-energies e = refl
 
 -- four finite energies are read back from their bytes, whatever stands behind them
-pub energies_of-bytes : (e : Energies) (rest : List ℕ) → Plain e → energies_of (energies_bytes e ++ rest) ≡ Finite e
+pub energies_of-bytes : (e : Energies) (rest : List ℕ) → Plain e → energies_of (energies_bytes e ++ rest) ≡ Some e
 unfolding energies_of energies_in are_finite energies_bytes
 energies_of-bytes e rest h =
     let a = e.e_plus.0 in

@@ -1,13 +1,14 @@
 -- The reader gets the meter's powers back bit for bit: what `power_bytes` and `powers_bytes` write, `power_of` and `powers_of` read.
 -- Source: document 01, "Powers": "three phase powers in floating point belong together as one reading".
-use mathlib.Core.Path.{◌≡◌, refl, ap, subst, ◌∙◌}
+use Rattle.std.specs.Prelude.{Some}
+use mathlib.Core.Path.{◌≡◌, refl, ap, ◌∙◌}
 use mathlib.Core.Bool.{Bool, true, false, cond, not}
 use Prim.Native.Nat.{ℕ, zero, suc, ◌+◌, ◌/◌, ◌%◌, ◌≤◌, ◌<◌}
 use native.Mathlib.Omega.{arith}
 use borrow.Author.Tests.{ltb-true, ltb-false, eq-eqb, ne_eqb}
 use lib.Dec.{T, eqb, ltb, leb}
 use lib.ListN.{length, drop}
-use lib.Ieee.{Float, nan, inf, fin, binary32, prec, low, hid, odd, of_fields, ne, is_nan, of_bits, fits}
+use lib.Ieee.{Float, nan, inf, binary32, prec, low, hid, odd, of_fields, of_bits, fits}
 use lib.Ieee.Scale.{finite}
 use mathlib.Core.List.{List, ◌++◌, append_assoc}
 use native.Mathlib.Nat.{mod-eq_of_lt}
@@ -20,9 +21,6 @@ use Rattle.byte_numbers.specs.Place.{number_at}
 use Rattle.byte_numbers.proofs.PlaceLaws.{number_at-front, number_at-behind-bytes}
 use Rattle.wire_values.specs.Power.{bits_of, power_bytes, total_of, float_at, power_of, together, phases_of, powers_of, phases_bytes, powers_bytes, FitsPhases}
 use Rattle.wire_values.specs.declared.power.Phases.{Phases}
-use Rattle.wire_values.specs.declared.power.Power.TheVariants as power
-use Rattle.wire_values.specs.declared.power.PhasesAnswer.TheVariants as phases
-use Rattle.wire_values.specs.declared.power.PowersAnswer.TheVariants as powers
 
 -- ---- whether a float is finite shows in its bits
 
@@ -57,13 +55,6 @@ finite-bits n = of_fields-finite (leb 0x80000000 n) (n % 0x80000000 / 0x800000) 
         let q : n % 0x80000000 / 0x800000 ≡ 255 = omega arith in
         ap not (eq-eqb (n % 0x80000000 / 0x800000) 255 q)
 
--- what does not differ from itself is a number
-pub same_number : (x : Float) → ne x x ≡ false → T (not (is_nan x))
-unfolding ne is_nan
-same_number nan e = subst T e tt
-same_number (inf s) e = tt
-same_number (fin s m k) e = tt
-
 -- a power is four bytes
 pub length-power_bytes : (x : Float) → length (power_bytes x) ≡ 4
 unfolding power_bytes
@@ -91,13 +82,13 @@ float_at-behind x rest i = ap (of_bits binary32) (number_at-behind-bytes 4 (bits
 
 -- ---- one power
 
-power_of-float : (bs : List ℕ) (i : ℕ) (x : Float) → float_at bs i ≡ x → finite x ≡ true → power_of bs i ≡ power.Finite x
+power_of-float : (bs : List ℕ) (i : ℕ) (x : Float) → float_at bs i ≡ x → finite x ≡ true → power_of bs i ≡ Some x
 unfolding power_of
 power_of-float bs i x e h = rw (e, h)
 
 -- a finite power is read back as one
 pub power_of-bytes : (x : Float) (rest : List ℕ) → T (fits binary32 x) → finite x ≡ true
-    → power_of (power_bytes x ++ rest) 0 ≡ power.Finite x
+    → power_of (power_bytes x ++ rest) 0 ≡ Some x
 power_of-bytes x rest f h = power_of-float _ 0 x (float_at-front x rest f) h
 
 -- ---- the phases, and the total before them
@@ -109,7 +100,7 @@ pub record FinitePhases (p : Phases) : Type 0 where
   pub c : finite p.c ≡ true
 
 -- three finite powers are read back from their bytes, in their order
-pub phases_of-bytes : (p : Phases) (rest : List ℕ) → FitsPhases p → FinitePhases p → phases_of (phases_bytes p ++ rest) ≡ phases.Finite p
+pub phases_of-bytes : (p : Phases) (rest : List ℕ) → FitsPhases p → FinitePhases p → phases_of (phases_bytes p ++ rest) ≡ Some p
 unfolding phases_of together
 phases_of-bytes p rest f h =
     let from-c = power_bytes p.c ++ rest in
@@ -122,7 +113,7 @@ phases_of-bytes p rest f h =
 
 -- and with them their total, which stands before them, where it is finite too
 pub powers_of-bytes : (p : Phases) (rest : List ℕ) → FitsPhases p → FinitePhases p → finite (total_of p) ≡ true
-    → powers_of (powers_bytes p ++ rest) ≡ powers.Finite (record { total = total_of p; phases = p })
+    → powers_of (powers_bytes p ++ rest) ≡ Some (record { total = total_of p; phases = p })
 unfolding powers_of powers_bytes
 powers_of-bytes p rest f h ht =
     let behind : drop 4 (power_bytes (total_of p) ++ (phases_bytes p ++ rest)) ≡ phases_bytes p ++ rest =

@@ -1,12 +1,10 @@
 -- Parameter 36 as function 4 reads it. Source: document 02, request 3: "For parameter 36, function 4 answers four 32-bit floats in
 -- kilowatt-hours"; 002, section 4.13 (page 18), has each field as a float of four bytes.
-use Rattle.std.specs.Prelude.{Bool, cond, ◌&&◌, List, ◌++◌, ℕ}
+use Rattle.std.specs.Prelude.{Bool, cond, ◌&&◌, List, ◌++◌, ℕ, None, Option, Some}
 use Rattle.byte_numbers.specs.Number.{bytes_of}
 use Rattle.byte_numbers.specs.Place.{number_at}
 use Rattle.wire_values.specs.Power.{is_finite}
 use Rattle.wire_values.specs.declared.displayed.Energies.{Energies}
-use Rattle.wire_values.specs.declared.displayed.EnergiesAnswer.{EnergiesAnswer}
-use Rattle.wire_values.specs.declared.displayed.EnergiesAnswer.TheVariants.{Finite, NotFinite}
 
 -- the four floats at the front of a data part, by their bits: E+, E-, R+, R-
 unfoldable pub energies_in : List ℕ → Energies
@@ -21,9 +19,9 @@ unfoldable pub are_finite : Energies → Bool
 are_finite e = is_finite e.e_plus.0 && is_finite e.e_minus.0 && is_finite e.r_plus.0 && is_finite e.r_minus.0
 
 -- "26 applies to these replies also": all of them finite, or none is handed over
-unfoldable pub energies_of : List ℕ → EnergiesAnswer
+unfoldable pub energies_of : List ℕ → Option Energies
 unfolding are_finite
-energies_of bs = cond (are_finite (energies_in bs)) (Finite (energies_in bs)) NotFinite
+energies_of bs = cond (are_finite (energies_in bs)) (Some (energies_in bs)) None
 
 -- their sixteen bytes
 unfoldable pub energies_bytes : Energies → List ℕ

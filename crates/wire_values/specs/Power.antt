@@ -1,18 +1,13 @@
 -- Parameters 8 and 9. Source: document 01, "Powers": "three phase powers in floating point belong together as one reading; detail 0
 -- answers the total and A, B, C, details 1 to 3 one phase. The total is (A + B) + C, each sum rounded once to 32 bits."; 002, figure 9 (page 9).
-use Rattle.std.specs.Prelude.{Bool, cond, List, ◌++◌, ℕ, drop, Float, T}
+use Rattle.wire_values.specs.declared.power.Powers.{Powers}
+use Rattle.std.specs.Prelude.{Bool, cond, List, ◌++◌, ℕ, drop, Float, T, None, Option, Some}
 use Rattle.std.specs.Float.{binary32}
 use Rattle.std.specs.Float.Ieee.{add, of_bits, to_bits, fits}
 use Rattle.std.specs.Float.Ieee.Scale.{finite}
 use Rattle.byte_numbers.specs.Number.{bytes_of}
 use Rattle.byte_numbers.specs.Place.{number_at}
 use Rattle.wire_values.specs.declared.power.Phases.{Phases}
-use Rattle.wire_values.specs.declared.power.Power.{Power}
-use Rattle.wire_values.specs.declared.power.PhasesAnswer.{PhasesAnswer}
-use Rattle.wire_values.specs.declared.power.PowersAnswer.{PowersAnswer}
-use Rattle.wire_values.specs.declared.power.Power.TheVariants as power
-use Rattle.wire_values.specs.declared.power.PhasesAnswer.TheVariants as phases
-use Rattle.wire_values.specs.declared.power.PowersAnswer.TheVariants as powers
 
 -- the total: two sums, each rounded once
 unfoldable pub total_of : Phases → Float
@@ -27,26 +22,26 @@ abbrev pub is_finite : ℕ → Bool
 is_finite n = finite (of_bits binary32 n)
 
 -- one power: document 01's 26 is for "an infinity or no number"
-unfoldable pub power_of : List ℕ → ℕ → Power
-power_of bs i = cond (finite (float_at bs i)) (power.Finite (float_at bs i)) power.NotFinite
+unfoldable pub power_of : List ℕ → ℕ → Option Float
+power_of bs i = cond (finite (float_at bs i)) (Some (float_at bs i)) None
 
 -- A, B and C: all of them finite, or none is handed over
-unfoldable pub together : Power → Power → Power → PhasesAnswer
-together power.NotFinite b c = phases.NotFinite
-together (power.Finite a) power.NotFinite c = phases.NotFinite
-together (power.Finite a) (power.Finite b) power.NotFinite = phases.NotFinite
-together (power.Finite a) (power.Finite b) (power.Finite c) = phases.Finite (record { a = a; b = b; c = c })
+unfoldable pub together : Option Float → Option Float → Option Float → Option Phases
+together None b c = None
+together (Some a) None c = None
+together (Some a) (Some b) None = None
+together (Some a) (Some b) (Some c) = Some (record { a = a; b = b; c = c })
 
-unfoldable pub phases_of : List ℕ → PhasesAnswer
+unfoldable pub phases_of : List ℕ → Option Phases
 phases_of bs = together (power_of bs 0) (power_of bs 4) (power_of bs 8)
 
 -- all four: the total first, then A, B and C; all of them finite, or none is handed over
-pub with_total : Power → PhasesAnswer → PowersAnswer
-with_total power.NotFinite p = powers.NotFinite
-with_total (power.Finite total) phases.NotFinite = powers.NotFinite
-with_total (power.Finite total) (phases.Finite p) = powers.Finite (record { total = total; phases = p })
+pub with_total : Option Float → Option Phases → Option Powers
+with_total None p = None
+with_total (Some total) None = None
+with_total (Some total) (Some p) = Some (record { total = total; phases = p })
 
-unfoldable pub powers_of : List ℕ → PowersAnswer
+unfoldable pub powers_of : List ℕ → Option Powers
 unfolding with_total
 powers_of bs = with_total (power_of bs 0) (phases_of (drop 4 bs))
 

@@ -6,6 +6,7 @@ ghost use Rattle.byte_numbers.specs.Place.{written};
 use calendar::{Date, DateTime};
 
 // The bytes as they were sent: whether they are a time, the calendar says.
+#[tactic(auto, unfolding(crate::specs::Clock::date_time_of))]
 pub fn date_time_of(bytes: &[u8]) -> DateTime
     ensures { result ≡ date_time_of bytes.now }
 {
@@ -21,13 +22,20 @@ pub fn date_time_of(bytes: &[u8]) -> DateTime
     }
 }
 
+#[tactic(auto, unfolding(crate::specs::Clock::date_time_bytes))]
 pub fn put_date_time(out: &mut [u8], t: DateTime)
     ensures { out.new ≡ written out.old 0 (date_time_bytes t) }
 {
-    let date = t.date;
     byte_numbers::put_bytes(
         out,
         0,
-        &[t.second, t.minute, t.hour, date.day, date.month, date.year],
+        &[
+            t.second,
+            t.minute,
+            t.hour,
+            t.date.day,
+            t.date.month,
+            t.date.year,
+        ],
     );
 }

@@ -8,10 +8,10 @@ ghost use Rattle.byte_numbers.specs.Place.{written};
 use crate::power::is_finite;
 
 // Kilowatt-hours, as the bits of a float.
-#[derive(Clone, Copy)]
+#[derive(Clone, Copy, PartialEq, Eq)]
 pub struct KilowattHours(pub u32);
 
-#[derive(Clone, Copy)]
+#[derive(Clone, Copy, PartialEq, Eq)]
 pub struct Energies {
     pub e_plus: KilowattHours,
     pub e_minus: KilowattHours,
@@ -19,24 +19,16 @@ pub struct Energies {
     pub r_minus: KilowattHours,
 }
 
-#[derive(Clone, Copy)]
-pub enum EnergiesAnswer {
-    Finite(Energies),
-    NotFinite,
-}
-
 // The energies at the front of a part.
-pub fn energies_of(bytes: &[u8]) -> EnergiesAnswer
+#[tactic(auto, unfolding(crate::specs::Displayed::energies_of))]
+pub fn energies_of(bytes: &[u8]) -> Option<Energies>
     ensures { result ≡ energies_of bytes.now }
 {
     let e = energies_in(bytes);
-    if are_finite(e) {
-        EnergiesAnswer::Finite(e)
-    } else {
-        EnergiesAnswer::NotFinite
-    }
+    if are_finite(e) { Some(e) } else { None }
 }
 
+#[tactic(auto, unfolding(crate::specs::Displayed::energies_in))]
 fn energies_in(bytes: &[u8]) -> Energies
     ensures { result ≡ energies_in bytes.now }
 {
@@ -49,32 +41,21 @@ fn energies_in(bytes: &[u8]) -> Energies
 }
 
 // All four are numbers.
+#[tactic(auto, unfolding(crate::specs::Displayed::are_finite))]
 fn are_finite(e: Energies) -> bool
     ensures { result ≡ are_finite e }
 {
-    let e_plus = e.e_plus;
-    let e_minus = e.e_minus;
-    let r_plus = e.r_plus;
-    let r_minus = e.r_minus;
-    if is_finite(e_plus.0) {
-        if is_finite(e_minus.0) {
-            if is_finite(r_plus.0) {
-                return is_finite(r_minus.0);
-            }
-        }
-    }
-    false
+    is_finite(e.e_plus.0)
+        && is_finite(e.e_minus.0)
+        && is_finite(e.r_plus.0)
+        && is_finite(e.r_minus.0)
 }
 
 pub fn put_energies(out: &mut [u8], e: Energies)
     ensures { out.new ≡ written out.old 0 (energies_bytes e) }
 {
-    let e_plus = e.e_plus;
-    let e_minus = e.e_minus;
-    let r_plus = e.r_plus;
-    let r_minus = e.r_minus;
-    byte_numbers::put_u32(out, 0, e_plus.0);
-    byte_numbers::put_u32(out, 4, e_minus.0);
-    byte_numbers::put_u32(out, 8, r_plus.0);
-    byte_numbers::put_u32(out, 12, r_minus.0);
+    byte_numbers::put_u32(out, 0, e.e_plus.0);
+    byte_numbers::put_u32(out, 4, e.e_minus.0);
+    byte_numbers::put_u32(out, 8, e.r_plus.0);
+    byte_numbers::put_u32(out, 12, e.r_minus.0);
 }

@@ -12,11 +12,10 @@ mod row;
 mod telemetry;
 
 pub use clock::{date_time_of, put_date_time};
-pub use displayed::{Energies, EnergiesAnswer, KilowattHours, energies_of, put_energies};
+pub use displayed::{Energies, KilowattHours, energies_of, put_energies};
 pub use mask::{DisplayMask, display_mask, put_display_mask};
 pub use power::{
-    Phases, PhasesAnswer, Power, Powers, PowersAnswer, bits_of, phases_of, power_of, powers_of,
-    put_phases, put_power, put_powers,
+    Phases, Powers, bits_of, phases_of, power_of, powers_of, put_phases, put_power, put_powers,
 };
 pub use row::{Row, row_at, row_of};
 pub use telemetry::{Telemetry, put_telemetry, telemetry_of};

@@ -3,13 +3,14 @@ ghost use Rattle.std.specs.Prelude.{◌≡◌};
 ghost use Rattle.wire_values.specs.Mask.{mask_of, mask_bytes};
 ghost use Rattle.byte_numbers.specs.Place.{written};
 
-#[derive(Clone, Copy)]
+#[derive(Clone, Copy, PartialEq, Eq)]
 pub struct DisplayMask {
     pub parameters: u32,
     pub tariffs: u8,
     pub directions: u8,
 }
 
+#[tactic(auto, unfolding(crate::specs::Mask::mask_of))]
 pub fn display_mask(bytes: &[u8]) -> DisplayMask
     ensures { result ≡ mask_of bytes.now }
 {

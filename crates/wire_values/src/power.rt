@@ -3,7 +3,7 @@ ghost use Rattle.std.specs.Prelude.{◌≡◌};
 ghost use Rattle.wire_values.specs.Power.{total_of, is_finite, power_of, together, phases_of, powers_of, bits_of, power_bytes, phases_bytes, powers_bytes};
 ghost use Rattle.byte_numbers.specs.Place.{written};
 
-// The phase powers of one reading.
+// The phase powers of one reading. No `==`: a float need not equal itself.
 #[derive(Clone, Copy)]
 pub struct Phases {
     pub a: f32,
@@ -11,34 +11,16 @@ pub struct Phases {
     pub c: f32,
 }
 
-// The phases and their total, as a reply has them.
+// The phases and their total, as a reply has them. No `==`, as above.
 #[derive(Clone, Copy)]
 pub struct Powers {
     pub total: f32,
     pub phases: Phases,
 }
 
-// One power of a reply.
-#[derive(Clone, Copy)]
-pub enum Power {
-    Finite(f32),
-    NotFinite,
-}
-
-#[derive(Clone, Copy)]
-pub enum PhasesAnswer {
-    Finite(Phases),
-    NotFinite,
-}
-
-#[derive(Clone, Copy)]
-pub enum PowersAnswer {
-    Finite(Powers),
-    NotFinite,
-}
-
 impl Phases {
     // The sum of the three, each addition rounded to 32 bits.
+    #[tactic(auto, unfolding(crate::specs::Power::total_of))]
     pub fn total(self) -> f32
         ensures { result ≡ total_of self }
     {
@@ -59,58 +41,46 @@ pub fn is_finite(bits: u32) -> bool
 }
 
 // The power at a place of a data part.
-pub fn power_of(bytes: &[u8], at: usize) -> Power
+#[tactic(auto, unfolding(crate::specs::Power::power_of, crate::specs::Power::float_at))]
+pub fn power_of(bytes: &[u8], at: usize) -> Option<f32>
     ensures { result ≡ power_of bytes.now at }
 {
     let bits = byte_numbers::u32_at(bytes, at);
     if is_finite(bits) {
-        let power = f32::from_bits(bits);
-        Power::Finite(power)
+        Some(f32::from_bits(bits))
     } else {
-        Power::NotFinite
+        None
     }
 }
 
 // The powers A, B and C at the front of a part.
-pub fn phases_of(bytes: &[u8]) -> PhasesAnswer
+#[tactic(auto, unfolding(crate::specs::Power::phases_of))]
+pub fn phases_of(bytes: &[u8]) -> Option<Phases>
     ensures { result ≡ phases_of bytes.now }
 {
     together(power_of(bytes, 0), power_of(bytes, 4), power_of(bytes, 8))
 }
 
 // All three, or none.
-fn together(a: Power, b: Power, c: Power) -> PhasesAnswer
+#[tactic(auto, unfolding(crate::specs::Power::together))]
+fn together(a: Option<f32>, b: Option<f32>, c: Option<f32>) -> Option<Phases>
     ensures { result ≡ together a b c }
 {
-    let Power::Finite(first) = a else {
-        return PhasesAnswer::NotFinite;
-    };
-    let Power::Finite(second) = b else {
-        return PhasesAnswer::NotFinite;
-    };
-    let Power::Finite(third) = c else {
-        return PhasesAnswer::NotFinite;
-    };
-    PhasesAnswer::Finite(Phases {
-        a: first,
-        b: second,
-        c: third,
+    Some(Phases {
+        a: a?,
+        b: b?,
+        c: c?,
     })
 }
 
 // The total and behind it the phases.
-pub fn powers_of(bytes: &[u8]) -> PowersAnswer
+#[tactic(auto, unfolding(crate::specs::Power::powers_of))]
+pub fn powers_of(bytes: &[u8]) -> Option<Powers>
     ensures { result ≡ powers_of bytes.now }
 {
-    let Power::Finite(total) = power_of(bytes, 0) else {
-        return PowersAnswer::NotFinite;
-    };
-    let PhasesAnswer::Finite(phases) = phases_of(byte_numbers::tail(bytes, 4)) else {
-        return PowersAnswer::NotFinite;
-    };
-    PowersAnswer::Finite(Powers {
-        total: total,
-        phases: phases,
+    Some(Powers {
+        total: power_of(bytes, 0)?,
+        phases: phases_of(byte_numbers::tail(bytes, 4))?,
     })
 }
 
@@ -118,11 +88,16 @@ pub fn powers_of(bytes: &[u8]) -> PowersAnswer
 pub fn bits_of(x: f32) -> u32
     ensures { result ≡ bits_of x }
 {
-    if x != x { NO_NUMBER } else { f32::to_bits(x) }
+    if x.is_nan() {
+        NO_NUMBER
+    } else {
+        f32::to_bits(x)
+    }
 }
 
 const NO_NUMBER: u32 = 0x7FC0_0000;
 
+#[tactic(auto, unfolding(crate::specs::Power::power_bytes))]
 pub fn put_power(out: &mut [u8], at: usize, x: f32)
     ensures { out.new ≡ written out.old at (power_bytes x) }
 {

@@ -3,7 +3,7 @@ ghost use Rattle.std.specs.Prelude.{◌≡◌};
 ghost use Rattle.wire_values.specs.Telemetry.{telemetry_of, telemetry_bytes};
 ghost use Rattle.byte_numbers.specs.Place.{written};
 
-#[derive(Clone, Copy)]
+#[derive(Clone, Copy, PartialEq, Eq)]
 pub struct Telemetry {
     // Pulses for a kilowatt-hour.
     pub k: u32,
@@ -13,6 +13,7 @@ pub struct Telemetry {
     pub reserve: u16,
 }
 
+#[tactic(auto, unfolding(crate::specs::Telemetry::telemetry_of))]
 pub fn telemetry_of(bytes: &[u8]) -> Telemetry
     ensures { result ≡ telemetry_of bytes.now }
 {

@@ -1,6 +1,9 @@
--- `by_half` meets its contract: the CRC over four bytes and then the rest is the CRC over all (`crc_from-number`); under four left, `by_bytes` has them.
+-- `by_half` meets its contract: the CRC over four bytes and then the rest is the CRC over all (`crc_from-number`); fewer than those are left to `by_bytes`.
 use mathlib.Core.Path.{◌∙◌}
+use native.Mathlib.Nat.{zero-add, le_refl}
 use native.Mathlib.Omega.{arith}
+use lib.ListN.{length}
+use Rattle.std.proofs.lemmas.Slice.{between_to_end}
 use Rattle.crc16.specs.Word.{register}
 use Rattle.crc16.proofs.WordLaws.{crc_from-number}
 use Rattle.crc16.proofs.by_half.Goals as goal
@@ -8,5 +11,6 @@ use Rattle.crc16.proofs.by_half.Goals as goal
 pub returns : goal.returns
 returns c =
     let start = c.args in
-    let passed = crc_from-number 4 start.at (register start.a) start.bytes.now (λ i. (c.type_inv.bytes i).fits) (omega arith) in
-    c.by_bytes-2.ensures ∙ (rw (c.half_more.ensures, c.u32_at.ensures) passed)
+    let passed = crc_from-number 4 0 (register start.a) start.bytes.now (λ i. (c.type_inv.bytes i).fits) (omega arith) in
+    let rest = between_to_end start.bytes.now 4 (length start.bytes.now) (le_refl (length start.bytes.now)) in
+    c.by_bytes-2.ensures ∙ (rw (c.half_more.ensures, c.u32_at.ensures, rest) (rw zero-add at passed))

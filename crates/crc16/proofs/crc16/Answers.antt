@@ -13,5 +13,5 @@ pub returns-then-n-le8 : goal.returns-then-n-le8
 returns-then-n-le8 c = let s = c.args.bytes.now in
     c.register_of.ensures ∙ c.raised.ensures ∙ (rw c.few.ensures (ap crc_of (bytes_of-number s (λ i. (c.type_inv.bytes i).fits))))
 
-pub returns-then-n-ge10 : goal.returns-then-n-ge10
-returns-then-n-ge10 c = c.register_of-then-n-ge10.ensures ∙ c.two_words.ensures
+pub returns-then-n-lt16 : goal.returns-then-n-lt16
+returns-then-n-lt16 c = c.register_of-then-n-lt16.ensures ∙ c.two_words.ensures

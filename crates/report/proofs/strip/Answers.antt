@@ -10,7 +10,7 @@ strip_of-requires c =
     let at_pre = c.requires in
     let given = log_and_rows at-args.room.now at-args.figures.now in
     let put = strip-put at-args.file.now at-args.page given _ at-put-next-strip.result _ at_pre at-put-next-strip.ensures in
-    record { before = _; put = rw c.in-Done.is at put }
+    record { before = _; put = rw c.in-Ok.is at put }
 
 pub returns : goal.returns
 returns c =

@@ -6,13 +6,7 @@ use Rattle.calendar.proofs.DateLaws.{no-month, turns}
 use Rattle.calendar.proofs.date.days_in_month.Goals as goal
 
 pub returns-then-year-ge-YEARS : goal.returns-then-year-ge-YEARS
-returns-then-year-ge-YEARS c = sym (no-month c.args.year c.args.month (λ h. omega (arith, h.year-below)))
-
-pub returns-then-month-eq0 : goal.returns-then-month-eq0
-returns-then-month-eq0 c = sym (no-month c.args.year c.args.month (λ h. omega (arith, h.month-from)))
-
-pub returns-then-month-gt-DECEMBER : goal.returns-then-month-gt-DECEMBER
-returns-then-month-gt-DECEMBER c = sym (no-month c.args.year c.args.month (λ h. omega (arith, h.month-to)))
+returns-then-year-ge-YEARS c = sym (no-month c.args.year c.args.month (λ h. omega arith))
 
 pub returns-then-month-eq-FEBRUARY : goal.returns-then-month-eq-FEBRUARY
 returns-then-month-eq-FEBRUARY c =

@@ -5,9 +5,6 @@ use Rattle.calendar.specs.Date.{date_on, days_later, day_number}
 use Rattle.calendar.proofs.DateLaws.{ranges}
 use Rattle.calendar.proofs.date.days_later.Goals as goal
 
-pub month_number-requires : goal.month_number-requires
-month_number-requires c = sym c.is_date.ensures ∙ c.if-is_date.true
-
 pub overflow_sub-d : goal.overflow_sub-d
 overflow_sub-d c =
     let args = c.args in
@@ -20,7 +17,3 @@ returns-then-is_date c =
     let is-date = c.is_date in
     let if1 = c.if-is_date in
     rw (sym is-date.ensures, if1.true) (c.carried.ensures ∙ rw c.month_number.ensures (ap date_on (sym (add_assoc _ _ _))))
-
-pub returns-else-is_date : goal.returns-else-is_date
-unfolding days_later day_number
-returns-else-is_date c = rw (sym c.is_date.ensures, c.if-is_date.false)

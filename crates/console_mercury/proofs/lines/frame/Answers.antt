@@ -1,28 +1,15 @@
--- `frame` meets its contract: one word behind the first, and what `read_bytes` read picks the clause of `frame_in`.
+-- `frame` meets its contract: what `read_bytes` read picks the clause of `frame_in`.
 use mathlib.Core.Path.{sym}
-use borrow.Author.Tests.{eq-eqb, ne_eqb}
+use borrow.Author.Tests.{eq-eqb}
 use Rattle.console_mercury.specs.Lines.{frame_line, frame_in, frame_of}
 use Rattle.console_mercury.proofs.lines.frame.Goals as goal
 
-pub returns-then-spaces-ne1 : goal.returns-then-spaces-ne1
+pub returns-in-Some : goal.returns-in-Some
 unfolding frame_line frame_in frame_of
-returns-then-spaces-ne1 c = rw (sym c.spaces.ensures, ne_eqb _ _ c.if-spaces-ne1.true)
+returns-in-Some c =
+    rw (sym c.spaces.ensures, eq-eqb _ _ c.if-spaces-ne1.false, sym c.word.ensures, sym c.read_bytes.ensures, c.in-Some.is, sym c.part.ensures) c.frame_of.ensures
 
-pub returns-in-Bytes : goal.returns-in-Bytes
+pub returns-in-None : goal.returns-in-None
 unfolding frame_line frame_in frame_of
-returns-in-Bytes c =
-    let at-spaces = c.spaces in
-    let at-if1 = c.if-spaces-ne1 in
-    let at-word = c.word in
-    let at-read-bytes = c.read_bytes in
-    let at_part = c.part in
-    rw (sym at-spaces.ensures, eq-eqb _ _ at-if1.false, sym at-word.ensures, sym at-read-bytes.ensures, c.in-Bytes.is, sym at_part.ensures) c.frame_of.ensures
-
-pub returns-in-Unread : goal.returns-in-Unread
-unfolding frame_line frame_in frame_of
-returns-in-Unread c =
-    let at-spaces = c.spaces in
-    let at-if1 = c.if-spaces-ne1 in
-    let at-word = c.word in
-    let at-read-bytes = c.read_bytes in
-    rw (sym at-spaces.ensures, eq-eqb _ _ at-if1.false, sym at-word.ensures, sym at-read-bytes.ensures, c.in-Unread.is)
+returns-in-None c =
+    rw (sym c.spaces.ensures, eq-eqb _ _ c.if-spaces-ne1.false, sym c.word.ensures, sym c.read_bytes.ensures, c.in-None.is)

@@ -1,16 +1,15 @@
--- `seconds_later` meets its contract: in the loop, `left` seconds from the record so far lead where all of them lead, and it ends as `left` shrinks.
-use mathlib.Core.Path.{refl, ap, ◌∙◌}
+-- `seconds_later` meets its contract: in the loop, the seconds that are left lead from the record so far where all of them lead.
+use Rattle.std.proofs.Common.{◌≡◌, ◌+◌, ◌-◌, ap, ◌∙◌, arith}
 use Rattle.console_meter.specs.SetLines.{later_by, record_after}
 use Rattle.console_meter.proofs.SetLinesLaws.{later-on, later-done}
 use Rattle.console_meter.proofs.seconds.seconds_later.Goals as goal
 
-pub loop-left-init : goal.loop-left-init
-loop-left-init c = refl
-
-pub loop-left-preserved : goal.loop-left-preserved
-loop-left-preserved c =
-    let loop = c.loop-left in
-    ap (later_by _) (c.record_after-after.ensures ∙ ap (λ a. record_after a loop.after) c.pass_second.ensures) ∙ later-on _ _ c.loop-left-test.true ∙ loop.invariant
+pub loop-passed-preserved : goal.loop-passed-preserved
+loop-passed-preserved c =
+    let loop = c.loop-passed in
+    let left : c.args.n - (loop.passed + 1) ≡ c.args.n - loop.passed - 1 = omega arith in
+    let once = c.record_after-after.ensures ∙ ap (λ a. record_after a loop.after) c.pass_second.ensures in
+    rw left (ap (later_by _) once ∙ later-on _ _ (omega arith) ∙ loop.invariant)
 
 pub returns : goal.returns
-returns c = later-done _ _ c.loop-left-test.false ∙ c.loop-left.invariant
+returns c = later-done (c.args.n - c.loop-passed.passed) _ (omega arith) ∙ c.loop-passed.invariant

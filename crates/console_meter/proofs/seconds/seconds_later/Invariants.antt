@@ -1,10 +1,7 @@
--- `seconds_later` meets its contract: in the loop, `left` seconds from the record so far lead where all of them lead, and it ends as `left` shrinks.
-use mathlib.Core.Path.{◌≡◌}
+-- `seconds_later` meets its contract: in the loop, the seconds that are left lead from the record so far where all of them lead.
+use Rattle.std.proofs.Common.{◌≡◌, ◌-◌}
 use Rattle.console_meter.specs.SetLines.{later_by}
 use Rattle.console_meter.proofs.seconds.seconds_later.Given as goal
 
-abbrev pub invariant-loop-left : goal.invariant-loop-left
-invariant-loop-left l = later_by l.left l.after ≡ later_by l.n l.initial.after
-
-abbrev pub decreases-loop-left : goal.decreases-loop-left
-decreases-loop-left l = l.left
+abbrev pub invariant-loop-passed : goal.invariant-loop-passed
+invariant-loop-passed l = later_by (l.n - l.passed) l.after ≡ later_by l.n l.initial.after

@@ -1,5 +1,6 @@
 -- `put_marked` meets its contract: the room is `put_text`'s own test; date, space, marks and line feed, each put where the one before ends, are the
 -- strip (`written-strip`).
+use Rattle.std.specs.Prelude.{Ok}
 use Prim.Native.Nat.{ℕ, ◌+◌, ◌<◌, ◌≤◌}
 use native.Mathlib.Omega.{arith}
 use mathlib.Core.List.{List, [], ◌∷◌}
@@ -10,7 +11,6 @@ use Rattle.byte_numbers.specs.Place.{written}
 use Rattle.refusal.specs.Outcome.{outcome}
 use Rattle.energy_log.specs.Image.{cell_at}
 use Rattle.day_report.proofs.StripLaws.{length-strip, length-day-marks, written-strip}
-use Rattle.day_report.specs.declared.answer.TextAnswer.TheVariants.{Done}
 use Rattle.day_report.specs.Strip.{marks_at, day_marks, strip_of}
 use Rattle.day_report.specs.Text.{put_text, space, line_feed, date_size}
 use Rattle.day_report.proofs.strip.put_marked.Goals as goal
@@ -44,4 +44,4 @@ returns c =
     (put-marks.ensures
     ∙ ap (λ (x : List ℕ). written x marks_at marks) (c.put_byte.ensures ∙ ap (λ (x : List ℕ). written x date_size (space ∷ [])) c.put_date.ensures))
     ∙ written-strip args.out.now args.date marks slots count in
-    simp (le-leb _ _ fits) (ap₂ (λ (k : ℕ) (x : List ℕ). outcome (Done k) x) size text)
+    simp (le-leb _ _ fits) (ap₂ (λ (k : ℕ) (x : List ℕ). outcome (Ok k) x) size text)

@@ -8,25 +8,22 @@ use borrow.Author.Tests.{le-leb, lt-leb}
 use mathlib.Core.Path.{sym, ap}
 use Rattle.energy_log.proofs.fresh.fresh_log.Goals as goal
 
+pub returns-then-not-is_header : goal.returns-then-not-is_header
+unfolding fresh_of
+returns-then-not-is_header c = simp (sym c.is_header.ensures, c.if-not-is_header.true)
+
 pub returns-then-out-length : goal.returns-then-out-length
 unfolding fresh_of
 returns-then-out-length c =
-    let at-is-header = c.is_header in
-    simp (sym at-is-header.ensures, c.if-is_header.true, sym c.length_of-length.ensures, lt-leb _ _ c.if-out-length.true)
+    simp (sym c.is_header.ensures, c.if-not-is_header.false, sym c.length_of-length.ensures, lt-leb _ _ c.if-out-length.true)
 
 pub write_gaps-requires : goal.write_gaps-requires
 write_gaps-requires c =
     (rw c.length_of-length.ensures (header-in c.args.h), rw (c.write_header.ensures, length-written) c.if-out-length.false)
 
-pub returns-then-is_header : goal.returns-then-is_header
-unfolding fresh_of
-returns-then-is_header c =
-    let right = c.is_header.ensures in
-    let length = c.length_of-length.ensures in
-    let image =
-    fresh-written c.args.out.now _ _ c.args.h _ length c.write_header.ensures c.write_gaps.ensures in
-    simp (sym right, c.if-is_header.true, sym length, le-leb _ _ c.if-out-length.false) (ap (outcome _) image)
-
 pub returns : goal.returns
 unfolding fresh_of
-returns c = simp (sym c.is_header.ensures, c.if-is_header.false)
+returns c =
+    let length = c.length_of-length.ensures in
+    let image = fresh-written c.args.out.now _ _ c.args.h _ length c.write_header.ensures c.write_gaps.ensures in
+    simp (sym c.is_header.ensures, c.if-not-is_header.false, sym length, le-leb _ _ c.if-out-length.false) (ap (outcome _) image)

@@ -1,5 +1,4 @@
 -- `put_cell_among` meets its contract: past the last cell nothing is put; else the kind, and then the counts.
-use Rattle.energy_log.proofs.ColumnLaws.{kind-four}
 use Rattle.energy_log.specs.Image.{put_cell_among}
 use borrow.Author.Tests.{lt-ltb, le-ltb}
 use mathlib.Core.Path.{◌∙◌}
@@ -8,11 +7,6 @@ use Rattle.energy_log.proofs.image.put_cell_among.Goals as goal
 pub returns-then-n-i : goal.returns-then-n-i
 unfolding put_cell_among
 returns-then-n-i c = simp (le-ltb _ _ c.if-n-i.true)
-
-pub put_kind-requires : goal.put_kind-requires
-put_kind-requires c =
-    let at-args = c.args in
-    rw c.kind_of.ensures (kind-four at-args.c)
 
 pub returns : goal.returns
 unfolding put_cell_among

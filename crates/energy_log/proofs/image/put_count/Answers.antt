@@ -2,25 +2,13 @@
 use Rattle.energy_log.proofs.ColumnLaws.{two-put}
 use Rattle.byte_numbers.specs.Place.{written}
 use Rattle.byte_numbers.specs.Number.{bytes_of}
-use lib.ListN.{length-set}
 use native.Mathlib.Omega.{arith}
 use Prim.Native.Nat.{ℕ}
 use mathlib.Core.Path.{ap, ◌∙◌}
 use Rattle.energy_log.proofs.image.put_count.Goals as goal
-
-pub bounds-log-at-then-size_for-log : goal.bounds-log-at-then-size_for-log
-bounds-log-at-then-size_for-log c =
-    let at_pre = c.requires in
-    simp length-set (omega (arith, c.if-size_for-log.true, c.size_for.ensures, c.count_place-at.ensures, at_pre))
 
 pub returns-then-size_for-log : goal.returns-then-size_for-log
 returns-then-size_for-log c =
     let at-args = c.args in
     let at-fits = c.ranges in
     two-put at-args.log.now _ at-args.x (omega (arith, at-fits.x)) ∙ ap (λ (k : ℕ). written at-args.log.now k (bytes_of 2 at-args.x)) c.count_place-at.ensures
-
-pub returns : goal.returns
-returns c =
-    let at-args = c.args in
-    let at-count-place = c.count_place-at in
-    c.put_u16.ensures ∙ ap (λ (k : ℕ). written at-args.log.now k (bytes_of 2 at-args.x)) at-count-place.ensures

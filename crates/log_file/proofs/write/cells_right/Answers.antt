@@ -11,8 +11,8 @@ returns-then-cells_good c =
     let good = ap (λ (k : ℕ). good_from (cell_at f) 0 k) (sym c.cells_of.ensures) ∙ sym c.cells_good.ensures ∙ c.if-cells_good.true in
     c.missing_fresh.ensures ∙ sym (right-by-run c.args.h (cell_at f) (lapses_at f) c.requires good)
 
-pub returns : goal.returns
-returns c =
+pub returns-else-cells_good : goal.returns-else-cells_good
+returns-else-cells_good c =
     let f = c.args.log.now in
     let bad = ap (λ (k : ℕ). good_from (cell_at f) 0 k) (sym c.cells_of.ensures) ∙ sym c.cells_good.ensures ∙ c.if-cells_good.false in
-    sym (wrong-by-walk c.args.h (cell_at f) (lapses_at f) bad)
+    c.if-cells_good.false ∙ sym (wrong-by-walk c.args.h (cell_at f) (lapses_at f) bad)

@@ -7,14 +7,11 @@ use Rattle.byte_numbers.specs.Place.{written}
 use lib.ListN.{length}
 use mathlib.Core.Path.{◌≡◌}
 use mathlib.Core.Bool.{true}
-use Prim.Native.Nat.{◌-◌, ◌≤◌}
+use Prim.Native.Nat.{◌-◌}
 use Rattle.log_file.proofs.write.put_rows.Given as goal
 
 abbrev pub invariant-loop-i : goal.invariant-loop-i
 invariant-loop-i l =
-    (l.i ≤ l.cells) × (length l.out ≡ length l.initial.out) × (good_from (cell_at l.log) l.i (l.cells - l.i) ≡ true)
+    (length l.out ≡ length l.initial.out) × (good_from (cell_at l.log) l.i (l.cells - l.i) ≡ true)
     × (written l.out (row_start version l.i) (rows_bytes version l.i (goods_from (cell_at l.log) l.i (l.cells - l.i)) (lapses_at l.log))
     ≡ written l.initial.out header_size (rows_bytes version 0 (goods_from (cell_at l.log) 0 l.cells) (lapses_at l.log)))
-
-abbrev pub decreases-loop-i : goal.decreases-loop-i
-decreases-loop-i l = l.cells - l.i

@@ -11,7 +11,7 @@ returns-then-is_sound c =
     let args = c.args in
     simp (sound-where args.log.now, sym c.is_sound.ensures, c.if-is_sound.true, c.header_at.ensures)
 
-pub returns : goal.returns
-returns c =
+pub returns-else-is_sound : goal.returns-else-is_sound
+returns-else-is_sound c =
     let args = c.args in
     simp (sound-where args.log.now, sym c.is_sound.ensures, c.if-is_sound.false)

@@ -1,14 +1,11 @@
--- `one_by_one` meets its contract: the loop keeps that a walk over the places left finds what a walk over all finds; it ends as they run out.
+-- `one_by_one` meets its contract: the loop keeps that a walk over the places left finds what a walk over all finds.
 use Rattle.meter_store.proofs.FindLaws.{first-hit, first-miss, first-end}
 use Rattle.meter_store.specs.Store.{key_of, first_from}
 use Prim.Native.Nat.{ℕ, suc, ◌+◌, ◌-◌}
 use native.Mathlib.Numerals.{add-one}
 use native.Mathlib.Omega.{arith}
-use mathlib.Core.Path.{◌≡◌, sym, refl, ap, ◌∙◌}
+use mathlib.Core.Path.{◌≡◌, sym, ap, ◌∙◌}
 use Rattle.meter_store.proofs.find.one_by_one.Goals as goal
-
-pub loop-i-init : goal.loop-i-init
-loop-i-init c = (c.requires, refl)
 
 pub returns-then-holds : goal.returns-then-holds
 returns-then-holds c =
@@ -18,13 +15,7 @@ returns-then-holds c =
     let k = key_of start.month start.day start.number in
     let left = start.to - (turn.i + 1) in
     let e : start.to - turn.i ≡ suc left = omega arith in
-    sym (first-hit s k turn.i left (sym c.holds.ensures ∙ c.if-holds.true)) ∙ sym (ap (first_from s k turn.i) e) ∙ turn.invariant.1
-
-pub overflow_add-i : goal.overflow_add-i
-overflow_add-i c = omega arith
-
-pub loop-i-smaller : goal.loop-i-smaller
-loop-i-smaller c = omega arith
+    sym (first-hit s k turn.i left (sym c.holds.ensures ∙ c.if-holds.true)) ∙ sym (ap (first_from s k turn.i) e) ∙ turn.invariant
 
 pub loop-i-preserved : goal.loop-i-preserved
 loop-i-preserved c =
@@ -33,13 +24,11 @@ loop-i-preserved c =
     let s = start.store.now in
     let k = key_of start.month start.day start.number in
     let left = start.to - (turn.i + 1) in
-    let e : start.to - turn.i ≡ suc left = omega arith in (
-      omega arith,
-      ap (λ (m : ℕ). first_from s k m left) (add-one turn.i)
-          ∙ sym (first-miss s k turn.i left (sym c.holds.ensures ∙ c.if-holds.false))
-          ∙ sym (ap (first_from s k turn.i) e)
-          ∙ turn.invariant.1,
-    )
+    let e : start.to - turn.i ≡ suc left = omega arith in
+    ap (λ (m : ℕ). first_from s k m left) (add-one turn.i)
+    ∙ sym (first-miss s k turn.i left (sym c.holds.ensures ∙ c.if-holds.false))
+    ∙ sym (ap (first_from s k turn.i) e)
+    ∙ turn.invariant
 
 pub returns : goal.returns
 returns c =
@@ -48,4 +37,5 @@ returns c =
     let s = start.store.now in
     let k = key_of start.month start.day start.number in
     let e : start.to - turn.i ≡ 0 = omega arith in
-    sym (first-end s k turn.i) ∙ sym (ap (first_from s k turn.i) e) ∙ turn.invariant.1
+    let last : start.to ≡ turn.i = omega arith in
+    last ∙ sym (first-end s k turn.i) ∙ sym (ap (first_from s k turn.i) e) ∙ turn.invariant

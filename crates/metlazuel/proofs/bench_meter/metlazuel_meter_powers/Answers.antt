@@ -1,7 +1,9 @@
 -- `metlazuel_meter_powers` meets its contract: `keep` tells what `powers_in` ensures, and bits that are no number fare as the infinity does.
+use Rattle.std.specs.Prelude.{Result}
+use Rattle.meter_record.specs.declared.record.Record.{Record}
+use Rattle.meter_record.specs.declared.record.RecordError.{RecordError}
 use Rattle.metlazuel.proofs.BitsLaws.{powers-from}
 use mathlib.Core.Path.{ap, ◌∙◌}
-use Rattle.meter_record.specs.declared.record.RecordAnswer.{RecordAnswer}
 use Rattle.metlazuel.specs.MeterCalls.{bench_for_c}
 use Rattle.metlazuel.proofs.bench_meter.metlazuel_meter_powers.Goals as goal
 
@@ -14,5 +16,5 @@ returns c =
     let record_of = c.record_of in
     let powers-in = c.powers_in-answer in
     c.keep.ensures
-    ∙ ap (λ (a : RecordAnswer). bench_for_c a args.meter.now)
+    ∙ ap (λ (a : Result Record RecordError). bench_for_c a args.meter.now)
     (powers-in.ensures ∙ rw (record_of.ensures, float-from.ensures, float-from2.ensures, float-from3.ensures) (powers-from _ args.parameter args.a args.b args.c))

@@ -3,9 +3,6 @@ use native.Mathlib.Omega.{arith}
 use Rattle.polling.proofs.ReachedLaws.{settles}
 use Rattle.poll_days.proofs.days.ask_settled.Goals as goal
 
-pub returns : goal.returns
-returns c =
-    let at-args = c.args in
-    let at-settle = c.settle in
-    let reached = settles _ _ at-args.reply.now _ at-settle.result (λ i. omega (arith, c.type_inv.reply i)) at-settle.ensures in
-    record { figures_after = at-settle.ensures; reached = reached }
+pub returns-clause-reached : goal.returns-clause-reached
+returns-clause-reached c =
+    settles _ _ c.args.reply.now _ c.settle.result (λ i. omega (arith, c.type_inv.reply i)) c.settle.ensures

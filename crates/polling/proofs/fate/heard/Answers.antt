@@ -1,13 +1,14 @@
 -- Nothing heard is the clause for no bytes; else the reply was taken, and its answer is the fate.
 use Rattle.polling.proofs.FateLaws.{heard-nothing, heard-some}
-use mathlib.Core.Path.{sym}
+use borrow.Author.Tests.{eqb-true, eqb-false}
+use lib.ListN.{length}
+use mathlib.Core.Path.{sym, ◌∙◌}
 use Rattle.polling.proofs.fate.heard.Goals as goal
 
-pub returns-then-reply-eq0 : goal.returns-then-reply-eq0
-returns-then-reply-eq0 c = sym (heard-nothing _ _ _ c.if-reply-eq0.true)
+pub returns-then-is_empty : goal.returns-then-is_empty
+returns-then-is_empty c = sym (heard-nothing _ _ _ (eqb-true (length c.args.reply.now) 0 (sym c.is_empty.ensures ∙ c.if-is_empty.true)))
 
 pub returns : goal.returns
 returns c =
-    let at-if1 = c.if-reply-eq0 in
-    let at-take-reply = c.take_reply-taken in
-    simp c.fate_of.ensures (heard-some _ _ _ _ _ at-if1.false at-take-reply.ensures)
+    simp c.fate_of.ensures
+    (heard-some _ _ _ _ _ (eqb-false (length c.args.reply.now) 0 (sym c.is_empty.ensures ∙ c.if-is_empty.false)) c.take_reply-taken.ensures)

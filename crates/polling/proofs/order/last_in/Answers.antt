@@ -1,22 +1,13 @@
 -- `last_in` meets its contract: in the loop, the last that is asked for before `i` is the one before `end`; one at `i` is it, and at the front there is none.
-use mathlib.Core.Path.{refl, sym, ◌∙◌}
+use mathlib.Core.Path.{sym, ◌∙◌}
 use native.Mathlib.Omega.{arith}
 use Rattle.polling.proofs.OrderLaws.{down-stops, down-on, down_ends}
 use Rattle.polling.proofs.order.last_in.Goals as goal
-
-pub loop-i-init : goal.loop-i-init
-loop-i-init c = refl
-
-pub overflow_sub-i : goal.overflow_sub-i
-overflow_sub-i c = omega arith
 
 pub returns-then-asks_for : goal.returns-then-asks_for
 returns-then-asks_for c =
     let at-loop = c.loop-i in
     sym (down-stops _ _ _ _ at-loop.i c.loop-i-test.true (sym c.asks_for.ensures ∙ c.if-asks_for.true)) ∙ at-loop.invariant
-
-pub loop-i-smaller : goal.loop-i-smaller
-loop-i-smaller c = omega arith
 
 pub loop-i-preserved : goal.loop-i-preserved
 loop-i-preserved c =

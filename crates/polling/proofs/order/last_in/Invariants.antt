@@ -6,6 +6,3 @@ use Rattle.polling.proofs.order.last_in.Given as goal
 
 abbrev pub invariant-loop-i : goal.invariant-loop-i
 invariant-loop-i l = last_in l.wanted l.h (cell_at l.log) l.day l.i ≡ last_in l.wanted l.h (cell_at l.log) l.day l.end
-
-abbrev pub decreases-loop-i : goal.decreases-loop-i
-decreases-loop-i l = l.i

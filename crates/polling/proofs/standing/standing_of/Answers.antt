@@ -1,10 +1,8 @@
 -- `standing_of` meets its contract: the date picks the clause of `standing_on`; days below a century's and a day's minutes fit 32 bits.
 use Rattle.polling.proofs.MomentLaws.{days-most, over-most}
-use Rattle.polling.specs.Standing.{standing_of, standing_on}
 use Prim.Native.Nat.{◌+◌, ◌≤◌}
 use native.Mathlib.Nat.{mul-le-mul}
 use native.Mathlib.Omega.{arith}
-use mathlib.Core.Path.{sym, ◌∙◌}
 use borrow.Author.Rules.{rules}
 use Rattle.polling.proofs.standing.standing_of.Goals as goal
 
@@ -24,17 +22,3 @@ overflow_add-days_to c =
     let m : args.h.minutes ≤ 255 = search rules in
     let k : args.slot + 1 ≤ 256 = search rules in
     omega (arith, days-most _ _ c.days_to.ensures, over-most _ _ _ c.over_at.ensures, mul-le-mul m k)
-
-pub returns-in-On : goal.returns-in-On
-unfolding standing_of standing_on
-returns-in-On c =
-    let at-days-later = c.days_later in
-    simp (sym at-days-later.ensures ∙ c.in-On.is, c.by_now.ensures, c.over_at.ensures, c.days_to.ensures)
-
-pub returns-in-NotADate : goal.returns-in-NotADate
-unfolding standing_of standing_on
-returns-in-NotADate c = simp (sym c.days_later.ensures ∙ c.in-NotADate.is)
-
-pub returns-in-OutOfRange : goal.returns-in-OutOfRange
-unfolding standing_of standing_on
-returns-in-OutOfRange c = simp (sym c.days_later.ensures ∙ c.in-OutOfRange.is)

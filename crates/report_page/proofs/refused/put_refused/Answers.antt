@@ -1,4 +1,5 @@
 -- `put_refused` meets its contract: the room is `put_text`'s own test, and word, number and line feed are the line (`written-refused`).
+use Rattle.std.specs.Prelude.{Ok}
 use native.Mathlib.Omega.{arith}
 use lib.ListN.{length}
 use Prim.Native.Nat.{ℕ, ◌+◌, ◌<◌, ◌≤◌}
@@ -12,7 +13,6 @@ use Rattle.text.proofs.DecimalLaws.{decimal-most-u32}
 use Rattle.report_page.proofs.PageLaws.{length-refused, written-refused}
 use Rattle.report_page.specs.Page.{refused_text}
 use Rattle.refusal.specs.Outcome.{outcome}
-use Rattle.day_report.specs.declared.answer.TextAnswer.TheVariants.{Done}
 use Rattle.day_report.specs.Text.{put_text, line_feed}
 use Rattle.report_page.proofs.refused.put_refused.Goals as goal
 
@@ -44,4 +44,4 @@ returns c =
     ∙ ap₂ (λ (x : List ℕ) (k : ℕ). written x (8 + k) (line_feed ∷ []))
     (put-decimal.ensures.0 ∙ ap (λ (x : List ℕ). written x 8 (decimal args.number)) put-bytes.ensures) digits.ensures
     ∙ written-refused args.out.now args.number in
-    simp (le-leb _ _ fits) (ap₂ (λ (k : ℕ) (x : List ℕ). outcome (Done k) x) size text)
+    simp (le-leb _ _ fits) (ap₂ (λ (k : ℕ) (x : List ℕ). outcome (Ok k) x) size text)

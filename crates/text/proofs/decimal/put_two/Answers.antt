@@ -2,29 +2,10 @@
 use mathlib.Core.List.{List, [], ◌∷◌}
 use mathlib.Core.Path.{sym, ap, ◌∙◌}
 use Prim.Native.Nat.{ℕ, ◌+◌, ◌%◌}
-use native.Mathlib.Omega.{arith}
 use Rattle.byte_numbers.specs.Place.{written}
 use Rattle.byte_numbers.proofs.PlaceLaws.{written-cons, written-past}
 use Rattle.text.specs.Decimal.{digit, padded}
 use Rattle.text.proofs.decimal.put_two.Goals as goal
-
-pub overflow_add-n : goal.overflow_add-n
-overflow_add-n c = omega arith
-
-pub put_byte-requires : goal.put_byte-requires
-put_byte-requires c = tt
-
-pub overflow_add-at : goal.overflow_add-at
-overflow_add-at c = omega arith
-
-pub overflow_add-n-then-at-out : goal.overflow_add-n-then-at-out
-overflow_add-n-then-at-out c = omega arith
-
-pub put_byte-requires-then-at-out : goal.put_byte-requires-then-at-out
-put_byte-requires-then-at-out c = tt
-
-pub shape_of-out : goal.shape_of-out
-shape_of-out c = omega arith
 
 pub returns-then-at-out : goal.returns-then-at-out
 unfolding padded
