@@ -2,14 +2,10 @@
 use mathlib.Core.Path.{◌≡◌, refl, sym, ap, ap₂, ◌∙◌}
 use mathlib.Core.List.{List, [], ◌∷◌, ◌++◌, append_assoc}
 use mathlib.Core.Logic.{◌⊎◌, inl, inr}
-use Prim.Native.Nat.{ℕ, zero, suc, min, ◌+◌, ◌-◌, ◌*◌, ◌/◌, ◌%◌, ◌^◌, ◌≤◌, ◌<◌}
-use mathlib.Core.Bool.{Bool, true, false}
-use lib.Dec.{ltb}
-use borrow.Author.Tests.{ltb-true, ltb-false}
+use Prim.Native.Nat.{ℕ, zero, suc, ◌+◌, ◌*◌, ◌/◌, ◌%◌, ◌^◌, ◌≤◌, ◌<◌}
 use native.Mathlib.Nat.{add-zero, add-suc, suc-add, zero-add, not-suc-le-zero}
 use native.Mathlib.Omega.{arith}
-use borrow.Rule.Slice.PartMut.{put_mid}
-use lib.ListN.{length, take, drop, set, length-set, drop_of_length-le, take-append-drop}
+use lib.ListN.{length, take, drop, set, length-set, drop_of_length-le}
 use lib.Seq.{sets, sets-eq, take-set-le, drop-set-lt, take-nil, take_at, drop_at, drop-drop, drop-append-add, length-take-le, get_or-set_same, get_or-set_other, set_out}
 use Rattle.byte_numbers.specs.Number.{number, bytes_of}
 use Rattle.byte_numbers.proofs.NumberLaws.{length-bytes_of, number-bytes_of, bytes_of-low, bytes_of-split, number-split}
@@ -179,25 +175,3 @@ pub written-past : {A : Type 0} (s : List A) (i : ℕ) (bs : List A) → length 
 unfolding written
 written-past s i [] h = refl
 written-past s i (b ∷ bs) h = written-past (set s i b) (suc i) bs (simp length-set (omega arith)) ∙ set_out s i b h
-
--- what the end leaves of the bytes is stored at once: for `put_bytes`, which copies it
-pub written-cut : {A : Type 0} (s : List A) (i n : ℕ) (bs : List A) → i ≤ length s → n ≡ min (length bs) (length s - i)
-    → written s i bs ≡ put_mid i (i + n - i) s (take n bs)
-unfolding written
-written-cut s i n bs h m =
-    let k : length (take n bs) ≡ n = length-take-le n bs (omega arith) in
-    let e : i + n - i ≡ n = omega arith in
-    ap (written s i) (sym (take-append-drop n bs))
-    ∙ written-append s i (take n bs) (drop n bs)
-    ∙ rest (ltb n (length bs)) refl
-    ∙ written-fits s i (take n bs) (omega arith)
-    ∙ rw (k, e, drop-drop) refl
-  where
-    rest : (b : Bool) → ltb n (length bs) ≡ b
-        → written (written s i (take n bs)) (i + length (take n bs)) (drop n bs) ≡ written s i (take n bs)
-    rest true t =
-        let k : length (take n bs) ≡ n = length-take-le n bs (omega arith) in
-        let l : n < length bs = ltb-true _ _ t in
-        written-past (written s i (take n bs)) (i + length (take n bs)) (drop n bs) (simp length-written (omega arith))
-    rest false t =
-        ap (written (written s i (take n bs)) (i + length (take n bs))) (drop_of_length-le bs (ltb-false _ _ t))

@@ -99,7 +99,10 @@ pub fn put_all<T: Copy>(out: &mut [T], at: usize, items: &[T])
 {
     if at < out.len() {
         let n = items.len().min(out.len() - at);
-        out[at..at + n].copy_from_slice(&items[..n]);
+        // Not by `copy_from_slice`: it compares addresses, which tools/build-for takes for no machine but this one.
+        for i in 0..n {
+            out[at + i] = items[i];
+        }
     }
 }
 

@@ -8,6 +8,8 @@ ghost use Rattle.c_values.specs.Ask.{ask_bytes, ask_of};
 
 use logger::OpenAsk;
 
+pub const ASK_BYTES: usize = 4;
+
 // The first byte.
 const CLOSED: u8 = 0;
 
@@ -30,10 +32,9 @@ pub fn ask_of(bytes: &[u8]) -> Option<Option<OpenAsk>>
 pub fn put_ask(out: &mut [u8], held: Option<OpenAsk>)
     ensures { out.new ≡ written out.old 0 (ask_bytes held) }
 {
-    match held {
-        None => byte_numbers::put_bytes(out, 0, &[CLOSED, 0, 0, 0]),
-        Some(OpenAsk { address, day, slot }) => {
-            byte_numbers::put_bytes(out, 0, &[OPEN, address, day, slot])
-        }
-    }
+    let bytes: [u8; ASK_BYTES] = match held {
+        None => [CLOSED, 0, 0, 0],
+        Some(OpenAsk { address, day, slot }) => [OPEN, address, day, slot],
+    };
+    byte_numbers::put_bytes(out, 0, &bytes);
 }

@@ -4,5 +4,5 @@
 mod ask;
 mod row;
 
-pub use ask::{ask_of, put_ask};
+pub use ask::{ASK_BYTES, ask_of, put_ask};
 pub use row::{figures_for, put_figures};

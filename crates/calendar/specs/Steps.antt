@@ -1,5 +1,5 @@
--- What steps inside the code compute. No public contract cites these, and nothing has to be believed of them: TimeLaws says what they are
--- good for.
+-- What steps inside the code compute. No public contract cites these but `time_error`, which `TimeError::from` does; of the others nothing has to be
+-- believed: TimeLaws says what they are good for.
 use Rattle.calendar.specs.declared.date.Date.{Date}
 use Rattle.calendar.specs.declared.date.DateError.{DateError}
 use Rattle.calendar.specs.declared.time.DateTime.{DateTime}

@@ -21,7 +21,6 @@ pub fn print(rt: HostRuntime, called: Called, out: &[u8]) {
     }
 }
 
-// A reply; none where the meter is silent.
 fn record(rt: HostRuntime, r: Record) {
     say::first(rt, refusal::DONE);
     say::number(rt, u64::from(r.address));

@@ -10,6 +10,7 @@ ghost use Rattle.day_report.specs.Strip.{mark, marks_at, day_marks, strip_of, st
 use crate::answer::ReportError;
 use crate::line::{DATE_BYTES, LINE_FEED, SPACE};
 use calendar::Date;
+use energy_log::Walk;
 use log_cell::Cell;
 use log_header::Header;
 
@@ -59,12 +60,11 @@ fn put_marked(
 fn put_marks(out: &mut [u8], log: &[u8], h: Header, day: u8)
     ensures { out.new ≡ written out.old marks_at (day_marks (cell_at log.now) h day) }
 {
-    let slots = slots::slots_of(h.minutes);
-    let night = log_header::night_on(h, day);
-    let first = day as usize * slots as usize;
-    for slot in 0..slots {
-        let missing = season_nights::is_missing(night, h.minutes, slot);
-        let mark = mark_at(log, missing, first + slot as usize);
+    let first = energy_log::walk_day(h, day);
+    for slot in 0..first.slots {
+        let at = Walk { slot, ..first };
+        let missing = season_nights::is_missing(at.night, h.minutes, at.slot);
+        let mark = mark_at(log, missing, energy_log::index_of(at));
         byte_numbers::put_byte(out, MARKS + slot as usize, mark);
     }
 }

@@ -4,7 +4,7 @@ use Rattle.energy_log.specs.declared.fresh.FreshError.{FreshError}
 use Prim.Native.Nat.{ℕ, ◌<◌, ◌≤◌}
 use native.Mathlib.Nat.{zero-add}
 use native.Mathlib.Omega.{arith}
-use mathlib.Core.Path.{◌≡◌, sym, ap, ap₂, subst, ◌∙◌}
+use mathlib.Core.Path.{◌≡◌, refl, sym, ap, ap₂, subst, ◌∙◌}
 use mathlib.Core.Bool.{Bool, true, false, cond}
 use mathlib.Core.List.{List, ◌++◌}
 use lib.Dec.{leb}
@@ -67,6 +67,17 @@ module _ (h : Header) (out figs : List ℕ) (many : figures_of h ≤ length figs
       go true false e = ap (λ (o : Outcome (Result ℕ FreshError) (List ℕ)). outcome o.result (log_and_rows o.left figs)) e
       go false d e = ap (λ (o : Outcome (Result ℕ FreshError) (List ℕ)). outcome o.result (log_and_rows o.left figs)) e
 
+-- it was made of a header
+pub fresh-header : (h : Header) (out y : List ℕ) (n : ℕ) → outcome (Ok n) y ≡ fresh_of h out → is_header h ≡ true
+unfolding fresh_of
+fresh-header h out y n p = go (is_header h) refl p
+  where
+    go : (a : Bool) → is_header h ≡ a
+        → outcome (Ok n) y ≡ cond a (cond (leb (length_of h) (length out)) (outcome (Ok (length_of h)) (written out 0 (fresh_image h))) (outcome (Err TooShort) out)) (outcome (Err OutOfRange) out)
+        → is_header h ≡ true
+    go true e q = e
+    go false e q = absurd (omega (arith, ap (λ (o : Outcome (Result ℕ FreshError) (List ℕ)). fresh_number o.result) q))
+
 -- no refusal has the number 0
 pub refusal-number : (e : FreshError) → 0 < fresh_number (Err e)
 refusal-number OutOfRange = omega arith
@@ -101,11 +112,11 @@ pub record Made (h : Header) (out figs : List ℕ) (left : LogAndRows) (n : ℕ)
   pub same_length : length left.figures ≡ length figs
   pub right : Right h (cell_at (fresh_image h)) left.figures
 
--- a refusal is not `Done`
+-- a refusal is not `Ok`
 refused : (a : Result ℕ FreshError) (x y : LogAndRows) (n : ℕ) → 0 < fresh_number a → outcome a x ≡ outcome (Ok n) y → ⊥
 refused a x y n l p = omega (arith, ap (λ (o : Outcome (Result ℕ FreshError) LogAndRows). fresh_number o.result) p)
 
--- a call that says `Done` has made the log and its figures
+-- a call that says `Ok` has made the log and its figures
 pub fresh-made : (h : Header) (out figs : List ℕ) (left : LogAndRows) (n : ℕ) → fresh_with h out figs ≡ outcome (Ok n) left → Made h out figs left n
 unfolding fresh_with
 fresh-made h out figs left n p =

@@ -11,11 +11,11 @@ use log_header::Header;
 pub fn fresh_log(h: Header, out: &mut [u8], figures: &mut [u32]) -> Result<usize, FreshError>
     ensures { outcome result (log_and_rows out.new figures.new) ≡ fresh_with h out.old figures.old }
 {
-    // That the header is none is said first, also of too few figures.
-    if !log_header::is_header(h) {
-        return Err(FreshError::OutOfRange);
-    }
     if figures.len() < crate::rows::figures_of(h) {
+        // That the header is none is said first, also of too few figures.
+        if !log_header::is_header(h) {
+            return Err(FreshError::OutOfRange);
+        }
         return Err(FreshError::TooShort);
     }
     let length = energy_log::fresh_log(h, out)?;

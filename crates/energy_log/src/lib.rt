@@ -1,5 +1,5 @@
 // The log of slices as it stands in memory, its image: fourteen bytes of header, and behind them the kinds of all cells at two bits each, a
-// column for each of their counts, and their lapses. It reads and writes single cells, and makes a fresh log.
+// column for each of their counts, and their lapses. It reads and writes single cells, steps along its intervals in time order, and makes a fresh log.
 // Other crates speak of a log by these functions and their definitions alone, so that a change of the layout stays in here.
 #![tactic(auto)]
 
@@ -7,6 +7,7 @@ mod fresh;
 mod image;
 mod look;
 mod pair;
+mod walk;
 
 pub use fresh::{FreshError, fresh_log};
 pub use image::{
@@ -16,3 +17,7 @@ pub use image::{
 pub use look::{
     e_minus_among, e_plus_among, is_good_among, kind_among, r_minus_among, r_plus_among,
 };
+pub use walk::{Walk, index_of, next, walk_day};
+
+#[cfg(test)]
+mod tests;

@@ -52,7 +52,7 @@ fn closest_whole(a: u64, unit: u64) -> u32
     let twice = a % unit * 2;
     match twice.cmp(&unit) {
         Ordering::Less => whole,
-        Ordering::Equal => whole + whole % 2,
+        Ordering::Equal => { if whole % 2 == 0 { whole } else { whole + 1 } }
         Ordering::Greater => whole + 1,
     }
 }

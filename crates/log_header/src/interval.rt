@@ -20,6 +20,7 @@ pub fn interval_of(h: Header, day: u8, slot: u8) -> Option<usize>
 }
 
 // Whether a day has a slot. Past the log's own days and slots it says what the calendar does.
+#[tactic(auto, unfolding(crate::specs::Interval::exists, season_nights::specs::Night::missing))]
 pub fn exists(h: Header, day: u8, slot: u8) -> bool
     ensures { result ≡ exists h day slot }
 {

@@ -84,6 +84,26 @@ impl TakeError {
     }
 }
 
+impl Answered<TakeError> {
+    // What 24 returns, of any answer: the others leave what was there.
+    pub fn result_or(self, other: u8) -> u8
+        ensures { result ≡ result_or self.answer other }
+    {
+        self.answer
+            .err()
+            .map_or(other, |refusal| refusal.result_or(other))
+    }
+
+    // And what 50 returns.
+    pub fn length_or(self, other: usize) -> usize
+        ensures { result ≡ length_or self.answer other }
+    {
+        self.answer
+            .err()
+            .map_or(other, |refusal| refusal.length_or(other))
+    }
+}
+
 // Takes a reply for the open ask into the log, and keeps its day's figures right.
 #[tactic(auto, unfolding(crate::specs::Take::taken))]
 pub fn take_reply(log: &mut [u8], figures: &mut [u32], held: Option<OpenAsk>, reply: &[u8]) -> Taken
@@ -141,11 +161,10 @@ fn into_cell(
     ensures { outcome result figures.new ≡ if_good (cell_at log.now i) (outcome (stays (Err Unsound) held) figures.old)
         (λ c. updated (update_of c row) twice held day i c figures.old) }
 {
-    let Some(cell) = energy_log::cell_at(log, i) else {
-        return Decided::stays(Err(TakeError::Unsound), held);
-    };
-    let update = update_of(cell, row);
-    updated(update, figures, twice, held, day, i, cell)
+    match energy_log::cell_at(log, i) {
+        Some(cell) => updated(update_of(cell, row), figures, twice, held, day, i, cell),
+        None => Decided::stays(Err(TakeError::Unsound), held),
+    }
 }
 
 // A cell is put where its day's figures can follow.

@@ -115,10 +115,19 @@ pub fn record_of(bytes: &[u8]) -> Option<Record>
 fn record_in(bytes: &[u8]) -> Option<Record>
     ensures { result ≡ record_in bytes.now }
 {
-    let level = level_of(byte_numbers::byte_at(bytes, LEVEL))?;
-    let time = time_of(byte_numbers::tail(bytes, CLOCK))?;
-    let active = wire_values::phases_of(byte_numbers::tail(bytes, ACTIVE))?;
-    let reactive = wire_values::phases_of(byte_numbers::tail(bytes, REACTIVE))?;
+    // Not by `?`, which copies each of them once more.
+    let Some(level) = level_of(byte_numbers::byte_at(bytes, LEVEL)) else {
+        return None;
+    };
+    let Some(time) = time_of(byte_numbers::tail(bytes, CLOCK)) else {
+        return None;
+    };
+    let Some(active) = wire_values::phases_of(byte_numbers::tail(bytes, ACTIVE)) else {
+        return None;
+    };
+    let Some(reactive) = wire_values::phases_of(byte_numbers::tail(bytes, REACTIVE)) else {
+        return None;
+    };
     Some(record_with(bytes, level, time, active, reactive))
 }
 

@@ -115,10 +115,21 @@ pub fn put_time(out: &mut [u8], at: usize, t: Time)
 pub fn time_of(bytes: &[u8]) -> Option<Time>
     ensures { result ≡ time_of bytes.now }
 {
+    let clock = wire_values::date_time_of(bytes);
+    // Not by `?`, which copies each of them once more.
+    let Some(season) = season_of(byte_numbers::byte_at(bytes, SEASON)) else {
+        return None;
+    };
+    let Some(summer) = switch_of(byte_numbers::tail(bytes, SUMMER_DATE)) else {
+        return None;
+    };
+    let Some(winter) = switch_of(byte_numbers::tail(bytes, WINTER_DATE)) else {
+        return None;
+    };
     Some(Time {
-        clock: wire_values::date_time_of(bytes),
-        season: season_of(byte_numbers::byte_at(bytes, SEASON))?,
-        summer: switch_of(byte_numbers::tail(bytes, SUMMER_DATE))?,
-        winter: switch_of(byte_numbers::tail(bytes, WINTER_DATE))?,
+        clock,
+        season,
+        summer,
+        winter,
     })
 }

@@ -26,10 +26,10 @@ pub enum InquiryError {
 }
 
 impl From<DecodeError> for InquiryError {
-    ghost from_gives = { λ error e. e ≡ Undecoded error };
+    ghost from_gives = { λ e r. r ≡ Undecoded e };
 
-    fn from(error: DecodeError) -> InquiryError {
-        InquiryError::Undecoded(error)
+    fn from(e: DecodeError) -> InquiryError {
+        InquiryError::Undecoded(e)
     }
 }
 

@@ -45,6 +45,7 @@ pub fn put_row(out: &mut [u8], at: usize, counts: [u16; 4])
 }
 
 // Every place unused.
+#[tactic(auto, unfolding(crate::specs::Store::cleared))]
 pub fn clear(store: &mut [u8])
     ensures { store.new ≡ cleared store.old }
 {

@@ -87,12 +87,15 @@ pub fn metlazuel_meter_make(
     keep(meter, made_in(address, minutes, telemetry, clock, season))
 }
 
-// This and the three like it hand on what each call has: a second, powers, ratios, a slice.
+// This and the three like it hand on what each call has: a second, powers, ratios, a slice. None by `ok_or` and `?`, which copy the record.
 #[tactic(auto, unfolding(crate::specs::MeterCalls::second_in))]
 fn second_in(read: Option<Record>) -> Result<Record, RecordError>
     ensures { result ≡ second_in read }
 {
-    meter_record::pass_second(read.ok_or(RecordError::Unsound)?)
+    let Some(r) = read else {
+        return Err(RecordError::Unsound);
+    };
+    meter_record::pass_second(r)
 }
 
 // uint8_t metlazuel_meter_second(uint8_t *meter, size_t n)
@@ -109,7 +112,10 @@ pub fn metlazuel_meter_second(meter: &mut [u8]) -> u8
 fn powers_in(read: Option<Record>, parameter: u8, phases: Phases) -> Result<Record, RecordError>
     ensures { result ≡ powers_in read parameter phases }
 {
-    meter_record::set_powers(read.ok_or(RecordError::Unsound)?, parameter, phases)
+    let Some(r) = read else {
+        return Err(RecordError::Unsound);
+    };
+    meter_record::set_powers(r, parameter, phases)
 }
 
 // The float with these bits; the infinity for what is no number, which Rattle leaves open and which is out of bounds too.
@@ -142,7 +148,10 @@ pub fn metlazuel_meter_powers(meter: &mut [u8], parameter: u8, a: u32, b: u32, c
 fn ratios_in(read: Option<Record>, ratios: Ratios) -> Result<Record, RecordError>
     ensures { result ≡ ratios_in read ratios }
 {
-    meter_record::set_ratios(read.ok_or(RecordError::Unsound)?, ratios)
+    let Some(r) = read else {
+        return Err(RecordError::Unsound);
+    };
+    meter_record::set_ratios(r, ratios)
 }
 
 // uint8_t metlazuel_meter_ratios(uint8_t *meter, size_t n, uint32_t ki, uint32_t ku)
@@ -165,7 +174,10 @@ fn slice_in(
 ) -> Result<Record, RecordError>
     ensures { outcome result store.new ≡ slice_in read store.old k counts }
 {
-    meter::put_slice(read.ok_or(RecordError::Unsound)?, store, k, counts)
+    let Some(r) = read else {
+        return Err(RecordError::Unsound);
+    };
+    meter::put_slice(r, store, k, counts)
 }
 
 // uint8_t metlazuel_meter_slice(uint8_t *meter, size_t n, uint8_t *store, size_t size, uint8_t month, uint8_t day, uint8_t number,

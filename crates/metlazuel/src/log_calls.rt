@@ -139,9 +139,7 @@ pub fn metlazuel_take(
     };
     let taken = logger::take_reply(log, figures, held, reply);
     put_left(ask, held, taken.held);
-    if let Err(error) = taken.answer {
-        *res = error.result_or(*res);
-        *length = error.length_or(*length);
-    }
+    *res = taken.result_or(*res);
+    *length = taken.length_or(*length);
     taken.answer.number()
 }

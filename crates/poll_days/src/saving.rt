@@ -1,5 +1,7 @@
 // The log's file, written.
 ghost use Rattle.std.specs.Prelude.{◌≡◌, take};
+ghost use Rattle.log_file.specs.Write.{write_error_number};
+ghost use Rattle.poll_days.specs.declared.saving.SaveError.TheVariants.{Refused, Failed};
 ghost use Rattle.poll_days.specs.Saved.{LogFile};
 
 use log_file::{FILE_MOST, WriteError};
@@ -25,12 +27,16 @@ pub enum SaveError {
 }
 
 impl From<WriteError> for SaveError {
+    ghost from_gives = { λ refusal e. e ≡ Refused (write_error_number refusal) };
+
     fn from(refusal: WriteError) -> SaveError {
         SaveError::Refused(refusal.number())
     }
 }
 
 impl From<io::Error> for SaveError {
+    ghost from_gives = { λ why e. e ≡ Failed why };
+
     fn from(why: io::Error) -> SaveError {
         SaveError::Failed(why)
     }

@@ -29,7 +29,7 @@ pub has-sunday : (d : Date) → is_date d ≡ true → last_sunday_of d.year 3 �
 unfolding last_sunday_of
 has-sunday d e = rw (lt-ltb _ _ (ranges d e).year-below)
 
--- `to_sunday`: the calendar's answer is that day
+-- the calendar's answer is that day
 pub sunday-day : (d e : Date) → is_date d ≡ true → last_sunday_of d.year 3 ≡ Ok e → e.day ≡ last_sunday d.year 3
 sunday-day d e v p =
     let q = sym p ∙ has-sunday d v in

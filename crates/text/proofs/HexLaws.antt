@@ -14,5 +14,3 @@ pub written-hex : (s : List ℕ) (i b : ℕ) (bs : List ℕ)
     → written (written (written s i (hex_digit (b / 16) ∷ [])) (i + 1) (hex_digit (b % 16) ∷ [])) (i + 2) (hex_text bs) ≡ written s i (hex_text (b ∷ bs))
 unfolding hex_text written
 written-hex s i b bs = rw (add-one, add-two)
-
--- ---- what stands for a digit, and what does not

@@ -6,5 +6,8 @@ ghost use Rattle.text.specs.Search.{index_of};
 pub fn index_of(s: &[u8], byte: u8) -> usize
     ensures { result ≡ index_of byte s.now }
 {
-    s.iter().position(|b| *b == byte).unwrap_or(s.len())
+    match s.iter().position(|b| *b == byte) {
+        Some(i) => i,
+        None => s.len(),
+    }
 }

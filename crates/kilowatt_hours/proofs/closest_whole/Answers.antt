@@ -1,7 +1,7 @@
 -- `closest_whole` meets its contract: twice the remainder below the unit, above it or equal to it are the three cases of `nearest`; at a tie an even
 -- number stays and an odd one goes up by one, which is what adding its last digit does.
-use mathlib.Core.Path.{◌≡◌, sym}
-use Prim.Native.Nat.{ℕ, ◌*◌, ◌/◌, ◌%◌, ◌^◌, ◌<◌}
+use mathlib.Core.Path.{◌≡◌, sym, ◌∙◌}
+use Prim.Native.Nat.{ℕ, ◌+◌, ◌*◌, ◌/◌, ◌%◌, ◌^◌, ◌<◌}
 use native.Mathlib.Nat.{mod-lt, div-lt_iff_lt-mul}
 use native.Mathlib.Omega.{arith}
 use Rattle.std.proofs.lemmas.Bool.Decides.{nat_tests}
@@ -30,12 +30,21 @@ returns-in-Less c =
     let h : a % unit * 2 < unit = grind (arith, nat_tests, c.in-Less.ensures) in
     (sym (nearest-below (a / unit) (a % unit * 2) unit h), omega (arith, few a unit c.requires.0 c.requires.2))
 
-pub returns-in-Equal : goal.returns-in-Equal
-returns-in-Equal c =
+pub returns-then-whole-eq0 : goal.returns-then-whole-eq0
+returns-then-whole-eq0 c =
     let a = c.args.a in
     let unit = c.args.unit in
     let h : a % unit * 2 ≡ unit = grind (arith, nat_tests, c.in-Equal.ensures) in
-    (sym (nearest-tie (a / unit) (a % unit * 2) unit h), omega (arith, few a unit c.requires.0 c.requires.2))
+    let even : a / unit ≡ a / unit + a / unit % 2 = omega (arith, c.if-whole-eq0.true) in
+    (even ∙ sym (nearest-tie (a / unit) (a % unit * 2) unit h), omega (arith, few a unit c.requires.0 c.requires.2))
+
+pub returns-else-whole-eq0 : goal.returns-else-whole-eq0
+returns-else-whole-eq0 c =
+    let a = c.args.a in
+    let unit = c.args.unit in
+    let h : a % unit * 2 ≡ unit = grind (arith, nat_tests, c.in-Equal.ensures) in
+    let odd : a / unit + 1 ≡ a / unit + a / unit % 2 = omega (arith, c.if-whole-eq0.false) in
+    (odd ∙ sym (nearest-tie (a / unit) (a % unit * 2) unit h), omega (arith, few a unit c.requires.0 c.requires.2))
 
 pub returns-in-Greater : goal.returns-in-Greater
 returns-in-Greater c =

@@ -4,7 +4,7 @@ use Rattle.day_report.specs.Strip.{mark, marks_at}
 use Rattle.energy_log.specs.Image.{cell_at}
 use Rattle.energy_log.proofs.WalkLaws.{stands-there}
 use Rattle.season_nights.specs.Night.{missing}
-use Rattle.season_nights.specs.declared.night.Night.{Night}
+use Rattle.energy_log.specs.declared.walk.Walk.{Walk}
 use Rattle.slots.specs.Day.{slots_of}
 use Rattle.byte_numbers.specs.Place.{written}
 use mathlib.Core.List.{List}
@@ -28,9 +28,9 @@ loop-slot-preserved c =
     let n = slots_of args.h.minutes in
     let first = args.day * n in
     let cell = cell_at args.log.now in
-    let l : i < n = omega (arith, c.loop-slot-test.true, c.slots_of-slots.ensures) in
-    let place : args.day * c.slots_of-slots.result + i ≡ first + i = ap (λ (k : ℕ). args.day * k + i) c.slots_of-slots.ensures in
-    let gone = c.is_missing-missing.ensures ∙ ap (λ (x : Night). missing x args.h.minutes i) c.night_on-night.ensures in
+    let l : i < n = omega (arith, c.loop-slot-test.true, ap (λ (x : Walk). x.slots) c.walk_day-first.ensures) in
+    let place : c.index_of.result ≡ first + i = c.index_of.ensures ∙ ap (λ (x : Walk). x.day * x.slots + i) c.walk_day-first.ensures in
+    let gone = c.is_missing-missing.ensures ∙ ap (λ (x : Walk). missing x.night args.h.minutes i) c.walk_day-first.ensures in
     let own : c.mark_at-mark.result ≡ mark _ (cell (first + i)) =
     c.mark_at-mark.ensures ∙ ap₂ (λ (b : Bool) (k : ℕ). mark b (cell k)) (ap not gone ∙ sym (stands-there args.h cell (λ j. 0) args.day i l)) place in
     ap (λ (x : List ℕ). written x (marks_at + (i + 1)) (marks_from args.h cell (first + (i + 1)) (n - (i + 1)))) c.put_byte.ensures
@@ -41,5 +41,5 @@ unfolding written
 returns c =
     let turn = c.loop-slot in
     let args = c.args in
-    sym (ap (written turn.out (marks_at + turn.slot)) (marks-end args.h (cell_at args.log.now) _ _ (omega (arith, c.loop-slot-test.false, c.slots_of-slots.ensures))))
+    sym (ap (written turn.out (marks_at + turn.slot)) (marks-end args.h (cell_at args.log.now) _ _ (omega (arith, c.loop-slot-test.false, ap (λ (x : Walk). x.slots) c.walk_day-first.ensures))))
     ∙ turn.invariant

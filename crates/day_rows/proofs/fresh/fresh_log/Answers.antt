@@ -1,5 +1,5 @@
--- `fresh_log` meets its contract: the header and the number of figures are looked at first; then the log's own call answers, and where it made one the
--- figures come too (`with-figures`, `without-figures`).
+-- `fresh_log` meets its contract: with too few figures the header alone is looked at; else the log's own call answers, and where it made one the figures
+-- come too (`with-figures`, `without-figures`).
 use Rattle.std.specs.Prelude.{Err, Result}
 use Rattle.energy_log.specs.declared.fresh.FreshError.{FreshError}
 use lib.ListN.{length}
@@ -11,7 +11,7 @@ use Rattle.refusal.specs.Outcome.{outcome}
 use native.Mathlib.Omega.{arith}
 use Rattle.std.proofs.lemmas.Grind.{common_steps}
 use mathlib.Core.Path.{◌≡◌, sym, ap, ◌∙◌}
-use Rattle.day_rows.proofs.FreshLaws.{with-figures, without-figures, refusal-number}
+use Rattle.day_rows.proofs.FreshLaws.{with-figures, without-figures, refusal-number, fresh-header}
 use Rattle.day_rows.proofs.fresh.fresh_log.Goals as goal
 
 pub returns-then-not-is_header : goal.returns-then-not-is_header
@@ -23,6 +23,12 @@ unfolding fresh_with
 returns-then-figures-figures_of c =
     let few : length c.args.figures.now < figures_of c.args.h = omega (arith, c.figures_of.ensures, c.if-figures-figures_of.true) in
     simp (sym c.is_header.ensures, c.if-not-is_header.false, lt-leb _ _ few)
+
+pub fill_fresh-requires : goal.fill_fresh-requires
+fill_fresh-requires c =
+    let args = c.args in
+    let made = sym (ap (λ (r : Result ℕ FreshError). outcome r c.fresh_log.new.out) c.in_ok-length.was) ∙ c.fresh_log.ensures in
+    (fresh-header args.h args.out.now _ _ made, omega (arith, c.figures_of.ensures, c.if-figures-figures_of.false))
 
 pub returns-in_err-length : goal.returns-in_err-length
 returns-in_err-length c =
